@@ -1,0 +1,4 @@
+pub mod Lists
+pub mod Regions
+pub mod Quads
+pub mod Consts
