@@ -1,7 +1,7 @@
 // IEEE 754's squareRoot of an f64, worked out from its bits: special operands, exponent halved, root digits, rounding.
 ghost use mathlib.Core.Path.{_≡_};
 ghost use Prim.Native.Nat.{_*_, _^_, _≤_, _<_};
-ghost use lib.Ieee.{binary64};
+ghost use lib.Ieee.{binary64, toBits, ofBits};
 ghost use Rattle.root.specs.Root.{root as ieeeRoot, rootBits};
 ghost use Rattle.root.specs.Steps.{FinitePositive, Special, Unpacks, Halved, Digits, roundedRoot};
 
@@ -196,17 +196,27 @@ pub fn root_bits(b: u64) -> u64
     }
 }
 
-// The root of a value. to_bits and from_bits take no NaN, so a NaN is answered by a test.
+// The pattern of any value; to_bits takes no NaN.
+pub fn bits_of(x: f64) -> u64
+    ensures { λ r. ⌜ r ≡ toBits binary64 x ⌝ }
+{
+    if x != x { NAN } else { f64::to_bits(x) }
+}
+
+// The value of any pattern; from_bits takes no NaN's.
+pub fn value_of(b: u64) -> f64
+    ensures { λ r. ⌜ r ≡ ofBits binary64 b ⌝ }
+{
+    if b % SIGN > INFINITY {
+        0.0 / 0.0
+    } else {
+        f64::from_bits(b)
+    }
+}
+
+// The root of a value, by its pattern.
 pub fn root(x: f64) -> f64
     ensures { λ r. ⌜ r ≡ ieeeRoot binary64 x ⌝ }
 {
-    if x != x {
-        return x;
-    }
-    let r = root_bits(f64::to_bits(x));
-    if r == NAN {
-        0.0 / 0.0
-    } else {
-        f64::from_bits(r)
-    }
+    value_of(root_bits(bits_of(x)))
 }
