@@ -4,7 +4,7 @@ ghost use Prim.Native.Nat.{ℕ, _+_, _<_, _≤_, _*_};
 ghost use lib.ListN.{length};
 ghost use lib.Ieee as Ieee;
 ghost use lib.Ieee.{binary64};
-ghost use Rattle.lanes.specs.Arithmetic.{larger, smaller};
+ghost use Rattle.lanes.specs.Arithmetic.{√, magnitude, larger, smaller};
 ghost use Rattle.lanes.specs.Constants.{startValue};
 ghost use Rattle.lanes.specs.Lanes.{lanes, each1, each2, quad, put};
 
@@ -42,6 +42,31 @@ pub fn neg4(a: [f64; 4]) -> [f64; 4]
     ensures { λ r. ⌜ r ≡ each1 Ieee.neg a ⌝ }
 {
     [-a[0], -a[1], -a[2], -a[3]]
+}
+
+// The absolute value. A zero is answered by +0.0, whatever its sign.
+fn abs1(x: f64) -> f64
+    ensures { λ r. ⌜ r ≡ magnitude x ⌝ }
+{
+    if x < 0.0 {
+        return -x;
+    }
+    if x == 0.0 {
+        return 0.0;
+    }
+    x
+}
+
+pub fn abs4(a: [f64; 4]) -> [f64; 4]
+    ensures { λ r. ⌜ r ≡ each1 magnitude a ⌝ }
+{
+    [abs1(a[0]), abs1(a[1]), abs1(a[2]), abs1(a[3])]
+}
+
+pub fn root4(a: [f64; 4]) -> [f64; 4]
+    ensures { λ r. ⌜ r ≡ each1 √ a ⌝ }
+{
+    root4::root4(a)
 }
 
 fn larger1(p: f64, q: f64) -> f64
