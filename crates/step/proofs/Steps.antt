@@ -19,13 +19,11 @@ use Rattle.lanes.proofs.Regions.{reg-at, kept-apart}
 use Rattle.lanes.proofs.Quads.{lane-of}
 use Rattle.sparse.specs.Sparse.{front, back}
 use Rattle.kernels.specs.Kernels.{uAt, dxAt, qAt, fAt, rAt}
-use Rattle.step.specs.Planned.{RowsOf, ColsOf, LowOf, HighOf, Holds}
-use Rattle.step.specs.Layout.{yAt, dyAt, rhsAt, wAt, dwAt, lAt, numbersAt, directionAt, Directed, Advanced, Took}
-use Rattle.step.proofs.ToMachine.{row-plus, row-less, col-plus, col-less, front-machine, back-machine}
-
--- the first of a region's entries
-pub reg-front : (ws : List Float) (o k n t e : ℕ) → e < k → k ≤ n → at (reg 4 ws o k t) e ≡ at (reg 4 ws o n t) e
-reg-front ws o k n t e h l = reg-at 4 ws o k t e h ∙ sym (reg-at 4 ws o n t e (omega arith))
+use Rattle.tests.specs.Planned.{RowsOf, ColsOf, LowOf, HighOf, Holds}
+use Rattle.tests.specs.Layout.{yAt, dyAt, rhsAt, wAt, dwAt, lAt, numbersAt, directionAt}
+use Rattle.step.specs.Steps.{Directed, Advanced, Took}
+use Rattle.tests.proofs.ToMachine.{row-plus, row-less, col-plus, col-less, front-machine, back-machine}
+use Rattle.tests.proofs.Tests.{reg-front}
 
 other-front : (ws : List Float) (k n t : ℕ) (mu : Float) (p : List Float) (r dr : ℕ) → k ≤ n → complement k mu p (reg 4 ws r k t) (reg 4 ws dr k t) ≡ complement k mu p (reg 4 ws r n t) (reg 4 ws dr n t)
 unfolding complement
