@@ -1,10 +1,12 @@
-pub mod Ends
-pub mod Machines
-pub mod Demand3
+pub mod Held
 pub mod Floats
 pub mod Wait
+pub mod Machines
 pub mod Factor
 pub mod Walks
-pub mod Output
-pub mod Turns
 pub mod Entries
+pub mod Ends
+pub mod Output
+pub mod Demand3
+pub mod Turns
+pub mod Theorems
