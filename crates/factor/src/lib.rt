@@ -4,19 +4,20 @@ ghost use mathlib.Core.Bool.{cond, _&&_};
 ghost use Prim.Native.Nat.{ℕ, _+_, _-_, _*_, _<_, _≤_};
 ghost use lib.Dec.{eqb, ltb};
 ghost use lib.ListN.{length, getD};
-ghost use lib.Ieee.{nan, binary64};
 ghost use Rattle.lanes.specs.Lanes.{lanes, cell as here};
 ghost use Rattle.lists.specs.Lists.{shape, lplace};
-ghost use Rattle.lanes.specs.Lists.{at as item};
-ghost use Rattle.machine.specs.Machine.{forward as forwardOf, factorEntry};
+ghost use Rattle.lanes.specs.Lists.{at as lane};
+ghost use Rattle.machine.specs.Machine.{factorEntry};
+ghost use Rattle.machine.specs.Work.{problemOf};
 ghost use Rattle.lanes.specs.Arithmetic.{_⊕_, _⊖_, _⊗_, _⊘_, √, magnitude, null};
-ghost use Rattle.lanes.specs.Region.{reg, Wrote};
-ghost use Rattle.ranks.specs.Kernel.{frontStep, FrontIn, FrontGiven, normalStep, productStep, NormalIn, ProductIn, Summed, Given, Stands, Factored, stateOf, matrixOf};
+ghost use Rattle.ranks.specs.Factoring.{normalStep, productStep, NormalIn, ProductIn, Summed, Given, Stands, Factored, stateOf};
+use lanes::abs4;
 use lanes::add4;
 use lanes::div4;
 use lanes::get4;
 use lanes::mul4;
 use lanes::put4;
+use lanes::root4;
 use lanes::splat;
 use lanes::sub4;
 
@@ -27,39 +28,9 @@ pub fn at(s: &[u32], i: usize) -> usize
     s[i] as usize
 }
 
-// The absolute value.
-pub fn magnitude_of(x: f64) -> f64
-    ensures { λ r. ⌜ r ≡ magnitude x ⌝ }
-{
-    if x < 0.0 {
-        return -x;
-    }
-    if x == 0.0 {
-        return 0.0;
-    }
-    x
-}
-
-pub fn root_magnitude(x: f64) -> f64
-    ensures { λ r. ⌜ r ≡ √ (magnitude x) ⌝ }
-{
-    root::root(magnitude_of(x))
-}
-
-pub fn root_magnitude4(v: [f64; 4]) -> [f64; 4]
-    ensures { λ r. ⌜ r ≡ lanes (λ l. √ (magnitude (at v l))) ⌝ }
-{
-    [
-        root_magnitude(v[0]),
-        root_magnitude(v[1]),
-        root_magnitude(v[2]),
-        root_magnitude(v[3]),
-    ]
-}
-
-// One shared column's stepLength of the normal matrix: two stored values, x and z.
+// One shared column's part of the normal matrix: two stored values, x and z.
 pub fn normal_in(acc: [f64; 4], a: f64, b: f64, x: [f64; 4], z: [f64; 4]) -> [f64; 4]
-    ensures { λ r. ⌜ r ≡ lanes (λ l. at acc l ⊕ a ⊗ b ⊗ at x l ⊘ at z l) ⌝ }
+    ensures { λ r. ⌜ r ≡ lanes (λ l. lane acc l ⊕ a ⊗ b ⊗ lane x l ⊘ lane z l) ⌝ }
 {
     let p = splat(a * b);
     let t = mul4(p, x);
@@ -68,7 +39,7 @@ pub fn normal_in(acc: [f64; 4], a: f64, b: f64, x: [f64; 4], z: [f64; 4]) -> [f6
 }
 
 pub fn product_in(acc: [f64; 4], a: [f64; 4], b: [f64; 4]) -> [f64; 4]
-    ensures { λ r. ⌜ r ≡ lanes (λ l. at acc l ⊖ at a l ⊗ at b l) ⌝ }
+    ensures { λ r. ⌜ r ≡ lanes (λ l. lane acc l ⊖ lane a l ⊗ lane b l) ⌝ }
 {
     let p = mul4(a, b);
     sub4(acc, p)
@@ -150,10 +121,11 @@ pub fn start_of(work: &[f64], y: usize, w: usize, s: usize, i: usize, j: usize) 
 // The root of the absolute value on the diagonal, else over the diagonal's entry d.
 pub fn finish(work: &[f64], d: usize, i: usize, j: usize, v: [f64; 4]) -> [f64; 4]
     requires { ⌜ 4 * d + 4 ≤ length (now work) ⌝ }
-    ensures { λ r. ⌜ r ≡ lanes (λ l. cond (eqb i j) (√ (magnitude (at v l))) (at v l ⊘ here 4 (now (work .entry)) d l)) ⌝ }
+    ensures { λ r. ⌜ r ≡ lanes (λ l. cond (eqb i j) (√ (magnitude (lane v l))) (lane v l ⊘ here 4 (now (work .entry)) d l)) ⌝ }
 {
     if i == j {
-        return root_magnitude4(v);
+        let size = abs4(v);
+        return root4(size);
     }
     let b = get4(work, d);
     div4(v, b)
@@ -189,7 +161,7 @@ pub fn entry_of(
 ) -> [f64; 4]
     requires { ⌜ Given (now off) (now cols) (now values) (now work) m n s (now aends) (now aleft) (now aright) (now acols) (now dends) (now dleft) (now dright) (now lends) (now ldiag) (now lcols) x z y w lo ⌝ }
     requires { ⌜ Stands (now off) (now cols) m i j e ⌝ }
-    ensures { λ r. ⌜ r ≡ lanes (λ l. factorEntry (matrixOf m n s (now (off .entry)) (now (cols .entry)) (now (values .entry))) (stateOf (now (work .entry)) x z y w m n s l) (λ a b. here 4 (now (work .entry)) (lo + lplace (shape (now (off .entry)) (now (cols .entry))) a b) l) i j) ⌝ }
+    ensures { λ r. ⌜ r ≡ lanes (λ l. factorEntry (problemOf m n s (now (off .entry)) (now (cols .entry)) (now (values .entry))) (stateOf (now (work .entry)) x z y w m n s l) (λ a b. here 4 (now (work .entry)) (lo + lplace (shape (now (off .entry)) (now (cols .entry))) a b) l) i j) ⌝ }
 {
     let start = start_of(work, y, w, s, i, j);
     let from = at(aends, e);
@@ -203,8 +175,7 @@ pub fn entry_of(
 }
 
 // All entries of the factor, rows then columns rising.
-#[no_mangle]
-pub extern "C" fn normal_matrix_cholesky_decomposition(
+pub fn normal_matrix_cholesky_decomposition(
     work: &mut [f64],
     x: usize,
     z: usize,
@@ -229,7 +200,7 @@ pub extern "C" fn normal_matrix_cholesky_decomposition(
     lcols: &[u32],
 )
     requires { ⌜ Given (now off) (now cols) (now values) (now work) m n s (now aends) (now aleft) (now aright) (now acols) (now dends) (now dleft) (now dright) (now lends) (now ldiag) (now lcols) x z y w lo ⌝ }
-    ensures { λ _. ⌜ Factored (matrixOf m n s (now (off .entry)) (now (cols .entry)) (now (values .entry))) (λ l. stateOf (now (work .entry)) x z y w m n s l) lo (now (work .entry)) (now (work .exit)) ⌝ }
+    ensures { λ _. ⌜ Factored (problemOf m n s (now (off .entry)) (now (cols .entry)) (now (values .entry))) (λ l. stateOf (now (work .entry)) x z y w m n s l) lo (now (work .entry)) (now (work .exit)) ⌝ }
 {
     let mut e: usize = 0;
     let mut i: usize = 0;
@@ -267,64 +238,6 @@ pub extern "C" fn normal_matrix_cholesky_decomposition(
             put4(work, lo + e, v);
             e += 1;
         }
-        i += 1;
-    }
-}
-
-// Row i of the factor before its diagonal, times dy, subtracted in turn.
-pub fn less_row(
-    work: &[f64],
-    dy: usize,
-    lo: usize,
-    lcols: &[u32],
-    from: usize,
-    to: usize,
-    start: [f64; 4],
-) -> [f64; 4]
-    requires { ⌜ FrontIn (now lcols) (now work) dy lo from to ⌝ }
-    ensures { λ r. ⌜ Summed (frontStep (now (lcols .entry)) (now (work .entry)) dy lo from) start from to r ⌝ }
-{
-    let mut acc = start;
-    let mut p = from;
-    while p < to {
-        let j = at(lcols, p);
-        let a = get4(work, dy + j);
-        let b = get4(work, lo + p);
-        let t = product_in(acc, a, b);
-        acc = t;
-        p += 1;
-    }
-    acc
-}
-
-// Forward substitution: dy of f.
-pub fn forward(
-    work: &mut [f64],
-    dy: usize,
-    f: usize,
-    lo: usize,
-    m: usize,
-    n: usize,
-    s: usize,
-    off: &[u32],
-    cols: &[u32],
-    values: &[f64],
-    lends: &[u32],
-    ldiag: &[u32],
-    lcols: &[u32],
-)
-    requires { ⌜ FrontGiven (now off) (now cols) m (now lends) (now ldiag) (now lcols) dy f lo (now work) ⌝ }
-    ensures { λ _. ⌜ Wrote dy m (λ l k. item (forwardOf (matrixOf m n s (now (off .entry)) (now (cols .entry)) (now (values .entry))) (λ a b. here 4 (now (work .entry)) (lo + lplace (shape (now (off .entry)) (now (cols .entry))) a b) l) (reg 4 (now (work .entry)) f m l)) k) (now (work .entry)) (now (work .exit)) ⌝ }
-{
-    let mut i: usize = 0;
-    while i < m {
-        let start = get4(work, f + i);
-        let from = at(lends, i);
-        let to = at(ldiag, i);
-        let reduced = less_row(work, dy, lo, lcols, from, to, start);
-        let d = get4(work, lo + to);
-        let v = div4(reduced, d);
-        put4(work, dy + i, v);
         i += 1;
     }
 }

@@ -16,7 +16,8 @@ use Rattle.lanes.proofs.Quads.{lanes-at, lanes-ext}
 use Rattle.lanes.specs.Lists.{fold}
 use Rattle.machine.specs.Machine.{Problem, State, reduced, factorEntry}
 use Rattle.lanes.specs.Arithmetic.{null, √, magnitude}
-use Rattle.ranks.specs.Kernel.{normalStep, productStep, NormalIn, ProductIn, Summed, Planned, Regions, Given, Stands, stateOf, matrixOf, entries}
+use Rattle.machine.specs.Work.{problemOf}
+use Rattle.ranks.specs.Factoring.{normalStep, productStep, NormalIn, ProductIn, Summed, Planned, Regions, Given, Stands, stateOf, entries}
 use Rattle.ranks.proofs.Turn.{anorm-from, anorm-to, ldecomp-from, ldecomp-to, anorm-room, ldecomp-room, diag-is, diag-room, diag-entry, normal-ready, product-ready, rest-is, first}
 
 module _ {off cols : List ℕ} {vals work : List Float} {m n s : ℕ} {aends aleft aright acols dends dleft dright lends ldiag lcols : List ℕ} {x z y w lo : ℕ}
@@ -56,12 +57,12 @@ module _ {off cols : List ℕ} {vals work : List Float} {m n s : ℕ} {aends ale
 
   pub normal-needs : (from to : ℕ) → from ≡ getD aends e 0 → to ≡ getD aends (e + 1) 0 → NormalIn vals aleft aright acols work x z from to
   normal-needs from to p q =
-      rw (p ∙ a-from, q ∙ a-to, G .lists .anorm-i, G .lists .anorm-j, G .lists .anorm-e)
+      rw (p ∙ a-from, q ∙ a-to, G .lists .anorm-left, G .lists .anorm-right, G .lists .anorm-cols)
       (normal-ready m n s off cols vals (G .ok) i j e st work x z y w lo (G .values) (G .regions))
 
   pub product-needs : (from to : ℕ) → from ≡ getD dends e 0 → to ≡ getD dends (e + 1) 0 → ProductIn dleft dright work lo from to
   product-needs from to p q =
-      rw (p ∙ d-from, q ∙ d-to, G .lists .ldecomp-i, G .lists .ldecomp-j)
+      rw (p ∙ d-from, q ∙ d-to, G .lists .ldecomp-left, G .lists .ldecomp-right)
       (product-ready m n s off cols vals (G .ok) i j e st work x z y w lo (G .values) (G .regions))
 
   pub finish-needs : (d : ℕ) → d ≡ getD ldiag j 0 → 4 * (lo + d) + 4 ≤ length work
@@ -76,7 +77,7 @@ module _ {off cols : List ℕ} {vals work : List Float} {m n s : ℕ} {aends ale
       → from ≡ getD aends e 0 → to ≡ getD aends (e + 1) 0 → Summed (normalStep vals aleft aright acols work x z from) start from to sum
       → first′ ≡ getD dends e 0 → last ≡ getD dends (e + 1) 0 → Summed (productStep dleft dright work lo first′) sum first′ last left
       → d ≡ getD ldiag j 0 → r ≡ lanes (λ l. cond (eqb i j) (√ (magnitude (at left l))) (div binary64 (at left l) (here 4 work (lo + d) l)))
-      → r ≡ lanes (λ l. factorEntry (matrixOf m n s off cols vals) (stateOf work x z y w m n s l) (λ a b. here 4 work (lo + lplace g a b) l) i j)
+      → r ≡ lanes (λ l. factorEntry (problemOf m n s off cols vals) (stateOf work x z y w m n s l) (λ a b. here 4 work (lo + lplace g a b) l) i j)
   unfolding factorEntry
   value start sum left r from to first′ last d es ef et en ep eq ed ei er =
       er
@@ -85,7 +86,7 @@ module _ {off cols : List ℕ} {vals work : List Float} {m n s : ℕ} {aends ale
       (λ l c. ap₂ (λ (v : Float) (k : ℕ). cond (eqb i j) (√ (magnitude v)) (div binary64 v (here 4 work (lo + k) l))) (left-is l c) (ei ∙ d-at))
     where
       R : ℕ → Float
-      R l = reduced (matrixOf m n s off cols vals) (stateOf work x z y w m n s l) (λ a b. here 4 work (lo + lplace g a b) l) i j
+      R l = reduced (problemOf m n s off cols vals) (stateOf work x z y w m n s l) (λ a b. here 4 work (lo + lplace g a b) l) i j
 
       sum-is : (l : ℕ) → l < 4
           → at sum l ≡ fold (before wA i (suc j) - before wA i j) (normalStep vals (listOf g AnormIndptrI m) (listOf g AnormIndptrJ m) (listOf g AnormIndices m) work x z (before wA i j) l)
@@ -94,10 +95,10 @@ module _ {off cols : List ℕ} {vals work : List Float} {m n s : ℕ} {aends ale
           en l c
           ∙ ap (λ (v : Float). fold (to - from) (normalStep vals aleft aright acols work x z from l) v)
           (ap (λ (v : List Float). at v l) es ∙ lanes-at (first m n s off cols vals (G .ok) i j e st work x z y w lo (G .values) (G .regions)) l c)
-          ∙ rw (ef ∙ a-from, et ∙ a-to, G .lists .anorm-i, G .lists .anorm-j, G .lists .anorm-e) refl
+          ∙ rw (ef ∙ a-from, et ∙ a-to, G .lists .anorm-left, G .lists .anorm-right, G .lists .anorm-cols) refl
 
       left-is : (l : ℕ) → l < 4 → at left l ≡ R l
       left-is l c =
           ed l c
           ∙ ap (λ (v : Float). fold (last - first′) (productStep dleft dright work lo first′ l) v) (sum-is l c)
-          ∙ rw (ep ∙ d-from, eq ∙ d-to, G .lists .ldecomp-i, G .lists .ldecomp-j) (rest-is m n s off cols vals (G .ok) i j e st work x z y w lo (G .values) (G .regions) l)
+          ∙ rw (ep ∙ d-from, eq ∙ d-to, G .lists .ldecomp-left, G .lists .ldecomp-right) (rest-is m n s off cols vals (G .ok) i j e st work x z y w lo (G .values) (G .regions) l)

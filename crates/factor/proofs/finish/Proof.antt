@@ -10,26 +10,28 @@ use Rattle.lanes.specs.Lists.{at}
 use Rattle.lanes.specs.Lanes.{cell as here}
 use Rattle.root.specs.Root.{root}
 use Rattle.lanes.specs.Arithmetic.{√, magnitude}
-use Rattle.ranks.specs.Kernel.{normalStep, productStep, Summed}
+use Rattle.ranks.specs.Factoring.{normalStep, productStep, Summed}
 use Rattle.factor.proofs.Sums.{summed-none, product-turn, normal-turn, summed-end, start-on, start-off, finish-on, finish-off}
 use Rattle.factor.proofs.finish.Statement.{statement}
 use Rattle.factor.proofs.finish.Tie as tie
 use Rattle.factor.proofs.finish.Reads as reads
 use Rattle.factor.proofs.finish.Lts as lts
-use Rattle.factor.proofs.root_magnitude4.Reads as root-magnitude4-reads
 use Rattle.lanes.proofs.div4.Reads as div4-reads
 use Rattle.lanes.proofs.get4.Reads as get4-reads
 
 -- src/lib.rt:148:9
-root-magnitude4-requires : tie.Need-root-magnitude4-requires
-root-magnitude4-requires c κs = search needs
+abs4-requires : tie.Need-abs4-requires
+abs4-requires c κs = search needs
+
+root4-requires : tie.Need-root4-requires
+root4-requires c κs = search needs
 
 -- src/lib.rt:148:9
 returns : tie.Need-returns
 returns c =
-    let s = c .before .before .before in
-    c .root-magnitude4 .ensures
-    ∙ finish-on (s .args .i) (s .args .j) (λ l. √ (magnitude (at (s .args .v) l))) (λ l. div binary64 (at (s .args .v) l) (here 4 (s .args .work .now) (s .args .d) l)) (c .before .if1 .taken)
+    let s = c .before .before .before .before in
+    rw (c .root4 .ensures, c .before .abs4 .ensures)
+    (finish-on (s .args .i) (s .args .j) (λ l. √ (magnitude (at (s .args .v) l))) (λ l. div binary64 (at (s .args .v) l) (here 4 (s .args .work .now) (s .args .d) l)) (c .before .before .if1 .taken))
 
 -- src/lib.rt:150:9
 get4-requires : tie.Need-get4-requires
@@ -48,4 +50,4 @@ returns-2 c =
 
 pub finish-spec : {M : Type 1} → statement M
 finish-spec =
-    tie.close (tie.spec root-magnitude4-requires returns get4-requires div4-requires returns-2)
+    tie.close (tie.spec abs4-requires root4-requires returns get4-requires div4-requires returns-2)

@@ -10,7 +10,7 @@ use Rattle.lanes.specs.Lists.{at}
 use Rattle.lanes.specs.Lanes.{cell as here}
 use Rattle.root.specs.Root.{root}
 use Rattle.lanes.specs.Arithmetic.{√, magnitude}
-use Rattle.ranks.specs.Kernel.{normalStep, productStep, Summed}
+use Rattle.ranks.specs.Factoring.{normalStep, productStep, Summed}
 use Rattle.factor.proofs.Sums.{summed-none, product-turn, normal-turn, summed-end, start-on, start-off, finish-on, finish-off}
 use Rattle.factor.proofs.less_products.Statement.{statement}
 use Rattle.factor.proofs.less_products.Tie as tie
@@ -32,27 +32,27 @@ loop-holds c = (omega arith, omega (arith, c .before .before .before .pre .order
 
 -- src/lib.rt:116:13
 at-requires : tie.Need-at-requires Inv-loop μ-loop
-at-requires c κs = omega (arith, c .before .before .before .before .before .pre .is-long)
+at-requires c κs = omega (arith, c .before .before .before .before .before .pre .left-long)
 
 -- src/lib.rt:117:13
 at-requires-2 : tie.Need-at-requires-2 Inv-loop μ-loop
-at-requires-2 c κs = omega (arith, c .before .before .before .before .before .before .pre .js-long)
+at-requires-2 c κs = omega (arith, c .before .before .before .before .before .before .pre .right-long)
 
 -- src/lib.rt:118:28
 add-get4 : tie.Need-add-get4 Inv-loop μ-loop
-add-get4 c = omega (arith, c .before .at .ensures, c .before .before .before .before .before .before .before .pre .is-in (c .before .before .before .loop .p) (c .before .before .before .loop .inv .0) (c .before .before .loop-test .taken))
+add-get4 c = omega (arith, c .before .at .ensures, c .before .before .before .before .before .before .before .pre .left-in (c .before .before .before .loop .p) (c .before .before .before .loop .inv .0) (c .before .before .loop-test .taken))
 
 -- src/lib.rt:118:13
 get4-requires : tie.Need-get4-requires Inv-loop μ-loop
-get4-requires c κs = omega (arith, c .before .at .ensures, c .before .before .before .before .before .before .before .pre .is-in (c .before .before .before .loop .p) (c .before .before .before .loop .inv .0) (c .before .before .loop-test .taken))
+get4-requires c κs = omega (arith, c .before .at .ensures, c .before .before .before .before .before .before .before .pre .left-in (c .before .before .before .loop .p) (c .before .before .before .loop .inv .0) (c .before .before .loop-test .taken))
 
 -- src/lib.rt:119:28
 add-get4-2 : tie.Need-add-get4-2 Inv-loop μ-loop
-add-get4-2 c = omega (arith, c .before .at2 .ensures, c .before .before .before .before .before .before .before .before .pre .js-in (c .before .before .before .before .loop .p) (c .before .before .before .before .loop .inv .0) (c .before .before .before .loop-test .taken))
+add-get4-2 c = omega (arith, c .before .at2 .ensures, c .before .before .before .before .before .before .before .before .pre .right-in (c .before .before .before .before .loop .p) (c .before .before .before .before .loop .inv .0) (c .before .before .before .loop-test .taken))
 
 -- src/lib.rt:119:13
 get4-requires-2 : tie.Need-get4-requires-2 Inv-loop μ-loop
-get4-requires-2 c κs = omega (arith, c .before .at2 .ensures, c .before .before .before .before .before .before .before .before .pre .js-in (c .before .before .before .before .loop .p) (c .before .before .before .before .loop .inv .0) (c .before .before .before .loop-test .taken))
+get4-requires-2 c κs = omega (arith, c .before .at2 .ensures, c .before .before .before .before .before .before .before .before .pre .right-in (c .before .before .before .before .loop .p) (c .before .before .before .before .loop .inv .0) (c .before .before .before .loop-test .taken))
 
 -- src/lib.rt:120:13
 product-in-requires : tie.Need-product-in-requires Inv-loop μ-loop

@@ -4,9 +4,11 @@ use native.Mathlib.Omega.{arith}
 use native.Mathlib.Numerals.{add-one}
 use lib.ListN.{length, getD}
 use Rattle.lists.specs.Lists.{shape, lplace}
-use Rattle.ranks.specs.Kernel.{Given, Stands, entries}
+use Rattle.ranks.specs.Factoring.{Given, Stands, entries}
 use Rattle.ranks.proofs.Ranks.{lplace-start, lplace-up}
-use Rattle.ranks.proofs.Fill.{Same, Filled, same-refl, same-trans, given-still, filled-none, lends-room, lends-at, lcols-room, stands-at, put-room, filled-more, filled-all}
+use Rattle.lanes.specs.Region.{Kept}
+use Rattle.lanes.proofs.Regions.{kept-none}
+use Rattle.ranks.proofs.Fill.{Filled, kept-trans, given-still, filled-none, lends-room, lends-at, lcols-room, stands-at, put-room, filled-more, filled-all}
 use Rattle.factor.proofs.normal_matrix_cholesky_decomposition.Statement.{statement}
 use Rattle.factor.proofs.normal_matrix_cholesky_decomposition.Tie as tie
 use Rattle.factor.proofs.normal_matrix_cholesky_decomposition.Reads as reads
@@ -17,7 +19,7 @@ use Rattle.lanes.proofs.put4.Reads as put4-reads
 
 abbrev Inv-loop2 : tie.InvT-loop2
 Inv-loop2 work₀ x z y w lo m n s off cols values aends aleft aright acols dends dleft dright lends ldiag lcols e₀ i end work e =
-    (lplace (shape off cols) i 0 ≤ e) × (e ≤ end) × Filled off cols values m n s x z y w lo e work × Same lo (entries off cols m) work₀ work
+    (lplace (shape off cols) i 0 ≤ e) × (e ≤ end) × Filled off cols values m n s x z y w lo e work × Kept 4 lo (entries off cols m) work₀ work
 
 abbrev μ-loop2 : tie.MeasureT-loop2
 μ-loop2 work₀ x z y w lo m n s off cols values aends aleft aright acols dends dleft dright lends ldiag lcols e₀ i end work e =
@@ -25,7 +27,7 @@ abbrev μ-loop2 : tie.MeasureT-loop2
 
 abbrev Inv-loop : tie.InvT-loop
 Inv-loop work₀ x z y w lo m n s off cols values aends aleft aright acols dends dleft dright lends ldiag lcols e₀ i₀ work e i =
-    (i ≤ m) × (e ≡ lplace (shape off cols) i 0) × Filled off cols values m n s x z y w lo e work × Same lo (entries off cols m) work₀ work
+    (i ≤ m) × (e ≡ lplace (shape off cols) i 0) × Filled off cols values m n s x z y w lo e work × Kept 4 lo (entries off cols m) work₀ work
 
 abbrev μ-loop : tie.MeasureT-loop
 μ-loop work₀ x z y w lo m n s off cols values aends aleft aright acols dends dleft dright lends ldiag lcols e₀ i₀ work e i =
@@ -35,7 +37,7 @@ abbrev μ-loop : tie.MeasureT-loop
 loop-holds : tie.Need-loop-holds Inv-loop2 μ-loop2 Inv-loop μ-loop
 loop-holds c =
     let s = c .before .before .before .before .before .before .before .before .before .before .before .before .before .before in
-    (omega arith, sym (lplace-start (shape (s .args .off .now) (s .args .cols .now)) 0), filled-none (s .pre) refl, same-refl _ _ _)
+    (omega arith, sym (lplace-start (shape (s .args .off .now) (s .args .cols .now)) 0), filled-none (s .pre) refl, kept-none _ _ _ _)
 
 -- src/lib.rt:247:29
 add-at : tie.Need-add-at Inv-loop2 μ-loop2 Inv-loop μ-loop
@@ -51,7 +53,7 @@ loop2-holds c =
     let s = c .before .before .before .before .before .before .before .before .before .before .before .before .before .before .before .before .before in
     let r = c .before .before in
     let z = lends-at (s .pre) {i = r .loop .i} (c .before .loop-test .taken) (c .at .ensures) in
-    (omega (arith, r .loop .inv .1), omega (arith, r .loop .inv .1, z, lplace-up (shape (s .args .off .now) (s .args .cols .now)) (r .loop .i)), r .loop .inv .2, same-refl _ _ _)
+    (omega (arith, r .loop .inv .1), omega (arith, r .loop .inv .1, z, lplace-up (shape (s .args .off .now) (s .args .cols .now)) (r .loop .i)), r .loop .inv .2, kept-none _ _ _ _)
 
 -- src/lib.rt:249:17
 at-requires-2 : tie.Need-at-requires-2 Inv-loop2 μ-loop2 Inv-loop μ-loop
@@ -61,7 +63,7 @@ at-requires-2 c κs =
     let q = c .before in
     let h = c .before .before .before .loop-test .taken in
     let z = lends-at (s .pre) {i = r .loop .i} h (c .before .before .at .ensures) in
-    let t = same-trans (r .loop .inv .3) (q .loop2 .inv .3) in
+    let t = kept-trans (r .loop .inv .3) (q .loop2 .inv .3) in
     let g = given-still (s .pre) t in
     lcols-room (s .pre) {i = r .loop .i} {e = q .loop2 .e} h (q .loop2 .inv .0) (omega (arith, z, c .loop2-test .taken))
 
@@ -73,7 +75,7 @@ entry-of-requires c κs =
     let q = c .before .before .before in
     let h = c .before .before .before .before .before .loop-test .taken in
     let z = lends-at (s .pre) {i = r .loop .i} h (c .before .before .before .before .at .ensures) in
-    let t = same-trans (r .loop .inv .3) (q .loop2 .inv .3) in
+    let t = kept-trans (r .loop .inv .3) (q .loop2 .inv .3) in
     let g = given-still (s .pre) t in
     let st = stands-at (s .pre) {i = r .loop .i} {j = c .before .at2 .result} {e = q .loop2 .e} h (q .loop2 .inv .0) (omega (arith, z, c .before .before .loop2-test .taken)) (c .before .at2 .ensures) in
     (g, st)
@@ -86,7 +88,7 @@ add-put4 c =
     let q = c .before .before .before .before .before in
     let h = c .before .before .before .before .before .before .before .loop-test .taken in
     let z = lends-at (s .pre) {i = r .loop .i} h (c .before .before .before .before .before .before .at .ensures) in
-    let t = same-trans (r .loop .inv .3) (q .loop2 .inv .3) in
+    let t = kept-trans (r .loop .inv .3) (q .loop2 .inv .3) in
     let g = given-still (s .pre) t in
     let st = stands-at (s .pre) {i = r .loop .i} {j = c .before .before .before .at2 .result} {e = q .loop2 .e} h (q .loop2 .inv .0) (omega (arith, z, c .before .before .before .before .loop2-test .taken)) (c .before .before .before .at2 .ensures) in
     omega (arith, put-room g st, t .size, s .good .0)
@@ -99,7 +101,7 @@ put4-requires c κs =
     let q = c .before .before .before .before .before in
     let h = c .before .before .before .before .before .before .before .loop-test .taken in
     let z = lends-at (s .pre) {i = r .loop .i} h (c .before .before .before .before .before .before .at .ensures) in
-    let t = same-trans (r .loop .inv .3) (q .loop2 .inv .3) in
+    let t = kept-trans (r .loop .inv .3) (q .loop2 .inv .3) in
     let g = given-still (s .pre) t in
     let st = stands-at (s .pre) {i = r .loop .i} {j = c .before .before .before .at2 .result} {e = q .loop2 .e} h (q .loop2 .inv .0) (omega (arith, z, c .before .before .before .before .loop2-test .taken)) (c .before .before .before .at2 .ensures) in
     put-room g st
@@ -112,7 +114,7 @@ add-e c =
     let q = c .before .before .before .before .before .before .before .before in
     let h = c .before .before .before .before .before .before .before .before .before .before .loop-test .taken in
     let z = lends-at (s .pre) {i = r .loop .i} h (c .before .before .before .before .before .before .before .before .before .at .ensures) in
-    let t = same-trans (r .loop .inv .3) (q .loop2 .inv .3) in
+    let t = kept-trans (r .loop .inv .3) (q .loop2 .inv .3) in
     let g = given-still (s .pre) t in
     let st = stands-at (s .pre) {i = r .loop .i} {j = c .before .before .before .before .before .before .at2 .result} {e = q .loop2 .e} h (q .loop2 .inv .0) (omega (arith, z, c .before .before .before .before .before .before .before .loop2-test .taken)) (c .before .before .before .before .before .before .at2 .ensures) in
     omega (arith, put-room g st, t .size, s .good .0)
@@ -130,11 +132,11 @@ loop2-again c =
     let q = c .before .before .before .before .before .before .before .before in
     let h = c .before .before .before .before .before .before .before .before .before .before .loop-test .taken in
     let z = lends-at (s .pre) {i = r .loop .i} h (c .before .before .before .before .before .before .before .before .before .at .ensures) in
-    let t = same-trans (r .loop .inv .3) (q .loop2 .inv .3) in
+    let t = kept-trans (r .loop .inv .3) (q .loop2 .inv .3) in
     let g = given-still (s .pre) t in
     let st = stands-at (s .pre) {i = r .loop .i} {j = c .before .before .before .before .before .before .at2 .result} {e = q .loop2 .e} h (q .loop2 .inv .0) (omega (arith, z, c .before .before .before .before .before .before .before .loop2-test .taken)) (c .before .before .before .before .before .before .at2 .ensures) in
     let f = filled-more g (q .loop2 .inv .2) st (c .before .before .before .before .entry-of .ensures) (c .before .before .put4 .ensures) in
-    (omega (arith, q .loop2 .inv .0), omega (arith, c .before .before .before .before .before .before .before .loop2-test .taken), f .0, same-trans (q .loop2 .inv .3) (f .1))
+    (omega (arith, q .loop2 .inv .0), omega (arith, c .before .before .before .before .before .before .before .loop2-test .taken), f .0, kept-trans (q .loop2 .inv .3) (f .1))
 
 -- src/lib.rt:280:9
 add-i : tie.Need-add-i Inv-loop2 μ-loop2 Inv-loop μ-loop
@@ -153,7 +155,7 @@ loop-again c =
     let q = c .before in
     let h = c .before .before .before .loop-test .taken in
     let z = lends-at (s .pre) {i = r .loop .i} h (c .before .before .at .ensures) in
-    let t = same-trans (r .loop .inv .3) (q .loop2 .inv .3) in
+    let t = kept-trans (r .loop .inv .3) (q .loop2 .inv .3) in
     let g = given-still (s .pre) t in
     let k = ap (λ (k : ℕ). lplace (shape (s .args .off .now) (s .args .cols .now)) k 0) (add-one (r .loop .i)) in
     (omega arith, omega (arith, z, k, q .loop2 .inv .1, c .loop2-test .left), q .loop2 .inv .2, t)

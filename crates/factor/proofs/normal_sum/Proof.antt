@@ -10,7 +10,7 @@ use Rattle.lanes.specs.Lists.{at}
 use Rattle.lanes.specs.Lanes.{cell as here}
 use Rattle.root.specs.Root.{root}
 use Rattle.lanes.specs.Arithmetic.{√, magnitude}
-use Rattle.ranks.specs.Kernel.{normalStep, productStep, Summed}
+use Rattle.ranks.specs.Factoring.{normalStep, productStep, Summed}
 use Rattle.factor.proofs.Sums.{summed-none, product-turn, normal-turn, summed-end, start-on, start-off, finish-on, finish-off}
 use Rattle.factor.proofs.normal_sum.Statement.{statement}
 use Rattle.factor.proofs.normal_sum.Tie as tie
@@ -32,15 +32,15 @@ loop-holds c = (omega arith, omega (arith, c .before .before .before .before .be
 
 -- src/lib.rt:88:13
 at-requires : tie.Need-at-requires Inv-loop μ-loop
-at-requires c κs = omega (arith, c .before .before .before .before .before .before .before .pre .is-long)
+at-requires c κs = omega (arith, c .before .before .before .before .before .before .before .pre .left-long)
 
 -- src/lib.rt:89:13
 at-requires-2 : tie.Need-at-requires-2 Inv-loop μ-loop
-at-requires-2 c κs = omega (arith, c .before .before .before .before .before .before .before .before .pre .js-long)
+at-requires-2 c κs = omega (arith, c .before .before .before .before .before .before .before .before .pre .right-long)
 
 -- src/lib.rt:90:13
 at-requires-3 : tie.Need-at-requires-3 Inv-loop μ-loop
-at-requires-3 c κs = omega (arith, c .before .before .before .before .before .before .before .before .before .pre .es-long)
+at-requires-3 c κs = omega (arith, c .before .before .before .before .before .before .before .before .before .pre .cols-long)
 
 -- src/lib.rt:91:29
 add-get4 : tie.Need-add-get4 Inv-loop μ-loop
@@ -60,19 +60,19 @@ get4-requires-2 c κs = omega (arith, c .before .at3 .ensures, c .before .before
 
 -- src/lib.rt:93:32
 mul-normal-in : tie.Need-mul-normal-in Inv-loop μ-loop
-mul-normal-in c = omega (arith, c .before .before .before .before .at .ensures, c .before .before .before .before .before .before .before .before .before .before .before .before .pre .is-in (c .before .before .before .before .before .before .loop .p) (c .before .before .before .before .before .before .loop .inv .0) (c .before .before .before .before .before .loop-test .taken))
+mul-normal-in c = omega (arith, c .before .before .before .before .at .ensures, c .before .before .before .before .before .before .before .before .before .before .before .before .pre .left-in (c .before .before .before .before .before .before .loop .p) (c .before .before .before .before .before .before .loop .inv .0) (c .before .before .before .before .before .loop-test .taken))
 
 -- src/lib.rt:93:32
 shared-slice-read-normal-in : tie.Need-shared-slice-read-normal-in Inv-loop μ-loop
-shared-slice-read-normal-in c = omega (arith, c .before .before .before .before .before .at .ensures, c .before .before .before .before .before .before .before .before .before .before .before .before .before .pre .is-in (c .before .before .before .before .before .before .before .loop .p) (c .before .before .before .before .before .before .before .loop .inv .0) (c .before .before .before .before .before .before .loop-test .taken))
+shared-slice-read-normal-in c = omega (arith, c .before .before .before .before .before .at .ensures, c .before .before .before .before .before .before .before .before .before .before .before .before .before .pre .left-in (c .before .before .before .before .before .before .before .loop .p) (c .before .before .before .before .before .before .before .loop .inv .0) (c .before .before .before .before .before .before .loop-test .taken))
 
 -- src/lib.rt:93:43
 mul-normal-in-2 : tie.Need-mul-normal-in-2 Inv-loop μ-loop
-mul-normal-in-2 c = omega (arith, c .before .before .before .before .at2 .ensures, c .before .before .before .before .before .before .before .before .before .before .before .before .before .pre .js-in (c .before .before .before .before .before .before .before .loop .p) (c .before .before .before .before .before .before .before .loop .inv .0) (c .before .before .before .before .before .before .loop-test .taken))
+mul-normal-in-2 c = omega (arith, c .before .before .before .before .at2 .ensures, c .before .before .before .before .before .before .before .before .before .before .before .before .before .pre .right-in (c .before .before .before .before .before .before .before .loop .p) (c .before .before .before .before .before .before .before .loop .inv .0) (c .before .before .before .before .before .before .loop-test .taken))
 
 -- src/lib.rt:93:43
 shared-slice-read-normal-in-2 : tie.Need-shared-slice-read-normal-in-2 Inv-loop μ-loop
-shared-slice-read-normal-in-2 c = omega (arith, c .before .before .before .before .before .at2 .ensures, c .before .before .before .before .before .before .before .before .before .before .before .before .before .before .pre .js-in (c .before .before .before .before .before .before .before .before .loop .p) (c .before .before .before .before .before .before .before .before .loop .inv .0) (c .before .before .before .before .before .before .before .loop-test .taken))
+shared-slice-read-normal-in-2 c = omega (arith, c .before .before .before .before .before .at2 .ensures, c .before .before .before .before .before .before .before .before .before .before .before .before .before .before .pre .right-in (c .before .before .before .before .before .before .before .before .loop .p) (c .before .before .before .before .before .before .before .before .loop .inv .0) (c .before .before .before .before .before .before .before .loop-test .taken))
 
 -- src/lib.rt:93:13
 normal-in-requires : tie.Need-normal-in-requires Inv-loop μ-loop

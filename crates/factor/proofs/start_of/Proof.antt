@@ -10,7 +10,7 @@ use Rattle.lanes.specs.Lists.{at}
 use Rattle.lanes.specs.Lanes.{cell as here}
 use Rattle.root.specs.Root.{root}
 use Rattle.lanes.specs.Arithmetic.{√, magnitude}
-use Rattle.ranks.specs.Kernel.{normalStep, productStep, Summed}
+use Rattle.ranks.specs.Factoring.{normalStep, productStep, Summed}
 use Rattle.factor.proofs.Sums.{summed-none, product-turn, normal-turn, summed-end, start-on, start-off, finish-on, finish-off}
 use Rattle.factor.proofs.start_of.Statement.{statement}
 use Rattle.factor.proofs.start_of.Tie as tie
