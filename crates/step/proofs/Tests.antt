@@ -20,7 +20,7 @@ use Rattle.lanes.specs.Region.{reg, Kept, Fills, Apart, before, after}
 use Rattle.lanes.proofs.Regions.{kept-apart}
 use Rattle.lanes.proofs.Quads.{lane-of}
 use Rattle.kernels.specs.Kernels.{qAt, rAt}
-use Rattle.step.specs.Planned.{RowsOf, ColsOf}
+use Rattle.links.specs.Planned.{RowsOf, ColsOf}
 use Rattle.step.specs.Layout.{yAt, wAt, numbersAt, judged, Fresh}
 use mathlib.Core.Logic.{_≢_}
 use Rattle.machine.specs.Machine.{direction, stepLength, stepped}

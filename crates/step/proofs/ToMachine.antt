@@ -19,7 +19,7 @@ use Rattle.sparse.specs.Sparse.{cut, plusAll, lessAll, lessEach, frontAt, front
 use Rattle.rows.specs.Parts.{span, plusRow, lessRow, plusCol, lessCol, Rows, Cols}
 use Rattle.rows.proofs.Spans.{cut-length, cut-at}
 use Rattle.kernels.specs.Kernels.{uAt, dxAt, qAt, fAt, rAt}
-use Rattle.step.specs.Planned.{RowsOf, ColsOf, LowOf, HighOf, Holds}
+use Rattle.links.specs.Planned.{RowsOf, ColsOf, LowOf, HighOf, Holds}
 
 -- ONE LAW FOR EVERY LIST: a loop over a rising list, with a number of its own for each turn
 pub listed : (n : ℕ) (p : ℕ → Bool) (es : List ℕ) (a : ℕ → Float) (f : ℕ → Float) (F : ℕ → Float → Float → Float) (v : Float) → Between 0 n es

@@ -13,7 +13,7 @@ ghost use mathlib.Core.Logic.{_≢_};
 ghost use Rattle.machine.specs.Work.{callOf, problemOf};
 ghost use Rattle.lanes.specs.Lanes.{lanes};
 ghost use Rattle.lanes.specs.Region.{reg, Kept};
-ghost use Rattle.step.specs.Planned.{RowsOf, ColsOf, LowOf, HighOf, Holds};
+ghost use Rattle.links.specs.Planned.{RowsOf, ColsOf, LowOf, HighOf, Holds};
 ghost use Rattle.step.specs.Layout.{lAt, yAt, wAt, numbersAt, Directed, Advanced, Took, judged, Fresh, LanesStep};
 use kernels::compute_complement;
 use kernels::compute_dx;
