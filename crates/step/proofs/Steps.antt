@@ -19,7 +19,7 @@ use Rattle.lanes.proofs.Regions.{reg-at, kept-apart}
 use Rattle.lanes.proofs.Quads.{lane-of}
 use Rattle.sparse.specs.Sparse.{front, back}
 use Rattle.kernels.specs.Kernels.{uAt, dxAt, qAt, fAt, rAt}
-use Rattle.tests.specs.Planned.{RowsOf, ColsOf, LowOf, HighOf, Holds}
+use Rattle.links.specs.Planned.{RowsOf, ColsOf, LowOf, HighOf, Holds}
 use Rattle.tests.specs.Layout.{yAt, dyAt, rhsAt, wAt, dwAt, lAt, numbersAt, directionAt}
 use Rattle.step.specs.Steps.{Directed, Advanced, Took}
 use Rattle.tests.proofs.ToMachine.{row-plus, row-less, col-plus, col-less, front-machine, back-machine}

@@ -21,7 +21,7 @@ use Rattle.lanes.specs.Region.{reg}
 use Rattle.lanes.proofs.Regions.{reg-at}
 use Rattle.lanes.proofs.Quads.{lane-of}
 use Rattle.kernels.specs.Kernels.{qAt, rAt}
-use Rattle.tests.specs.Planned.{RowsOf, ColsOf}
+use Rattle.links.specs.Planned.{RowsOf, ColsOf}
 use Rattle.tests.specs.Layout.{yAt, wAt, numbersAt, judged}
 use Rattle.tests.proofs.ToMachine.{row-less, col-less}
 

@@ -18,7 +18,7 @@ use Rattle.machine.proofs.Entries.{through, along}
 use Rattle.sparse.specs.Sparse.{cut, plusAll, lessAll, lessEach, frontAt, front, backAt, back, Csr, Low, High}
 use Rattle.rows.specs.Parts.{span, plusRow, lessRow, plusCol, lessCol, Rows, Cols}
 use Rattle.rows.proofs.Spans.{cut-length, cut-at}
-use Rattle.tests.specs.Planned.{RowsOf, ColsOf, LowOf, HighOf, Holds}
+use Rattle.links.specs.Planned.{RowsOf, ColsOf, LowOf, HighOf, Holds}
 
 -- ONE LAW FOR EVERY LIST: a loop over a rising list, with a number of its own for each turn
 pub listed : (n : ℕ) (p : ℕ → Bool) (es : List ℕ) (a : ℕ → Float) (f : ℕ → Float) (F : ℕ → Float → Float → Float) (v : Float) → Between 0 n es

@@ -13,7 +13,7 @@ ghost use Rattle.machine.specs.Machine.{standard, status};
 ghost use Rattle.machine.specs.declared.Status.the-variants.{Spoilt};
 ghost use Rattle.machine.specs.Outcome.{laneData};
 ghost use Rattle.machine.specs.Work.{callOf, problemOf};
-ghost use Rattle.tests.specs.Planned.{RowsOf, ColsOf};
+ghost use Rattle.links.specs.Planned.{RowsOf, ColsOf};
 ghost use Rattle.tests.specs.Layout.{lAt, yAt, wAt, numbersAt, Lent, judged};
 use kernels::dot_product;
 use kernels::dual_squares;
