@@ -1,4 +1,4 @@
--- What the functions of a step leave in the working memory. Definitions only.
+-- What the functions of a step leave in the working memory, lane by lane. Definitions only.
 use Prim.Native.Nat.{ℕ, _<_}
 use mathlib.Core.Path.{_≡_}
 use mathlib.Core.Bool.{Bool, cond, false}
@@ -6,36 +6,77 @@ use mathlib.Core.List.{List}
 use lib.ListN.{getD, length}
 use lib.Ieee.{Float}
 use Rattle.lanes.specs.Lists.{at, vec}
-use Rattle.lanes.specs.Arithmetic.{null, whole}
-use Rattle.machine.specs.Machine.{Problem, LaneData, Settings, direction, stepLength, status}
+use Rattle.lanes.specs.Region.{reg}
+use Rattle.lanes.specs.Arithmetic.{_⊘_, null, one, smaller}
+use Rattle.lanes.specs.Constants.{startValue, dampingValue}
+use Rattle.machine.specs.Machine.{Problem, LaneData, Settings, State, Direction, fOf, dxOf, complement, theta, direction, stepLength, moved, status}
 use Rattle.machine.specs.Work.{stepBy, stepOf}
-use Rattle.tests.specs.Layout.{numbersAt, directionAt}
+use Rattle.tests.specs.Layout.{dyAt, rhsAt, numbersAt, directionAt}
 
--- in each lane the step is worked out, of numbers that have not changed
-pub record Directed (A : Problem) (H : Settings) (d : ℕ → LaneData) (mu : List Float) (old new : List Float) : Type 0 where
-  pub size : length new ≡ length old
-  pub kept : (t : ℕ) → t < 4 → numbersAt (A .m) (A .n) (A .s) new t ≡ numbersAt (A .m) (A .n) (A .s) old t
-  pub worked : (t : ℕ) → t < 4 → directionAt (A .m) (A .n) (A .s) new t ≡ direction A H (d t) (numbersAt (A .m) (A .n) (A .s) old t) (at mu t)
+module _ (A : Problem) where
+  -- lane t's numbers, and what its step has worked out, in a memory
+  abbrev pub numbersIn : List Float → ℕ → State
+  numbersIn ws t = numbersAt (A .m) (A .n) (A .s) ws t
 
--- in each lane the numbers are moved by what was worked out, by the lane's stepLength or not at all
-pub record Advanced (A : Problem) (H : Settings) (d : ℕ → LaneData) (done : List Bool) (old new : List Float) : Type 0 where
+  abbrev pub directionIn : List Float → ℕ → Direction
+  directionIn ws t = directionAt (A .m) (A .n) (A .s) ws t
+
+  -- the numbers have not changed
+  pub record Still (old new : List Float) : Type 0 where
+    pub size : length new ≡ length old
+    pub kept : (t : ℕ) → t < 4 → numbersIn new t ≡ numbersIn old t
+
+  module _ (H : Settings) (d : ℕ → LaneData) where
+    -- dx, dz and dw of dy
+    abbrev pub changes : ℕ → State → Float → List Float → Direction
+    changes t q mu dy =
+        let dx = dxOf A H (d t) q mu dy in
+        record { dx = dx; dz = complement (A .n) mu (q .z) (q .x) dx; dy = dy; dw = complement (A .s) mu (q .w) (q .y) dy }
+
+    -- the right-hand side is the machine's f
+    pub record RightSide (mu old new : List Float) : Type 0 where
+      pub still : Still old new
+      pub rhs : (t : ℕ) → t < 4 → reg 4 new (rhsAt (A .n) (A .m)) (A .m) t ≡ fOf A H (d t) (numbersIn old t) (at mu t)
+
+    -- dx, dz and dw are those of the dy that is there, dy has not changed, and `ratios` are the lanes' thetas
+    pub record Changed (mu old new ratios : List Float) : Type 0 where
+      pub still : Still old new
+      pub worked : (t : ℕ) → t < 4 → directionIn new t ≡ changes t (numbersIn old t) (at mu t) (reg 4 old (dyAt (A .n) (A .m)) (A .m) t)
+      pub largest : (t : ℕ) → t < 4 → at ratios t ≡ theta A H (d t) (numbersIn new t) (directionIn new t)
+
+    -- the step is worked out
+    pub record Directed (mu old new ratios : List Float) : Type 0 where
+      pub still : Still old new
+      pub worked : (t : ℕ) → t < 4 → directionIn new t ≡ direction A H (d t) (numbersIn old t) (at mu t)
+      pub largest : (t : ℕ) → t < 4 → at ratios t ≡ theta A H (d t) (numbersIn new t) (directionIn new t)
+
+    -- the step is taken, by the lane's step length or, where the lane is done, by 0
+    pub record Took (mu : List Float) (done : List Bool) (old new : List Float) : Type 0 where
+      pub size : length new ≡ length old
+      pub moved :
+          (t : ℕ)
+          → t < 4
+          → let q = numbersIn old t in
+          let r = direction A H (d t) q (at mu t) in
+          numbersIn new t ≡ stepBy A q (cond (getD done t false) null (stepLength A H (d t) q r)) r
+
+    -- each lane takes its own step, as its own test says
+    pub record LanesStep (old new : List Float) : Type 0 where
+      pub size : length new ≡ length old
+      pub moved :
+          (t : ℕ) → t < 4 → let q = numbersIn old t in numbersIn new t ≡ stepOf A H (d t) q (status A H (d t) q)
+
+-- the numbers are moved by what was worked out
+pub record Advanced (m n s : ℕ) (ratios : List Float) (done : List Bool) (old new : List Float) : Type 0 where
   pub size : length new ≡ length old
   pub moved :
       (t : ℕ)
       → t < 4
-      → let q = numbersAt (A .m) (A .n) (A .s) old t in
-      let r = directionAt (A .m) (A .n) (A .s) old t in
-      numbersAt (A .m) (A .n) (A .s) new t ≡ stepBy A q (cond (getD done t false) null (stepLength A H (d t) q r)) r
-
--- both: the step
-pub record Took (A : Problem) (H : Settings) (d : ℕ → LaneData) (mu : List Float) (done : List Bool) (old new : List Float) : Type 0 where
-  pub size : length new ≡ length old
-  pub moved :
-      (t : ℕ)
-      → t < 4
-      → let q = numbersAt (A .m) (A .n) (A .s) old t in
-      let r = direction A H (d t) q (at mu t) in
-      numbersAt (A .m) (A .n) (A .s) new t ≡ stepBy A q (cond (getD done t false) null (stepLength A H (d t) q r)) r
+      → let q = numbersAt m n s old t in
+      let r = directionAt m n s old t in
+      let h = cond (getD done t false) null (smaller (dampingValue ⊘ at ratios t) one) in
+      numbersAt m n s new t
+      ≡ record { x = moved n h (q .x) (r .dx); z = moved n h (q .z) (r .dz); y = moved m h (q .y) (r .dy); w = moved s h (q .w) (r .dw) }
 
 -- every number is 1000.0
 pub record Fresh (m n s : ℕ) (old new : List Float) : Type 0 where
@@ -44,13 +85,4 @@ pub record Fresh (m n s : ℕ) (old new : List Float) : Type 0 where
       (t : ℕ)
       → t < 4
       → numbersAt m n s new t
-      ≡ record { x = vec n (λ _. whole 1000); z = vec n (λ _. whole 1000); y = vec m (λ _. whole 1000); w = vec s (λ _. whole 1000) }
-
--- each lane takes its own step, as its own test says
-pub record LanesStep (A : Problem) (H : Settings) (d : ℕ → LaneData) (old new : List Float) : Type 0 where
-  pub size : length new ≡ length old
-  pub moved :
-      (t : ℕ)
-      → t < 4
-      → let q = numbersAt (A .m) (A .n) (A .s) old t in
-      numbersAt (A .m) (A .n) (A .s) new t ≡ stepOf A H (d t) q (status A H (d t) q)
+      ≡ record { x = vec n (λ _. startValue); z = vec n (λ _. startValue); y = vec m (λ _. startValue); w = vec s (λ _. startValue) }
