@@ -4,3 +4,6 @@ pub mod Rows
 pub mod Cols
 pub mod Low
 pub mod High
+pub mod Cuts
+pub mod Follows
+pub mod Few

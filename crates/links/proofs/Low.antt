@@ -16,15 +16,15 @@ use Rattle.lists.specs.Lists.{Shape, shape, lplace, listOf, piece}
 use Rattle.lists.specs.declared.Which.the-variants.{Lindptr, Lindices}
 use Rattle.lists.proofs.Counts.{lplace-from, held-stored}
 use Rattle.lists.proofs.Sizes.{size-list}
-use Rattle.lanes.specs.Lists.{Between}
+use Rattle.lanes.specs.Lists.{at, Between}
 use Rattle.machine.specs.Machine.{Problem, inFactor}
 use Rattle.machine.specs.Work.{problemOf}
-use Rattle.ranks.proofs.Ranks.{ranked, lplace-start, lplace-next, lplace-row, lplace-along, lplace-down, by-entry-length, by-row-at}
+use Rattle.ranks.proofs.Ranks.{ranked, lplace-start, lplace-next, lplace-row, lplace-along, lplace-down, by-entry-length, by-row-at, entry-of}
 use Rattle.ranks.proofs.Picks.{picks-all, held-factor, held-diag}
 use Rattle.sparse.specs.Sparse.{cut}
 use Rattle.rows.specs.Parts.{span}
 use Rattle.rows.proofs.Spans.{cut-at}
-use Rattle.links.specs.Planned.{LowOf}
+use Rattle.links.specs.Planned.{LowOf, Holds}
 use Rattle.links.proofs.Parts.{cut-part, cat-split}
 use Rattle.links.proofs.Picked.{picked, named-length, picked-rise, picked-has}
 
@@ -114,6 +114,17 @@ module _ (off cols : List ℕ) (m : ℕ) where
     last = λ i h.
         let e : getD ptr (i + 1) 0 - 1 ≡ lplace g i i = omega (arith, ptr-next i h) in
         ap (λ (k : ℕ). getD ind k 0) e ∙ ind-at i i h (omega arith) (held-diag off cols i);
+  }
+
+  -- numbers that stand at the places of the stored pairs stand as the rows say
+  pub holds-of : (n s : ℕ) (vals lv : List Float) (L : ℕ → ℕ → Float) → ((i j : ℕ) → i < m → j ≤ i → g .held i j ≡ true → at lv (lplace g i j) ≡ L i j)
+      → Holds (problemOf m n s off cols vals) ptr ind lv L
+  holds-of n s vals lv L f = record {
+    reads = λ i h k a b.
+        let e = entry-of g i k (omega (arith, ptr-at i (omega arith))) (omega (arith, ptr-at (i + 1) (omega arith), ap (λ (x : ℕ). lplace g x 0) (add-one i))) in
+        ap (at lv) (sym (e .at))
+        ∙ f i (e .j) h (e .low) (e .held)
+        ∙ ap (L i) (sym (ap (λ (x : ℕ). getD ind x 0) (sym (e .at)) ∙ ind-at i (e .j) h (e .low) (e .held)));
   }
 
   -- THE PLANNED FACTOR: its row i has j below the diagonal exactly when there is a chain

@@ -1,5 +1,5 @@
 -- The sixteen lists that a solve reads are those of the plan, and where they stand in the index memory. Definitions only.
-use mathlib.Core.Path.{_≡_}
+use mathlib.Core.Path.{_≡_, refl}
 use mathlib.Core.List.{List}
 use Prim.Native.Nat.{ℕ, _+_, _≤_}
 use lib.ListN.{length}
@@ -50,3 +50,24 @@ pub record Bounds (m n t E S D b1 b2 b3 b4 b5 b6 b7 b8 b9 b10 b11 b12 b13 b14 b1
   pub matrix-ends : b14 ≡ b13 + (n + 1)
   pub matrix-rows : b15 ≡ b14 + t
   pub matrix-places : b16 ≡ b15 + t
+
+-- ---- a marked example: the star, whose plan has 80 words
+star-bounds : Bounds 3 2 4 6 6 4 7 13 19 25 32 36 40 44 47 53 57 63 69 72 76 80
+star-bounds = record {
+  anorm-ends = refl;
+  anorm-i = refl;
+  anorm-j = refl;
+  anorm-e = refl;
+  ldecomp-ends = refl;
+  ldecomp-i = refl;
+  ldecomp-j = refl;
+  ends = refl;
+  diag = refl;
+  columns = refl;
+  factor-ends = refl;
+  factor-rows = refl;
+  factor-places = refl;
+  matrix-ends = refl;
+  matrix-rows = refl;
+  matrix-places = refl;
+}
