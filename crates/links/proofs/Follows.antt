@@ -14,7 +14,7 @@ use Rattle.lists.specs.declared.Which.the-variants.{Lindices}
 use Rattle.lists.proofs.Sizes.{size-list}
 use Rattle.lanes.specs.Lists.{at}
 use Rattle.machine.specs.Work.{problemOf}
-use Rattle.ranks.specs.Kernel.{Planned}
+use Rattle.ranks.specs.Factoring.{Planned}
 use Rattle.rows.specs.Parts.{span}
 use Rattle.links.specs.Planned.{RowsOf, ColsOf, LowOf, HighOf, Holds}
 use Rattle.links.specs.Prepared.{Prepared}
@@ -44,12 +44,12 @@ module _ {off cols : List ℕ} {vals : List Float} {m n s : ℕ} {ap ai aj ae dp
   pub planned-for : Planned off cols m ap ai aj ae dp di dj lp ld li
   planned-for = record {
     anorm-ends = P .anorm-ends;
-    anorm-i = P .anorm-i;
-    anorm-j = P .anorm-j;
-    anorm-e = P .anorm-e;
+    anorm-left = P .anorm-i;
+    anorm-right = P .anorm-j;
+    anorm-cols = P .anorm-e;
     ldecomp-ends = P .ldecomp-ends;
-    ldecomp-i = P .ldecomp-i;
-    ldecomp-j = P .ldecomp-j;
+    ldecomp-left = P .ldecomp-i;
+    ldecomp-right = P .ldecomp-j;
     ends = P .ends;
     diag = P .diag;
     columns = P .columns;
