@@ -8,7 +8,8 @@ use native.Mathlib.Omega.{arith}
 use lib.ListN.{getD}
 use lib.Ieee.{Float, lt, isNan}
 use Rattle.lanes.specs.Lists.{at, vec}
-use Rattle.lanes.specs.Arithmetic.{null, whole}
+use Rattle.lanes.specs.Arithmetic.{null}
+use Rattle.lanes.specs.Constants.{startValue}
 use Rattle.lanes.specs.Lanes.{lanes}
 use Rattle.lanes.specs.Region.{reg, Kept, Fills, Apart, before, after}
 use Rattle.lanes.proofs.Regions.{kept-apart}
@@ -22,28 +23,28 @@ use Rattle.tests.specs.Layout.{yAt, wAt, numbersAt}
 use Rattle.step.specs.Steps.{Fresh, Took, LanesStep}
 
 -- ---- the start
-pub fresh : (m n s : ℕ) {v w0 w1 w2 w3 w4 : List Float} → v ≡ lanes (λ t. whole 1000)
+pub fresh : (m n s : ℕ) {v w0 w1 w2 w3 w4 : List Float} → v ≡ lanes (λ t. startValue)
     → Fills 4 0 n (λ t. vec n (λ e. at v t)) w0 w1 → Fills 4 n n (λ t. vec n (λ e. at v t)) w1 w2
     → Fills 4 (yAt n) m (λ t. vec m (λ e. at v t)) w2 w3 → Fills 4 (wAt n m) s (λ t. vec s (λ e. at v t)) w3 w4 → Fresh m n s w0 w4
 fresh m n s {v} {w0} {w1} {w2} {w3} {w4} ev F1 F2 F3 F4 =
     record { size = F4 .kept .size ∙ F3 .kept .size ∙ F2 .kept .size ∙ F1 .kept .size; all = λ t b i. record { x = ex t b i; z = ez t b i; y = ey t b i; w = ew t b i } }
   where
-    te : (t : ℕ) → t < 4 → at v t ≡ whole 1000
-    te t b = lane-of (λ t. whole 1000) ev t b
+    te : (t : ℕ) → t < 4 → at v t ≡ startValue
+    te t b = lane-of (λ t. startValue) ev t b
 
     still : (p j : ℕ) {o k : ℕ} {old new : List Float} → Kept 4 o k old new → Apart p j o k → (t : ℕ) → t < 4 → reg 4 new p j t ≡ reg 4 old p j t
     still p j K a t b = kept-apart K a t b
 
-    ex : (t : ℕ) → t < 4 → reg 4 w4 0 n t ≡ vec n (λ _. whole 1000)
+    ex : (t : ℕ) → t < 4 → reg 4 w4 0 n t ≡ vec n (λ _. startValue)
     ex t b = still 0 n (F4 .kept) (before (omega arith)) t b ∙ still 0 n (F3 .kept) (before (omega arith)) t b ∙ still 0 n (F2 .kept) (before (omega arith)) t b ∙ F1 .within t b ∙ ap (λ (x : Float). vec n (λ _. x)) (te t b)
 
-    ez : (t : ℕ) → t < 4 → reg 4 w4 n n t ≡ vec n (λ _. whole 1000)
+    ez : (t : ℕ) → t < 4 → reg 4 w4 n n t ≡ vec n (λ _. startValue)
     ez t b = still n n (F4 .kept) (before (omega arith)) t b ∙ still n n (F3 .kept) (before (omega arith)) t b ∙ F2 .within t b ∙ ap (λ (x : Float). vec n (λ _. x)) (te t b)
 
-    ey : (t : ℕ) → t < 4 → reg 4 w4 (yAt n) m t ≡ vec m (λ _. whole 1000)
+    ey : (t : ℕ) → t < 4 → reg 4 w4 (yAt n) m t ≡ vec m (λ _. startValue)
     ey t b = still (yAt n) m (F4 .kept) (before (omega arith)) t b ∙ F3 .within t b ∙ ap (λ (x : Float). vec m (λ _. x)) (te t b)
 
-    ew : (t : ℕ) → t < 4 → reg 4 w4 (wAt n m) s t ≡ vec s (λ _. whole 1000)
+    ew : (t : ℕ) → t < 4 → reg 4 w4 (wAt n m) s t ≡ vec s (λ _. startValue)
     ew t b = F4 .within t b ∙ ap (λ (x : Float). vec s (λ _. x)) (te t b)
 
 -- ---- the step that the statuses ask for
