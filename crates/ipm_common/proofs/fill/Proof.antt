@@ -15,7 +15,7 @@ use mathlib.Core.Bool.{Bool, true, false}
 use lib.ListN.{take, drop}
 use lib.Seq.{take-all}
 use Rattle.ipm_common.proofs.Turns as turns
-use Rattle.lists.proofs.Pairs.{head-room}
+use Rattle.lists.proofs.Write.{head-room}
 use Rattle.lists.proofs.Counts.{before-start}
 use Rattle.lists.specs.Cat.{pairs}
 use Rattle.lists.specs.Lists.{weight, shape, piece, before, listOf, begins}
