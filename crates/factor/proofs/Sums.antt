@@ -15,7 +15,7 @@ use Rattle.lanes.proofs.Quads.{lanes-ext, lanes-at}
 use Rattle.lanes.specs.Lists.{fold}
 use Rattle.lanes.specs.Arithmetic.{null}
 use Rattle.lanes.proofs.Consts.{null-bits}
-use Rattle.ranks.specs.Factoring.{Summed, normalStep, productStep}
+use Rattle.ranks.specs.Factoring.{Summed, normalStep, productStep, NormalIn, ProductIn}
 
 module _ (step : ℕ → ℕ → Float → Float) (start : List Float) (from : ℕ) where
   pub summed-none : Summed step start from from start
@@ -64,8 +64,19 @@ normal-turn {xe} {ze} {t} acc vals left right cols work x z from p i j e start h
     (ap (λ (v : List Float). at v l) ex ∙ lanes-at (here 4 work (x + e)) l c ∙ ap (λ (k : ℕ). here 4 work (x + k) l) fe)
     (ap (λ (v : List Float). at v l) ez ∙ lanes-at (here 4 work (z + e)) l c ∙ ap (λ (k : ℕ). here 4 work (z + k) l) fe))
 
-pub summed-end : (step : ℕ → ℕ → Float → Float) (start acc : List Float) (from p to : ℕ) → p ≡ to → Summed step start from p acc → Summed step start from to acc
-summed-end step start acc from p to e s = subst (λ (k : ℕ). Summed step start from k acc) e s
+-- at the loop's end, by the ends as the list has them
+pub summed-end : (step : ℕ → ℕ → ℕ → Float → Float) (start acc : List Float) {from from′ p to to′ : ℕ} → from ≡ from′ → to ≡ to′ → p ≡ to
+    → Summed (step from) start from p acc → Summed (step from′) start from′ to′ acc
+summed-end step start acc {from} {from′} {p} {to} {to′} a b c s =
+    subst (λ (t : ℕ). Summed (step t) start t to′ acc) a (subst (λ (t : ℕ). Summed (step from) start from t acc) (c ∙ b) s)
+
+pub normal-here : {vals : List Float} {left right cols : List ℕ} {work : List Float} {x z from from′ to to′ : ℕ} → from ≡ from′ → to ≡ to′
+    → NormalIn vals left right cols work x z from′ to′ → NormalIn vals left right cols work x z from to
+normal-here p q h = rw (p, q) h
+
+pub product-here : {left right : List ℕ} {work : List Float} {lo from from′ to to′ : ℕ} → from ≡ from′ → to ≡ to′
+    → ProductIn left right work lo from′ to′ → ProductIn left right work lo from to
+product-here p q h = rw (p, q) h
 
 -- ---- where an entry starts, and how it is finished
 
