@@ -10,7 +10,7 @@ use lib.Dec.{eqb, ltb}
 use lib.ListN.{length, getD}
 use lib.Ieee.{Float, nan, binary64, add, sub, mul, div, ofBits}
 use Rattle.lanes.specs.Lists.{at}
-use Rattle.lanes.specs.Lanes.{lanes, quad, cell as here}
+use Rattle.lanes.specs.Lanes.{lanes, each2, quad, cell as here}
 use Rattle.lanes.proofs.Quads.{lanes-ext, lanes-at}
 use Rattle.lanes.specs.Lists.{fold}
 use Rattle.lanes.specs.Arithmetic.{null}
@@ -27,6 +27,12 @@ module _ (step : ℕ → ℕ → Float → Float) (start : List Float) (from : �
   summed-more p acc t h s e l b =
       let z : p + 1 - from ≡ suc (p - from) = omega arith in
       rw z (e l b ∙ ap (step l (p - from)) (s l b))
+
+-- what the two calls of a product's turn leave
+
+pub product-value : (acc a b : List Float) {p r : List Float} → p ≡ each2 (mul binary64) a b → r ≡ each2 (sub binary64) acc p
+    → r ≡ lanes (λ l. sub binary64 (at acc l) (mul binary64 (at a l) (at b l)))
+product-value acc a b ep er = rw (er, ep)
 
 -- ---- a turn of each of the two sums
 

@@ -30,17 +30,13 @@ fn at(s: &[u32], i: usize) -> usize
 fn normal_in(acc: [f64; 4], a: f64, b: f64, x: [f64; 4], z: [f64; 4]) -> [f64; 4]
     ensures { λ r. ⌜ r ≡ lanes (λ l. lane acc l ⊕ a ⊗ b ⊗ lane x l ⊘ lane z l) ⌝ }
 {
-    let p = splat(a * b);
-    let t = mul4(p, x);
-    let u = div4(t, z);
-    add4(acc, u)
+    add4(acc, div4(mul4(splat(a * b), x), z))
 }
 
 fn product_in(acc: [f64; 4], a: [f64; 4], b: [f64; 4]) -> [f64; 4]
     ensures { λ r. ⌜ r ≡ lanes (λ l. lane acc l ⊖ lane a l ⊗ lane b l) ⌝ }
 {
-    let p = mul4(a, b);
-    sub4(acc, p)
+    sub4(acc, mul4(a, b))
 }
 
 // The shared columns of entry e, added in turn.
