@@ -1,14 +1,14 @@
 -- The absolute value by two comparisons. Assumes nothing.
-use mathlib.Core.Path.{_≡_, refl, sym, ap, _∙_, subst}
-use mathlib.Core.Bool.{Bool, true, false, cond, _&&_, _||_, Bool·beq, true≢false, false≢true}
-use Prim.Native.Nat.{ℕ, zero, suc, _+_, _*_, _^_, _<_, _≤_}
-use native.Mathlib.Nat.{zero-mul, mul-pos, mul-one, zero-lt-suc}
+use mathlib.Core.Path.{_≡_, refl, sym, ap, _∙_}
+use mathlib.Core.Bool.{Bool, true, false, _&&_, _||_, true≢false, false≢true}
+use Prim.Native.Nat.{zero, suc, _+_, _*_, _^_, _<_, _≤_}
+use native.Mathlib.Nat.{zero-mul, mul-pos, zero-lt-suc}
 use native.Mathlib.Omega.{arith}
-use lib.Dec.{T, eqb, ltb}
+use lib.Dec.{T, eqb}
 use lib.IntN.{ℤ, pos, negsuc}
-use lib.Pow.{pow-pos, pow-lt}
-use lib.Ieee.{Float, nan, inf, fin, binary64, fits, lt, eq, neg, ofBits, ofInt, up, down}
-use lib.Ieee.Fits.{up-pos, down-pos}
+use lib.Pow.{pow-lt}
+use lib.Ieee.{Float, nan, inf, fin, binary64, fits, lt, eq, neg, ofBits, up, down}
+use lib.Ieee.Fits.{up-pos}
 use borrow.Author.Tests.{eq-eqb, eqb-true, ltb-true, ltb-false}
 use Rattle.lanes.specs.Arithmetic.{magnitude}
 
