@@ -10,12 +10,12 @@ use lib.Dec.{eqb, ltb}
 use lib.ListN.{length, getD}
 use lib.Ieee.{Float, nan, binary64, add, sub, mul, div, ofBits}
 use Rattle.lanes.specs.Lists.{at}
-use Rattle.lanes.specs.Lanes.{lanes, quad, cell as here}
+use Rattle.lanes.specs.Lanes.{lanes, each2, quad, cell as here}
 use Rattle.lanes.proofs.Quads.{lanes-ext, lanes-at}
 use Rattle.lanes.specs.Lists.{fold}
 use Rattle.lanes.specs.Arithmetic.{null}
 use Rattle.lanes.proofs.Consts.{null-bits}
-use Rattle.ranks.specs.Factoring.{Summed, normalStep, productStep}
+use Rattle.ranks.specs.Factoring.{Summed, normalStep, productStep, NormalIn, ProductIn}
 
 module _ (step : ℕ → ℕ → Float → Float) (start : List Float) (from : ℕ) where
   pub summed-none : Summed step start from from start
@@ -27,6 +27,12 @@ module _ (step : ℕ → ℕ → Float → Float) (start : List Float) (from : �
   summed-more p acc t h s e l b =
       let z : p + 1 - from ≡ suc (p - from) = omega arith in
       rw z (e l b ∙ ap (step l (p - from)) (s l b))
+
+-- what the two calls of a product's turn leave
+
+pub product-value : (acc a b : List Float) {p r : List Float} → p ≡ each2 (mul binary64) a b → r ≡ each2 (sub binary64) acc p
+    → r ≡ lanes (λ l. sub binary64 (at acc l) (mul binary64 (at a l) (at b l)))
+product-value acc a b ep er = rw (er, ep)
 
 -- ---- a turn of each of the two sums
 
@@ -64,8 +70,19 @@ normal-turn {xe} {ze} {t} acc vals left right cols work x z from p i j e start h
     (ap (λ (v : List Float). at v l) ex ∙ lanes-at (here 4 work (x + e)) l c ∙ ap (λ (k : ℕ). here 4 work (x + k) l) fe)
     (ap (λ (v : List Float). at v l) ez ∙ lanes-at (here 4 work (z + e)) l c ∙ ap (λ (k : ℕ). here 4 work (z + k) l) fe))
 
-pub summed-end : (step : ℕ → ℕ → Float → Float) (start acc : List Float) (from p to : ℕ) → p ≡ to → Summed step start from p acc → Summed step start from to acc
-summed-end step start acc from p to e s = subst (λ (k : ℕ). Summed step start from k acc) e s
+-- at the loop's end, by the ends as the list has them
+pub summed-end : (step : ℕ → ℕ → ℕ → Float → Float) (start acc : List Float) {from from′ p to to′ : ℕ} → from ≡ from′ → to ≡ to′ → p ≡ to
+    → Summed (step from) start from p acc → Summed (step from′) start from′ to′ acc
+summed-end step start acc {from} {from′} {p} {to} {to′} a b c s =
+    subst (λ (t : ℕ). Summed (step t) start t to′ acc) a (subst (λ (t : ℕ). Summed (step from) start from t acc) (c ∙ b) s)
+
+pub normal-here : {vals : List Float} {left right cols : List ℕ} {work : List Float} {x z from from′ to to′ : ℕ} → from ≡ from′ → to ≡ to′
+    → NormalIn vals left right cols work x z from′ to′ → NormalIn vals left right cols work x z from to
+normal-here p q h = rw (p, q) h
+
+pub product-here : {left right : List ℕ} {work : List Float} {lo from from′ to to′ : ℕ} → from ≡ from′ → to ≡ to′
+    → ProductIn left right work lo from′ to′ → ProductIn left right work lo from to
+product-here p q h = rw (p, q) h
 
 -- ---- where an entry starts, and how it is finished
 

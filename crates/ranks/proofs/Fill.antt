@@ -66,13 +66,14 @@ module _ {off cols : List ℕ} {vals old : List Float} {m n s : ℕ} {aends alef
   pub lends-at : {i t : ℕ} → i < m → t ≡ getD lends (i + 1) 0 → t ≡ lplace g (suc i) 0
   lends-at {i} {t} h q = q ∙ rw (G .lists .ends) (row-end off cols m i h)
 
-  pub lcols-room : {i e : ℕ} → i < m → lplace g i 0 ≤ e → e < lplace g (suc i) 0 → e < length lcols
-  lcols-room {i} {e} h a b = rw (G .lists .columns) (stands-in off cols m i h e a b)
+  -- entry e of row i, before the row's end: its column is on the list, and stands there
+  pub lcols-next : {i e end : ℕ} → i < m → end ≡ getD lends (i + 1) 0 → lplace g i 0 ≤ e → e < end → e < length lcols
+  lcols-next {i} {e} h q a b = rw (G .lists .columns) (stands-in off cols m i h e a (omega (arith, lends-at h q)))
 
-  pub stands-at : {i j e : ℕ} → i < m → lplace g i 0 ≤ e → e < lplace g (suc i) 0 → j ≡ getD lcols e 0 → Stands off cols m i j e
-  stands-at {i} {j} {e} h a b q =
-      let c : j ≡ getD (listOf g Lindices m) e 0 = q ∙ ap (λ (t : List ℕ). getD t e 0) (G .lists .columns) in
-      subst (λ (t : ℕ). Stands off cols m i t e) (sym c) (stands off cols m i h e a b)
+  pub stands-next : {i j e end : ℕ} → i < m → end ≡ getD lends (i + 1) 0 → lplace g i 0 ≤ e → e < end → j ≡ getD lcols e 0 → Stands off cols m i j e
+  stands-next {i} {j} {e} h q a b c =
+      let d : j ≡ getD (listOf g Lindices m) e 0 = c ∙ ap (λ (t : List ℕ). getD t e 0) (G .lists .columns) in
+      subst (λ (t : ℕ). Stands off cols m i t e) (sym d) (stands off cols m i h e a (omega (arith, lends-at h q)))
 
   pub put-room : {i j e : ℕ} → Stands off cols m i j e → 4 * (lo + e) + 4 ≤ length old
   put-room {i} {j} {e} st = omega (arith, entry-room m n s off cols vals (G .ok) i j e st, G .regions .l-in)

@@ -20,10 +20,7 @@ use Rattle.machine.specs.Machine.{Problem, State, inFactor, cell, factor}
 abbrev pub normalStep : List Float → List ℕ → List ℕ → List ℕ → List Float → ℕ → ℕ → ℕ → ℕ → ℕ → Float → Float
 normalStep vals left right cols work x z from l k v =
     v
-    ⊕ at vals (getD left (from + k) 0)
-    ⊗ at vals (getD right (from + k) 0)
-    ⊗ here 4 work (x + getD cols (from + k) 0) l
-    ⊘ here 4 work (z + getD cols (from + k) 0) l
+    ⊕ at vals (getD left (from + k) 0) ⊗ at vals (getD right (from + k) 0) ⊗ here 4 work (x + getD cols (from + k) 0) l ⊘ here 4 work (z + getD cols (from + k) 0) l
 
 -- product k of an entry: number `from + k` of the lists subtracts the product of two earlier entries
 abbrev pub productStep : List ℕ → List ℕ → List Float → ℕ → ℕ → ℕ → ℕ → Float → Float
