@@ -10,3 +10,4 @@ pub mod Output
 pub mod Demand3
 pub mod Turns
 pub mod Theorems
+pub mod Examples
