@@ -9,7 +9,7 @@ use borrow.Author.Tests.{eq-eqb}
 use lib.ListN.{length, getD}
 use lib.Ieee.{Float}
 use Rattle.lanes.specs.Lists.{at, first, lane}
-use Rattle.lanes.proofs.Lists.{vec-length, lane-at}
+use Rattle.lanes.proofs.Lists.{vec-length, lane-at, first-under}
 use Rattle.lanes.proofs.Quads.{four-lanes}
 use Rattle.machine.specs.Machine.{State, Machine, live, lost, Status, spoilt, done, steps, standard, status, yields}
 use Rattle.machine.specs.Outcome.{Outcome, accepted, noAt11, noAt12, isSpoilt, isDone, allDone, lowestUndone, Call, laneData, laneMachine, laneStatus, xOf, xAt}
@@ -35,6 +35,10 @@ same-test i k e = cc
 
 done-not : (t : Status) → t ≡ done → t ≢ spoilt
 done-not t p q = let z : _≡_ {A = ℕ} 0 1 = cc in omega arith
+
+-- no lane is spoilt
+pub not-spoilt : (said : List Status) (r : ℕ) → r ≡ first 4 (λ l. isSpoilt (getD said l spoilt)) → (r < 4 → ⊥) → (l : ℕ) → l < 4 → getD said l spoilt ≢ spoilt
+not-spoilt said r e h l a z = h (omega (arith, e, first-under (λ i. isSpoilt (getD said i spoilt)) 4 l a (ap isSpoilt z)))
 
 module _ (m n s : ℕ) (off cols : List ℕ) (vals b c tol : List Float) where
   abbrev C : Call
@@ -68,10 +72,10 @@ module _ (m n s : ℕ) (off cols : List ℕ) (vals b c tol : List Float) where
   }
 
   -- ---- the step
-  pub stepped-at : (v v′ : List Float) → LanesStep (problemOf m n s off cols vals) standard (laneData C) v v′ → Stepped C (memoryAt m n s v) (memoryAt m n s v′)
+  pub stepped-at : {top : ℕ} (v v′ : List Float) → LanesStep (problemOf m n s off cols vals) standard (laneData C) top v v′ → Stepped C (memoryAt m n s v) (memoryAt m n s v′)
   stepped-at v v′ S l a =
       numbers-at m n s off cols vals b c tol v′ l a
-      ∙ S .moved l a
+      ∙ S .taken l a
       ∙ rw (numbers-at m n s off cols vals b c tol v l a)
 
   module _ (N k : ℕ) (M : Memory) (g : Going C N k M) where
@@ -95,8 +99,7 @@ module _ (m n s : ℕ) (off cols : List ℕ) (vals b c tol : List Float) where
       shown = λ l a e. status-is l a ∙ (unfold laneStatus in ap (yields (C .problem) (C .settings) (laneData C l)) e ∙ (unfold yields in refl));
     }
 
-  -- ---- the end
-  -- where all the machines are done the memory has their x
+    -- where all the machines are done the memory has their x
   x-at : (k : ℕ) (v : List Float) (said : List Status) → 4 * n ≤ length v → Made C k (memoryAt m n s v) said → ((l : ℕ) → l < 4 → getD said l spoilt ≡ done)
       → memoryAt m n s v .x ≡ xAt C k
   x-at k v said room mk d =
@@ -112,6 +115,7 @@ module _ (m n s : ℕ) (off cols : List ℕ) (vals b c tol : List Float) where
   all-of said u e f =
       all-yes 4 (λ l _. getD said l spoilt) 0 (unfold allDone lowestUndone in eq-eqb (first 4 (λ l. not (isDone (getD said l spoilt)))) 4 (sym e ∙ f))
 
+  -- ---- the end
   module _ (N k : ℕ) (v : List Float) (said : List Status) (g : Going C N k (memoryAt m n s v)) (h : Says C (memoryAt m n s v) said) where
     pub run-spoilt : (r : ℕ) → r ≡ first 4 (λ l. isSpoilt (getD said l spoilt)) → r < 4 → Run C N (memoryAt m n s v) (noAt11 (k + 1) r)
     run-spoilt r e l = record {

@@ -5,9 +5,9 @@ ghost use Prim.Native.Nat.{ℕ, _+_, _*_, _<_, _≤_};
 ghost use lib.ListN.{length, getD};
 ghost use Rattle.machine.specs.declared.Status.the-variants.{Spoilt};
 ghost use Rattle.machine.specs.Work.{callOf, Says, Stepped};
-ghost use Rattle.links.specs.Planned.{RowsOf, ColsOf};
 ghost use Rattle.links.specs.Prepared.{Prepared};
 ghost use Rattle.tests.specs.Layout.{lAt, Lent};
+ghost use Rattle.step.specs.Steps.{Untouched};
 ghost use Rattle.run.specs.Tests.{memoryAt, Bears, Tested, Run};
 use machine::Outcome;
 use machine::Status;
@@ -81,7 +81,7 @@ fn step_at(
     statuses: [Status; 4],
 )
     requires { ⌜ Prepared (now off) (now cols) (now vals) m n s (now ap) (now ai) (now aj) (now ae) (now dp) (now di) (now dj) (now lp) (now ld) (now li) (now tp) (now ti) (now tm) (now cp) (now ci) (now cm) × Lent m n s (now b) (now c) (now tol) × (4 * (lAt n m s + length (now li)) ≤ length (now work)) × Says (callOf m n s (now off) (now cols) (now vals) (now b) (now c) (now tol)) (memoryAt m n s (now work)) statuses × ((l : ℕ) → l < 4 → getD statuses l Spoilt ≢ Spoilt) ⌝ }
-    ensures { λ _. ⌜ (length (now (work .exit)) ≡ length (now (work .entry))) × Stepped (callOf m n s (now (off .entry)) (now (cols .entry)) (now (vals .entry)) (now (b .entry)) (now (c .entry)) (now (tol .entry))) (memoryAt m n s (now (work .entry))) (memoryAt m n s (now (work .exit))) ⌝ }
+    ensures { λ _. ⌜ Untouched (lAt n m s + length (now (li .entry))) (now (work .entry)) (now (work .exit)) × Stepped (callOf m n s (now (off .entry)) (now (cols .entry)) (now (vals .entry)) (now (b .entry)) (now (c .entry)) (now (tol .entry))) (memoryAt m n s (now (work .entry))) (memoryAt m n s (now (work .exit))) ⌝ }
 {
     step_lanes(
         off, cols, vals, ap, ai, aj, ae, dp, di, dj, lp, ld, li, tp, ti, tm, cp, ci, cm, b, c, tol, work, m, n, s,
@@ -120,7 +120,7 @@ pub fn run(
     limit: usize,
 ) -> Outcome
     requires { ⌜ Prepared (now off) (now cols) (now vals) m n s (now ap) (now ai) (now aj) (now ae) (now dp) (now di) (now dj) (now lp) (now ld) (now li) (now tp) (now ti) (now tm) (now cp) (now ci) (now cm) × Lent m n s (now b) (now c) (now tol) × (4 * (lAt n m s + length (now li)) ≤ length (now work)) × (1 ≤ limit) ⌝ }
-    ensures { λ r. ⌜ (length (now (work .exit)) ≡ length (now (work .entry))) × Run (callOf m n s (now (off .entry)) (now (cols .entry)) (now (vals .entry)) (now (b .entry)) (now (c .entry)) (now (tol .entry))) limit (memoryAt m n s (now (work .exit))) r ⌝ }
+    ensures { λ r. ⌜ Untouched (lAt n m s + length (now (li .entry))) (now (work .entry)) (now (work .exit)) × Run (callOf m n s (now (off .entry)) (now (cols .entry)) (now (vals .entry)) (now (b .entry)) (now (c .entry)) (now (tol .entry))) limit (memoryAt m n s (now (work .exit))) r ⌝ }
 {
     normal_eqn_init(work, m, n, s);
     let mut k: usize = 0;

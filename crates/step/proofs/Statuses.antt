@@ -21,13 +21,19 @@ use Rattle.machine.specs.Outcome.{isDone}
 use Rattle.machine.specs.Work.{stepOf, stepBy}
 use Rattle.tests.specs.Layout.{yAt, wAt, numbersAt}
 use Rattle.step.specs.Steps.{Fresh, Took, LanesStep}
+use Rattle.step.proofs.Steps.{untouched, untouched-on}
 
 -- ---- the start
 pub fresh : (m n s : ℕ) {v w0 w1 w2 w3 w4 : List Float} → v ≡ lanes (λ t. startValue)
     → Fills 4 0 n (λ t. vec n (λ e. at v t)) w0 w1 → Fills 4 n n (λ t. vec n (λ e. at v t)) w1 w2
     → Fills 4 (yAt n) m (λ t. vec m (λ e. at v t)) w2 w3 → Fills 4 (wAt n m) s (λ t. vec s (λ e. at v t)) w3 w4 → Fresh m n s w0 w4
 fresh m n s {v} {w0} {w1} {w2} {w3} {w4} ev F1 F2 F3 F4 =
-    record { size = F4 .kept .size ∙ F3 .kept .size ∙ F2 .kept .size ∙ F1 .kept .size; all = λ t b i. record { x = ex t b i; z = ez t b i; y = ey t b i; w = ew t b i } }
+    record {
+      frame =
+          untouched-on (untouched (F1 .kept) (omega arith))
+          (untouched-on (untouched (F2 .kept) (omega arith)) (untouched-on (untouched (F3 .kept) (omega arith)) (untouched (F4 .kept) (omega arith))));
+      all = λ t b i. record { x = ex t b i; z = ez t b i; y = ey t b i; w = ew t b i };
+    }
   where
     te : (t : ℕ) → t < 4 → at v t ≡ startValue
     te t b = lane-of (λ t. startValue) ev t b
@@ -66,18 +72,18 @@ module _ (A : Problem) (H : Settings) (d : LaneData) (q : State) where
   by-status Done e n = refl
   by-status (Step t) e n = rw (status-mu t e)
 
-pub by-statuses : (A : Problem) (H : Settings) (d : ℕ → LaneData) {m : List Float} {done : List Bool} {old new : List Float} (statuses : List Status)
-    → Took A H d m done old new
+pub by-statuses : (A : Problem) (H : Settings) (d : ℕ → LaneData) {top : ℕ} {m : List Float} {done : List Bool} {old new : List Float} (statuses : List Status)
+    → Took A H d top m done old new
     → ((t : ℕ) → t < 4 → at m t ≡ mu A H (d t) (numbersAt (A .m) (A .n) (A .s) old t))
     → ((t : ℕ) → t < 4 → getD done t false ≡ isDone (getD statuses t Spoilt))
     → ((t : ℕ) → t < 4 → getD statuses t Spoilt ≡ status A H (d t) (numbersAt (A .m) (A .n) (A .s) old t))
     → ((t : ℕ) → t < 4 → getD statuses t Spoilt ≢ Spoilt)
-    → LanesStep A H d old new
-by-statuses A H d {m} {done} {old} {new} statuses T em ed ek ns =
+    → LanesStep A H d top old new
+by-statuses A H d {top} {m} {done} {old} {new} statuses T em ed ek ns =
     record {
-      size = T .size;
-      moved = λ t b.
-          T .moved t b
+      frame = T .frame;
+      taken = λ t b.
+          T .taken t b
           ∙ rw (em t b, ed t b, ek t b)
           (by-status A H (d t) (numbersAt (A .m) (A .n) (A .s) old t) (status A H (d t) (numbersAt (A .m) (A .n) (A .s) old t)) refl (λ z. ns t b (ek t b ∙ z)));
     }

@@ -1,5 +1,6 @@
 -- The calls of a step, one after the other, leave in each lane what the machine works out. Assumes nothing.
 use mathlib.Core.Path.{_≡_, refl, sym, ap, _∙_}
+use mathlib.Core.Logic.{inr}
 use mathlib.Core.Bool.{Bool, cond, false}
 use mathlib.Core.List.{List}
 use Prim.Native.Nat.{ℕ, _+_, _*_, _≤_, _<_}
@@ -23,7 +24,7 @@ use Rattle.links.specs.Planned.{RowsOf, ColsOf, LowOf, HighOf, Holds}
 use Rattle.tests.specs.Layout.{yAt, dyAt, rhsAt, wAt, dwAt, lAt, numbersAt, directionAt}
 use Rattle.tests.proofs.ToMachine.{row-plus, col-plus, front-machine, back-machine}
 use Rattle.tests.proofs.Tests.{reg-front}
-use Rattle.step.specs.Steps.{numbersIn, directionIn, changes, Still, RightSide, Changed, Directed, Advanced, Took}
+use Rattle.step.specs.Steps.{numbersIn, directionIn, changes, Untouched, Still, RightSide, Changed, Directed, Advanced, Took}
 
 -- a shorter region of the same start
 other-front : (ws : List Float) (k n t : ℕ) (mu : Float) (p : List Float) (r dr : ℕ) → k ≤ n → complement k mu p (reg 4 ws r k t) (reg 4 ws dr k t) ≡ complement k mu p (reg 4 ws r n t) (reg 4 ws dr n t)
@@ -56,6 +57,16 @@ module _ (A : Problem) (H : Settings) (d : LaneData) (q : State) where
 same : (p j : ℕ) {o k : ℕ} {old new : List Float} → Kept 4 o k old new → Apart p j o k → (t : ℕ) → t < 4 → reg 4 new p j t ≡ reg 4 old p j t
 same p j K a t b = kept-apart K a t b
 
+-- a call that writes a region below `top`
+pub untouched : {top o k : ℕ} {old new : List Float} → Kept 4 o k old new → o + k ≤ top → Untouched top old new
+untouched K h = record { size = K .size; beyond = λ j l. K .outside j (inr (omega arith)) }
+
+pub untouched-on : {top : ℕ} {a b c : List Float} → Untouched top a b → Untouched top b c → Untouched top a c
+untouched-on P Q = record { size = Q .size ∙ P .size; beyond = λ j l. Q .beyond j l ∙ P .beyond j l }
+
+pub untouched-wider : {top top′ : ℕ} {a b : List Float} → Untouched top a b → top ≤ top′ → Untouched top′ a b
+untouched-wider P h = record { size = P .size; beyond = λ j l. P .beyond j (omega arith) }
+
 module _ (A : Problem) where
   abbrev n : ℕ
   n = A .n
@@ -66,14 +77,18 @@ module _ (A : Problem) where
   abbrev s : ℕ
   s = A .s
 
-  nums-kept : {o k : ℕ} {old new : List Float} → Kept 4 o k old new → Apart 0 n o k → Apart n n o k → Apart (yAt n) m o k → Apart (wAt n m) s o k → Still A old new
-  nums-kept K ax az ay aw = record {
-    size = K .size;
+  nums-kept : (top : ℕ) {o k : ℕ} {old new : List Float} → Kept 4 o k old new → o + k ≤ top → Apart 0 n o k → Apart n n o k → Apart (yAt n) m o k → Apart (wAt n m) s o k
+      → Still A top old new
+  nums-kept top K h ax az ay aw = record {
+    frame = untouched K h;
     kept = λ t b i. record { x = kept-apart K ax t b i; z = kept-apart K az t b i; y = kept-apart K ay t b i; w = kept-apart K aw t b i };
   }
 
-  still-on : {a b c : List Float} → Still A a b → Still A b c → Still A a c
-  still-on P Q = record { size = Q .size ∙ P .size; kept = λ t b. Q .kept t b ∙ P .kept t b }
+  still-on : {top : ℕ} {a b c : List Float} → Still A top a b → Still A top b c → Still A top a c
+  still-on P Q = record { frame = untouched-on (P .frame) (Q .frame); kept = λ t b. Q .kept t b ∙ P .kept t b }
+
+  still-wider : {top top′ : ℕ} {a b : List Float} → Still A top a b → top ≤ top′ → Still A top′ a b
+  still-wider P h = record { frame = untouched-wider (P .frame) h; kept = P .kept }
 
   module _ (H : Settings) (d : ℕ → LaneData) (mu : List Float) where
     -- ---- the right-hand side: u, then f
@@ -84,11 +99,11 @@ module _ (A : Problem) where
           → RightSide A H d mu w0 w2
       right-side {w0} {w1} {w2} F1 F2 = record { still = still-on s1 s2; rhs = f }
         where
-          s1 : Still A w0 w1
-          s1 = nums-kept (F1 .kept) (before (omega arith)) (before (omega arith)) (after (omega arith)) (after (omega arith))
+          s1 : Still A (lAt n m s) w0 w1
+          s1 = nums-kept (lAt n m s) (F1 .kept) (omega arith) (before (omega arith)) (before (omega arith)) (after (omega arith)) (after (omega arith))
 
-          s2 : Still A w1 w2
-          s2 = nums-kept (F2 .kept) (before (omega arith)) (before (omega arith)) (before (omega arith)) (after (omega arith))
+          s2 : Still A (lAt n m s) w1 w2
+          s2 = nums-kept (lAt n m s) (F2 .kept) (omega arith) (before (omega arith)) (before (omega arith)) (before (omega arith)) (after (omega arith))
 
           u : (t : ℕ) → t < 4 → reg 4 w1 (4 * n) n t ≡ uOf A H (d t) (numbersIn A w0 t) (at mu t)
           u t b = F1 .within t b ∙ u-machine A H (d t) (numbersIn A w0 t) toff rows places C (at mu t)
@@ -115,14 +130,14 @@ module _ (A : Problem) where
         largest = ratio;
       }
         where
-          s1 : Still A w0 w1
-          s1 = nums-kept (F1 .kept) (before (omega arith)) (before (omega arith)) (after (omega arith)) (after (omega arith))
+          s1 : Still A (lAt n m s) w0 w1
+          s1 = nums-kept (lAt n m s) (F1 .kept) (omega arith) (before (omega arith)) (before (omega arith)) (after (omega arith)) (after (omega arith))
 
-          s2 : Still A w1 w2
-          s2 = nums-kept (F2 .kept) (before (omega arith)) (before (omega arith)) (after (omega arith)) (after (omega arith))
+          s2 : Still A (lAt n m s) w1 w2
+          s2 = nums-kept (lAt n m s) (F2 .kept) (omega arith) (before (omega arith)) (before (omega arith)) (after (omega arith)) (after (omega arith))
 
-          s3 : Still A w2 w3
-          s3 = nums-kept (F3 .kept) (before (omega arith)) (before (omega arith)) (before (omega arith)) (before (omega arith))
+          s3 : Still A (lAt n m s) w2 w3
+          s3 = nums-kept (lAt n m s) (F3 .kept) (omega arith) (before (omega arith)) (before (omega arith)) (before (omega arith)) (before (omega arith))
 
           dy2 : (t : ℕ) → t < 4 → reg 4 w2 (dyAt n m) m t ≡ reg 4 w0 (dyAt n m) m t
           dy2 t b = same (dyAt n m) m (F2 .kept) (after (omega arith)) t b ∙ same (dyAt n m) m (F1 .kept) (after (omega arith)) t b
@@ -167,18 +182,18 @@ module _ (A : Problem) where
           → ((t : ℕ) → t < 4 → Holds A ptr ind (reg 4 w2 (lAt n m s) E t) (cell (factor A (numbersIn A w1 t))))
           → Fills 4 (dyAt n m) m (λ t. back ptr tptr tind tmap (reg 4 w2 (lAt n m s) E t) m (front ptr ind m (reg 4 w2 (lAt n m s) E t) (reg 4 w2 (rhsAt n m) m t))) w2 w3
           → Changed A H d mu w3 w4 r
-          → Directed A H d mu w0 w4 r
+          → Directed A H d (lAt n m s + E) mu w0 w4 r
       directed {w0} {w1} {w2} {w3} {w4} {r} F K L S X = record {
-        still = still-on (still-on (still-on (F .still) s2) s3) (X .still);
+        still = still-on (still-on (still-on (still-wider (F .still) (omega arith)) s2) s3) (still-wider (X .still) (omega arith));
         worked = λ t b. X .worked t b ∙ along t b;
         largest = X .largest;
       }
         where
-          s2 : Still A w1 w2
-          s2 = nums-kept K (before (omega arith)) (before (omega arith)) (before (omega arith)) (before (omega arith))
+          s2 : Still A (lAt n m s + E) w1 w2
+          s2 = nums-kept (lAt n m s + E) K (omega arith) (before (omega arith)) (before (omega arith)) (before (omega arith)) (before (omega arith))
 
-          s3 : Still A w2 w3
-          s3 = nums-kept (S .kept) (before (omega arith)) (before (omega arith)) (before (omega arith)) (after (omega arith))
+          s3 : Still A (lAt n m s + E) w2 w3
+          s3 = nums-kept (lAt n m s + E) (S .kept) (omega arith) (before (omega arith)) (before (omega arith)) (before (omega arith)) (after (omega arith))
 
           f : (t : ℕ) → t < 4 → reg 4 w2 (rhsAt n m) m t ≡ fOf A H (d t) (numbersIn A w0 t) (at mu t)
           f t b = same (rhsAt n m) m K (before (omega arith)) t b ∙ F .rhs t b
@@ -208,8 +223,10 @@ module _ (m n s : ℕ) (done : List Bool) where
       → Fills 4 (wAt n m) s (λ t. moved s (at h t) (reg 4 w3 (wAt n m) s t) (reg 4 w3 (dwAt n m s) s t)) w3 w4
       → Advanced m n s r done w0 w4
   advanced {w0} {w1} {w2} {w3} {w4} {r} {g} {h} eg eh U1 U2 U3 U4 = record {
-    size = U4 .kept .size ∙ U3 .kept .size ∙ U2 .kept .size ∙ U1 .kept .size;
-    moved = λ t b. (λ i. record { x = ex t b i; z = ez t b i; y = ey t b i; w = ew t b i }) ∙ ap (by t) (hs t b);
+    frame =
+        untouched-on (untouched (U1 .kept) (omega arith))
+        (untouched-on (untouched (U2 .kept) (omega arith)) (untouched-on (untouched (U3 .kept) (omega arith)) (untouched (U4 .kept) (omega arith))));
+    taken = λ t b. (λ i. record { x = ex t b i; z = ez t b i; y = ey t b i; w = ew t b i }) ∙ ap (by t) (hs t b);
   }
     where
       by : ℕ → Float → State
@@ -244,8 +261,8 @@ module _ (m n s : ℕ) (done : List Bool) where
 
 -- ---- the step: worked out, and taken
 module _ (A : Problem) (d : ℕ → LaneData) (mu : List Float) (done : List Bool) where
-  pub took : {a b c r : List Float} → Directed A standard d mu a b r → Advanced (A .m) (A .n) (A .s) r done b c → Took A standard d mu done a c
-  took {a} {b} {c} {r} D N = record { size = N .size ∙ D .still .size; moved = λ t z. N .moved t z ∙ ap (by t) (length-is t z) ∙ to t z }
+  pub took : {top : ℕ} {a b c r : List Float} → Directed A standard d top mu a b r → Advanced (A .m) (A .n) (A .s) r done b c → lAt (A .n) (A .m) (A .s) ≤ top → Took A standard d top mu done a c
+  took {top} {a} {b} {c} {r} D N u = record { frame = untouched-on (D .still .frame) (untouched-wider (N .frame) u); taken = λ t z. N .taken t z ∙ ap (by t) (length-is t z) ∙ to t z }
     where
       by : ℕ → Float → State
       by t v = stepBy A (numbersIn A b t) (cond (getD done t false) null v) (directionIn A b t)

@@ -127,7 +127,7 @@ fn directions(
     mu: [f64; 4],
 ) -> [f64; 4]
     requires { ⌜ Prepared (now off) (now cols) (now vals) m n s (now ap) (now ai) (now aj) (now ae) (now dp) (now di) (now dj) (now lp) (now ld) (now li) (now tp) (now ti) (now tm) (now cp) (now ci) (now cm) × Lent m n s (now b) (now c) (now tol) × (4 * (lAt n m s + length (now li)) ≤ length (now work)) ⌝ }
-    ensures { λ r. ⌜ Directed (problemOf m n s (now (off .entry)) (now (cols .entry)) (now (vals .entry))) standard (laneData (callOf m n s (now (off .entry)) (now (cols .entry)) (now (vals .entry)) (now (b .entry)) (now (c .entry)) (now (tol .entry)))) mu (now (work .entry)) (now (work .exit)) r ⌝ }
+    ensures { λ r. ⌜ Directed (problemOf m n s (now (off .entry)) (now (cols .entry)) (now (vals .entry))) standard (laneData (callOf m n s (now (off .entry)) (now (cols .entry)) (now (vals .entry)) (now (b .entry)) (now (c .entry)) (now (tol .entry)))) (lAt n m s + length (now (li .entry))) mu (now (work .entry)) (now (work .exit)) r ⌝ }
 {
     let y = 5 * n;
     let dy = y + m;
@@ -224,7 +224,7 @@ fn normal_eqn_step(
     done: [bool; 4],
 )
     requires { ⌜ Prepared (now off) (now cols) (now vals) m n s (now ap) (now ai) (now aj) (now ae) (now dp) (now di) (now dj) (now lp) (now ld) (now li) (now tp) (now ti) (now tm) (now cp) (now ci) (now cm) × Lent m n s (now b) (now c) (now tol) × (4 * (lAt n m s + length (now li)) ≤ length (now work)) ⌝ }
-    ensures { λ _. ⌜ Took (problemOf m n s (now (off .entry)) (now (cols .entry)) (now (vals .entry))) standard (laneData (callOf m n s (now (off .entry)) (now (cols .entry)) (now (vals .entry)) (now (b .entry)) (now (c .entry)) (now (tol .entry)))) mu done (now (work .entry)) (now (work .exit)) ⌝ }
+    ensures { λ _. ⌜ Took (problemOf m n s (now (off .entry)) (now (cols .entry)) (now (vals .entry))) standard (laneData (callOf m n s (now (off .entry)) (now (cols .entry)) (now (vals .entry)) (now (b .entry)) (now (c .entry)) (now (tol .entry)))) (lAt n m s + length (now (li .entry))) mu done (now (work .entry)) (now (work .exit)) ⌝ }
 {
     let theta = directions(
         off, cols, vals, ap, ai, aj, ae, dp, di, dj, lp, ld, li, tp, ti, tm, cp, ci, cm, b, c, tol, work, m, n, s, mu,
@@ -292,7 +292,7 @@ pub fn step_lanes(
     statuses: [Status; 4],
 )
     requires { ⌜ Prepared (now off) (now cols) (now vals) m n s (now ap) (now ai) (now aj) (now ae) (now dp) (now di) (now dj) (now lp) (now ld) (now li) (now tp) (now ti) (now tm) (now cp) (now ci) (now cm) × Lent m n s (now b) (now c) (now tol) × (4 * (lAt n m s + length (now li)) ≤ length (now work)) × ((l : ℕ) → l < 4 → getD statuses l Spoilt ≡ status (problemOf m n s (now off) (now cols) (now vals)) standard (laneData (callOf m n s (now off) (now cols) (now vals) (now b) (now c) (now tol)) l) (numbersAt m n s (now work) l)) × ((l : ℕ) → l < 4 → getD statuses l Spoilt ≢ Spoilt) ⌝ }
-    ensures { λ _. ⌜ LanesStep (problemOf m n s (now (off .entry)) (now (cols .entry)) (now (vals .entry))) standard (laneData (callOf m n s (now (off .entry)) (now (cols .entry)) (now (vals .entry)) (now (b .entry)) (now (c .entry)) (now (tol .entry)))) (now (work .entry)) (now (work .exit)) ⌝ }
+    ensures { λ _. ⌜ LanesStep (problemOf m n s (now (off .entry)) (now (cols .entry)) (now (vals .entry))) standard (laneData (callOf m n s (now (off .entry)) (now (cols .entry)) (now (vals .entry)) (now (b .entry)) (now (c .entry)) (now (tol .entry)))) (lAt n m s + length (now (li .entry))) (now (work .entry)) (now (work .exit)) ⌝ }
 {
     let g = gamma(work, m, n, s);
     let mu = mu_in(g, n, s);
