@@ -19,7 +19,9 @@ use Rattle.lists.proofs.Sizes.{plan-size}
 use Rattle.lists.proofs.Counts.{held-stored}
 use Rattle.rows.proofs.Spans.{cut-length}
 use Rattle.sparse.specs.Sparse.{cut}
-use Rattle.machine.specs.Outcome.{Outcome, accepted, noAt11, noAt12, Call, solved, xAt}
+use Rattle.machine.specs.declared.Outcome.{Outcome}
+use Rattle.machine.specs.declared.Outcome.the-variants.{Accepted as accepted, NoAt11 as noAt11, NoAt12 as noAt12}
+use Rattle.machine.specs.Outcome.{Call, solved, xAt}
 use Rattle.machine.specs.Demand3.{Memory, Buffers, outputAfter, leaves, Demand3}
 use Rattle.machine.proofs.Demand3.{solved-ends, demand3}
 use Rattle.links.proofs.Low.{row-cut}

@@ -7,7 +7,9 @@ use lib.Ieee.{Float}
 use Rattle.csr.specs.Csr.{Accepted}
 use Rattle.csr.specs.Counts.{countE, countS, countD, sizeW, sizeF}
 use Rattle.lists.specs.Lists.{planWords}
-use Rattle.machine.specs.Outcome.{Outcome, accepted, noAt11, noAt12, largestLimit, solved}
+use Rattle.machine.specs.declared.Outcome.{Outcome}
+use Rattle.machine.specs.declared.Outcome.the-variants.{Accepted as accepted, NoAt11 as noAt11, NoAt12 as noAt12}
+use Rattle.machine.specs.Outcome.{largestLimit, solved}
 use Rattle.machine.specs.Demand3.{Buffers, leaves, Demand3}
 use Rattle.csr.specs.Verdict.{Verdict, passed, andThen}
 use Rattle.tests.specs.Layout.{lAt, Lent}

@@ -12,7 +12,9 @@ use Rattle.csr.specs.Counts.{countE, sizeW, sizeF}
 use Rattle.csr.specs.Pattern.{has, row}
 use Rattle.lists.specs.Lists.{shape, listOf, planWords}
 use Rattle.lists.specs.declared.Which.the-variants.{Lindptr, Lindices}
-use Rattle.machine.specs.Outcome.{Outcome, accepted, noAt11, noAt12, largestLimit, Call, solved}
+use Rattle.machine.specs.declared.Outcome.{Outcome}
+use Rattle.machine.specs.declared.Outcome.the-variants.{Accepted as accepted, NoAt11 as noAt11, NoAt12 as noAt12}
+use Rattle.machine.specs.Outcome.{largestLimit, Call, solved}
 use Rattle.machine.specs.Demand3.{Buffers, leaves, Demand3}
 use Rattle.machine.specs.Work.{callOf}
 use Rattle.ipm_simd.specs.declared.SolveAnswer.{SolveAnswer}

@@ -8,7 +8,7 @@ ghost use Rattle.csr.specs.Csr.{Accepted};
 ghost use Rattle.csr.specs.Counts.{countE, countS, countD};
 ghost use Rattle.csr.specs.Verdict.{told as toldAsked};
 ghost use Rattle.lanes.specs.Arithmetic.{null};
-ghost use Rattle.machine.specs.Outcome.{noAt11};
+ghost use Rattle.machine.specs.declared.Outcome.the-variants.{NoAt11};
 ghost use Rattle.machine.specs.Work.{callOf};
 ghost use Rattle.step.specs.Steps.{Untouched};
 ghost use Rattle.run.specs.Tests.{memoryAt, Run};
@@ -193,7 +193,7 @@ fn clear_front(work: &mut [f64], k: usize)
 
 // The answer, and on acceptance the output.
 fn report(outcome: Outcome, output: &mut [f64], work: &[f64]) -> SolveAnswer
-    requires { ⌜ (length (now output) ≤ length (now work)) × ((k l : ℕ) → outcome ≡ noAt11 k l → l < 4) ⌝ }
+    requires { ⌜ (length (now output) ≤ length (now work)) × ((k l : ℕ) → outcome ≡ NoAt11 k l → l < 4) ⌝ }
     ensures { λ r. ⌜ (told r ≡ outcomeVerdict outcome) × (now (output .exit) ≡ written outcome (take (length (now (output .entry))) (now (work .entry))) (now (output .entry))) ⌝ }
 {
     match outcome {

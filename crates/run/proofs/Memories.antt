@@ -31,7 +31,7 @@ quads-ext k u v p q h =
     ext-getD nan u v (p ∙ sym q)
     (λ i b.
     let r : i % 4 < 4 = mod-lt i (omega arith) in
-    let z : i / 4 < k = div-lt-iff-lt-mul {k = 4} {x = i} {y = k} (omega arith) .0 (omega arith) in
+    let z : i / 4 < k = div-lt-iff-lt-mul {k = 4} {x = i} {y = k} (omega arith) .1 (omega arith) in
     let w : 4 * (i / 4) + i % 4 ≡ i = omega (arith, div-add-mod' i 4) in
     ap (at u) (sym w) ∙ h (i / 4) (i % 4) z r ∙ ap (at v) w)
 

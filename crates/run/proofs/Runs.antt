@@ -11,8 +11,12 @@ use lib.Ieee.{Float}
 use Rattle.lanes.specs.Lists.{at, first, lane}
 use Rattle.lanes.proofs.Lists.{vec-length, lane-at, first-under}
 use Rattle.lanes.proofs.Quads.{four-lanes}
-use Rattle.machine.specs.Machine.{State, Machine, live, lost, Status, spoilt, done, steps, standard, status, yields}
-use Rattle.machine.specs.Outcome.{Outcome, accepted, noAt11, noAt12, isSpoilt, isDone, allDone, lowestUndone, Call, laneData, laneMachine, laneStatus, xOf, xAt}
+use Rattle.machine.specs.Machine.{State, Machine, live, lost, standard, status, yields}
+use Rattle.machine.specs.declared.Status.{Status}
+use Rattle.machine.specs.declared.Status.the-variants.{Spoilt as spoilt, Done as done}
+use Rattle.machine.specs.declared.Outcome.{Outcome}
+use Rattle.machine.specs.declared.Outcome.the-variants.{Accepted as accepted, NoAt11 as noAt11, NoAt12 as noAt12}
+use Rattle.machine.specs.Outcome.{isSpoilt, isDone, allDone, lowestUndone, Call, laneData, laneMachine, laneStatus, xOf, xAt}
 use Rattle.machine.specs.Demand3.{Memory, Has, numbers, Reads, AtTest, Made}
 use Rattle.machine.specs.Work.{callOf, problemOf, Says, Stepped, Ran}
 use Rattle.machine.proofs.Machines.{slot, lane-live, output-at}
@@ -45,13 +49,13 @@ module _ (m n s : ℕ) (off cols : List ℕ) (vals b c tol : List Float) where
   C = callOf m n s off cols vals b c tol
 
   -- what the tests say of a lane: what its numbers in the memory yield
-  says-of : (v : List Float) {said : List Status}
+  says-of : (v : List Float) (said : List Status)
       → ((l : ℕ) → l < 4 → getD said l spoilt ≡ status (problemOf m n s off cols vals) standard (laneData C l) (numbersAt m n s v l)) → Says C (memoryAt m n s v) said
-  says-of v h l a = h l a ∙ ap (status (problemOf m n s off cols vals) standard (laneData C l)) (sym (numbers-at m n s off cols vals b c tol v l a))
+  says-of v said h l a = h l a ∙ ap (status (problemOf m n s off cols vals) standard (laneData C l)) (sym (numbers-at m n s off cols vals b c tol v l a))
 
-  pub said-at : (v : List Float) {said : List Status} → Says C (memoryAt m n s v) said
+  pub said-at : (v : List Float) (said : List Status) → Says C (memoryAt m n s v) said
       → (l : ℕ) → l < 4 → getD said l spoilt ≡ status (problemOf m n s off cols vals) standard (laneData C l) (numbersAt m n s v l)
-  said-at v h l a = h l a ∙ ap (status (problemOf m n s off cols vals) standard (laneData C l)) (numbers-at m n s off cols vals b c tol v l a)
+  said-at v said h l a = h l a ∙ ap (status (problemOf m n s off cols vals) standard (laneData C l)) (numbers-at m n s off cols vals b c tol v l a)
 
   -- ---- the test
   yields-of : (k : ℕ) (M : Memory) → Bears C k M → (l : ℕ) → l < 4 → status (C .problem) (C .settings) (laneData C l) (numbers C M l) ≡ laneStatus C l k
@@ -63,12 +67,12 @@ module _ (m n s : ℕ) (off cols : List ℕ) (vals b c tol : List Float) where
       go (live q) e f = ap (status (C .problem) (C .settings) (laneData C l)) e ∙ (unfold yields in refl)
       go lost e f = f refl ∙ (unfold yields in refl)
 
-  pub tested-at : (k : ℕ) (v : List Float) {said : List Status} → Bears C k (memoryAt m n s v)
+  pub tested-at : (k : ℕ) (v : List Float) (said : List Status) → Bears C k (memoryAt m n s v)
       → ((l : ℕ) → l < 4 → getD said l spoilt ≡ status (problemOf m n s off cols vals) standard (laneData C l) (numbersAt m n s v l))
       → Tested C k (memoryAt m n s v) said
-  tested-at k v B h = record {
-    made = record { has = B .reads; says = λ l a. says-of v h l a ∙ yields-of k (memoryAt m n s v) B l a };
-    says = says-of v h;
+  tested-at k v said B h = record {
+    made = record { has = B .reads; says = λ l a. says-of v said h l a ∙ yields-of k (memoryAt m n s v) B l a };
+    says = says-of v said h;
   }
 
   -- ---- the step

@@ -4,8 +4,12 @@ use mathlib.Core.List.{List}
 use Prim.Native.Nat.{ℕ, _+_, _*_, _<_}
 use lib.Ieee.{Float}
 use Rattle.sparse.specs.Sparse.{cut}
-use Rattle.machine.specs.Machine.{lost, spoilt, Status, status}
-use Rattle.machine.specs.Outcome.{Outcome, accepted, Call, laneData, laneMachine, xAt}
+use Rattle.machine.specs.Machine.{lost, status}
+use Rattle.machine.specs.declared.Status.{Status}
+use Rattle.machine.specs.declared.Status.the-variants.{Spoilt as spoilt}
+use Rattle.machine.specs.declared.Outcome.{Outcome}
+use Rattle.machine.specs.declared.Outcome.the-variants.{Accepted as accepted}
+use Rattle.machine.specs.Outcome.{Call, laneData, laneMachine, xAt}
 use Rattle.machine.specs.Demand3.{Memory, numbers, Reads, AtTest}
 use Rattle.machine.specs.Work.{Says, Ran}
 use Rattle.tests.specs.Layout.{yAt, wAt}
