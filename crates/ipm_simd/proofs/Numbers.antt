@@ -47,6 +47,9 @@ cleared-next old new v i e h =
     ∙ put-next (replicate i v) old i v (length-replicate i v) h
     ∙ ap (λ (x : List Float). x ++ drop (i + 1) old) (replicate-next i v)
 
+pub cleared-all : (old new : List Float) (v : Float) (i k : ℕ) → new ≡ replicate i v ++ drop i old → i ≡ k → new ≡ replicate k v ++ drop k old
+cleared-all old new v i k e h = e ∙ ap (λ (j : ℕ). replicate j v ++ drop j old) h
+
 -- what lies behind the entries that were touched
 pub rest-same : (top k : ℕ) (old new : List Float) → Untouched top old new → k ≡ 4 * top → drop k new ≡ drop k old
 rest-same top k old new U e =

@@ -1,6 +1,6 @@
 -- What a yes at each of the questions says. Assumes nothing.
 use mathlib.Core.Path.{_≡_, refl, sym, ap, _∙_}
-use mathlib.Core.Bool.{Bool, true, false, _&&_}
+use mathlib.Core.Bool.{Bool, true, false, not, _&&_}
 use mathlib.Core.List.{List}
 use Prim.Native.Nat.{ℕ, _+_, _*_, _≤_}
 use native.Mathlib.Omega.{arith}
@@ -8,7 +8,7 @@ use borrow.Author.Tests.{eqb-true, leb-true}
 use lib.Dec.{eqb, leb, ltb}
 use lib.ListN.{length, getD}
 use Rattle.csr.specs.Verdict.{Verdict, passed, refused, ask}
-use Rattle.csr.specs.Questions.{firstNo, offsetsRight}
+use Rattle.csr.specs.Questions.{maxEntries, firstFrom, falls, firstNo, offsetsRight}
 use Rattle.csr.proofs.Right.{and-left, and-right}
 use Rattle.machine.specs.Outcome.{largestLimit}
 use Rattle.ipm_simd.specs.Solve.{lengthsRight, sizesVerdict}
@@ -25,7 +25,9 @@ values-of m n off cols values h =
     let h1 = asked (leb 1 m && leb m 256) _ 1 0 0 h in
     let h2 = asked (leb 1 n && leb n 1024) _ 2 0 0 (h1 .1) in
     let h3 = asked (offsetsRight m off (length cols) values) _ 3 0 0 (h2 .1) in
-    eqb-true values (length cols) (and-right _ (eqb values (length cols)) (h3 .0))
+    let others =
+    eqb (length off) (m + 1) && eqb (getD off 0 0) 0 && not (ltb (firstFrom (falls off) 0 m) m) && eqb (getD off m 0) (length cols) && not (ltb maxEntries (length cols)) in
+    eqb-true values (length cols) (and-right others (eqb values (length cols)) (h3 .0))
 
 -- questions 6 to 10
 pub record Sizes (W E m n s index b c tolerances output work N : ℕ) : Type 0 where
