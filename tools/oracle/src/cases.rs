@@ -164,12 +164,8 @@ fn solve_cases(random: &mut Random) -> Result<Vec<Vec<u8>>, String> {
 
 /// The patterns that document 01 tries, every two by two, a full one, and random ones.
 fn plan_matrices(random: &mut Random) -> Vec<Matrix> {
-    let named: [(usize, &[&[usize]]); 4] = [
-        (1, &[&[0]]),
-        (2, &[&[0, 1], &[0], &[1]]),
-        (2, &[&[0], &[1], &[0, 1]]),
-        (3, &[&[0, 1], &[1, 2], &[0], &[2]]),
-    ];
+    let named: [(usize, &[&[usize]]); 4] =
+        [(1, &[&[0]]), (2, &[&[0, 1], &[0], &[1]]), (2, &[&[0], &[1], &[0, 1]]), (3, &[&[0, 1], &[1, 2], &[0], &[2]])];
     let rows = |rows: &[&[usize]]| rows.iter().map(|row| row.to_vec()).collect::<Vec<_>>();
     let mut matrices: Vec<Matrix> = named.iter().map(|&(n, lists)| Matrix::from_rows(n, &rows(lists))).collect();
     let choices: [&[usize]; 3] = [&[0], &[1], &[0, 1]];

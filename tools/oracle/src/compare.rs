@@ -11,6 +11,9 @@ use crate::questions::Room;
 use crate::random::Random;
 use crate::reference::{self, Run};
 
+/// Whether a number is of a kind.
+type Is = fn(&f64) -> bool;
+
 /// How many differences are shown whole.
 const SHOWN: usize = 5;
 
@@ -56,7 +59,9 @@ impl Comparison {
             let fault = match backend.solve(problem) {
                 Ok(None) => continue,
                 Ok(Some(told)) if told.answer != run.answer => format!("answers {:?}", told.answer),
-                Ok(Some(told)) if told.tests.as_ref().is_some_and(|tests| !agree(tests, &run.tests)) => "has other tests".into(),
+                Ok(Some(told)) if told.tests.as_ref().is_some_and(|tests| !agree(tests, &run.tests)) => {
+                    "has other tests".into()
+                }
                 Ok(Some(_)) => {
                     *self.counts.entry(format!("solves compared: {name}")).or_insert(0) += 1;
                     continue;
@@ -96,14 +101,24 @@ impl Comparison {
             }
         }
         let (s, m) = (problem.s, problem.matrix.m);
-        self.count(format!("slack rows: {}", if s == 0 { "none" } else if s == m { "all" } else { "some" }));
+        self.count(format!(
+            "slack rows: {}",
+            if s == 0 {
+                "none"
+            } else if s == m {
+                "all"
+            } else {
+                "some"
+            }
+        ));
         self.count_numbers(problem);
     }
 
     fn count_numbers(&mut self, problem: &Problem) {
-        let lists = [("values", &problem.values), ("b", &problem.b), ("c", &problem.c), ("tolerances", &problem.tolerances)];
+        let lists =
+            [("values", &problem.values), ("b", &problem.b), ("c", &problem.c), ("tolerances", &problem.tolerances)];
         for (list, numbers) in lists {
-            let kinds: [(&str, fn(&f64) -> bool); 5] = [
+            let kinds: [(&str, Is); 5] = [
                 ("+0.0", |p| p.to_bits() == 0),
                 ("-0.0", |p| p.to_bits() == 1 << 63),
                 ("a subnormal", |p| p.is_subnormal()),
@@ -224,7 +239,7 @@ fn compare_one_by_one(comparison: &mut Comparison) {
                     s,
                     b: lanes.map(|(b, _)| b).to_vec(),
                     c: lanes.map(|(_, c)| c).to_vec(),
-                    tolerances: vec![1e300, 1e300, tolerance, tolerance].repeat(3),
+                    tolerances: [1e300, 1e300, tolerance, tolerance].repeat(3),
                     limit: 30,
                 };
                 comparison.solve("one by one, all edges", &problem);

@@ -16,17 +16,20 @@ pub enum Verdict {
     Steps,
 }
 
+/// A row or column: where each entry is, and a number.
+type Entries = Vec<(usize, f64)>;
+
 /// The matrix as the machine reads it, the same for every lane.
 pub struct Shape {
     m: usize,
     n: usize,
     s: usize,
     /// (column, value) of each row's entries, columns rising.
-    rows: Vec<Vec<(usize, f64)>>,
+    rows: Vec<Entries>,
     /// (row, value) of each column's entries, rows rising.
-    columns: Vec<Vec<(usize, f64)>>,
+    columns: Vec<Entries>,
     /// For each pair (i, j) of the factor, rows then columns rising: the products a_ie a_je with their columns.
-    factor: Vec<Vec<(usize, Vec<(usize, f64)>)>>,
+    factor: Vec<Vec<(usize, Entries)>>,
     /// Whether the factor has (i, j).
     has: Vec<Vec<bool>>,
 }
@@ -185,9 +188,8 @@ impl<'a> Machine<'a> {
     }
 
     fn right_side(&self, mu: f64, aty: &[f64]) -> Vec<f64> {
-        let u: Vec<f64> = (0..self.shape.n)
-            .map(|e| self.x[e] * (self.c[e] - aty[e] + mu / self.x[e]) / self.z[e])
-            .collect();
+        let u: Vec<f64> =
+            (0..self.shape.n).map(|e| self.x[e] * (self.c[e] - aty[e] + mu / self.x[e]) / self.z[e]).collect();
         let entry = |i: usize| {
             let start = if i < self.shape.s { mu / self.y[i] } else { 0.0 };
             let v = self.shape.rows[i].iter().fold(start, |total, &(e, a)| total + a * self.x[e]);
@@ -249,12 +251,10 @@ impl<'a> Machine<'a> {
     }
 
     fn step_length(&self, change: &Change) -> f64 {
-        let columns = (0..self.shape.n).fold(0.0, |theta, e| {
-            larger(larger(theta, -change.x[e] / self.x[e]), -change.z[e] / self.z[e])
-        });
-        let slacks = (0..self.shape.s).fold(0.0, |theta, i| {
-            larger(larger(theta, -change.w[i] / self.w[i]), -change.y[i] / self.y[i])
-        });
+        let columns = (0..self.shape.n)
+            .fold(0.0, |theta, e| larger(larger(theta, -change.x[e] / self.x[e]), -change.z[e] / self.z[e]));
+        let slacks = (0..self.shape.s)
+            .fold(0.0, |theta, i| larger(larger(theta, -change.w[i] / self.w[i]), -change.y[i] / self.y[i]));
         smaller(DAMPING / larger(columns, slacks), 1.0)
     }
 
@@ -262,12 +262,8 @@ impl<'a> Machine<'a> {
     pub fn step(&mut self) {
         let change = self.change();
         let h = self.step_length(&change);
-        let moves = [
-            (&mut self.x, &change.x),
-            (&mut self.z, &change.z),
-            (&mut self.y, &change.y),
-            (&mut self.w, &change.w),
-        ];
+        let moves =
+            [(&mut self.x, &change.x), (&mut self.z, &change.z), (&mut self.y, &change.y), (&mut self.w, &change.w)];
         for (numbers, changes) in moves {
             for (p, dp) in numbers.iter_mut().zip(changes) {
                 *p = 1.0 * *p + h * dp;

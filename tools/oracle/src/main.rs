@@ -15,6 +15,8 @@ mod random;
 mod reading;
 mod record;
 mod reference;
+#[cfg(ipm_c)]
+mod rooms;
 mod unchanged;
 
 use std::io::{Read, Write};
@@ -125,6 +127,8 @@ fn compare(seed: u64, scale: usize) -> Result<(), String> {
     println!("seed {seed}, scale {scale}");
     let mut comparison = compare::Comparison::new(backends());
     compare::compare_all(&mut comparison, seed, scale);
+    #[cfg(ipm_c)]
+    rooms::compare(&mut comparison, &mut random::Random::new(seed), 10 * scale);
     if comparison.report() { Ok(()) } else { Err("there are differences".into()) }
 }
 

@@ -16,6 +16,10 @@ fn problem(n: usize, rows: &[&[usize]], s: usize, tolerance: f64) -> Problem {
     }
 }
 
+fn with_right_sides(problem: Problem, b: &[f64]) -> Problem {
+    Problem { b: b.iter().flat_map(|&number| [number; LANES]).collect(), ..problem }
+}
+
 /// Lane 0 of the Rust's x, or its panic, in one line.
 fn outcome(problem: &Problem) -> String {
     let (end, tests) = solve_watched(problem);
@@ -33,20 +37,19 @@ fn diagonal(problem: &Problem) -> String {
 }
 
 fn empty_rows() {
-    let shapes: [(&str, &[&[usize]]); 6] = [
-        ("{}", &[&[]]),
-        ("{} {0}", &[&[], &[0]]),
-        ("{0} {}", &[&[0], &[]]),
-        ("{0} {} {0}", &[&[0], &[], &[0]]),
-        ("{0} {} {0} {0}", &[&[0], &[], &[0], &[0]]),
-        ("{0} {0} {} {0}", &[&[0], &[0], &[], &[0]]),
-    ];
-    for (name, rows) in shapes {
-        println!("empty row, rows {name}: {}", diagonal(&problem(1, rows, 0, 1e-8)));
+    let shapes: [&[&[usize]]; 6] =
+        [&[&[]], &[&[], &[0]], &[&[0], &[]], &[&[0], &[], &[0]], &[&[0], &[], &[1]], &[&[0], &[0], &[], &[0]]];
+    for rows in shapes {
+        let n = 1 + rows.concat().into_iter().max().unwrap_or(0);
+        println!("empty row, rows {rows:?}: {}", diagonal(&problem(n, rows, 0, 1e-8)));
         for s in [0, rows.len()] {
-            println!("    s {s}: {}", outcome(&problem(1, rows, s, 1e-8)));
+            println!("    s {s}: {}", outcome(&problem(n, rows, s, 1e-8)));
         }
     }
+    let unnoticed = with_right_sides(problem(2, &[&[0], &[], &[1]], 0, 1e-8), &[1.0, 0.0, 1.0]);
+    println!("empty row, rows [[0], [], [1]], s 0, b 1 0 1: {}", outcome(&unnoticed));
+    let slack = with_right_sides(problem(1, &[&[0], &[], &[0]], 3, 1e-8), &[1.0, 0.0, 1.0]);
+    println!("empty row, rows [[0], [], [0]], s 3, b 1 0 1: {}", outcome(&slack));
 }
 
 fn sizes() {

@@ -129,8 +129,7 @@ pub fn lists(matrix: &Matrix) -> Lists {
     let stored = pattern(matrix);
     let pairs = products(&stored);
     let shared: Vec<_> = pairs.iter().map(|(i, j, _)| shared_places(matrix, *i, *j)).collect();
-    let factor_rows: Vec<Vec<usize>> =
-        stored.iter().map(|row| (0..row.len()).filter(|&j| row[j]).collect()).collect();
+    let factor_rows: Vec<Vec<usize>> = stored.iter().map(|row| (0..row.len()).filter(|&j| row[j]).collect()).collect();
     let starts = running(factor_rows.iter().map(Vec::len));
     let place = |i: usize, k: usize| starts[i] as usize + stored[i][..k].iter().filter(|&&yes| yes).count();
     let each = || pairs.iter().flat_map(|(i, j, ks)| ks.iter().map(move |&k| (*i, *j, k)));

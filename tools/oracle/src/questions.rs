@@ -1,9 +1,7 @@
 //! Document 01's questions 1 to 10, in order.
 
 use crate::plan::{Counts, counts, plan_words, work_numbers};
-use crate::problem::{
-    LANES, MOST_COLUMNS, MOST_ENTRIES, MOST_ROWS, MOST_TESTS, Matrix, Problem, Refusal,
-};
+use crate::problem::{LANES, MOST_COLUMNS, MOST_ENTRIES, MOST_ROWS, MOST_TESTS, Matrix, Problem, Refusal};
 
 /// The lengths of the memory lent beside the problem.
 #[derive(Clone, Copy, Debug, PartialEq, Eq)]

@@ -33,11 +33,8 @@ fn solve_raw(problem: &Problem) -> Vec<f64> {
     let values = problem.values.clone();
     let mut solver = PathFollowingDirectSimdSolver::from_data(matrix.m, matrix.n, offsets, columns, values, problem.s);
     let tolerances = four(&problem.tolerances);
-    let tolerances = Tolerances {
-        primal_feasibility: tolerances[0],
-        dual_feasibility: tolerances[1],
-        optimality: tolerances[2],
-    };
+    let tolerances =
+        Tolerances { primal_feasibility: tolerances[0], dual_feasibility: tolerances[1], optimality: tolerances[2] };
     let limit = NonZeroUsize::new(problem.limit).expect("a limit above 0");
     let x = solver.solve(&four(&problem.b), &four(&problem.c), &tolerances, limit);
     x.iter().flat_map(|entry| entry.to_array()).collect()
