@@ -58,12 +58,9 @@ fn lane_tolerances(by_lane: [f64; LANES]) -> Vec<f64> {
     by_lane.repeat(3)
 }
 
-/// Rows and right sides above zero, so that most lanes are solved; right sides of a size of their own in each lane.
-pub fn solvable(random: &mut Random, most_rows: usize, most_columns: usize) -> Problem {
-    let (m, n) = (random.between(1, most_rows), random.between(1, most_columns));
-    let tenths = random.between(1, 8);
-    let matrix = matrix(random, m, n, tenths);
-    let mut values = floats(random, matrix.entries(), 0.1, 5.0);
+/// Values above zero, with some zeros of either sign and some below.
+fn plain_values(random: &mut Random, count: usize) -> Vec<f64> {
+    let mut values = floats(random, count, 0.1, 5.0);
     for value in values.iter_mut() {
         match random.below(40) {
             0 => *value = 0.0,
@@ -72,18 +69,47 @@ pub fn solvable(random: &mut Random, most_rows: usize, most_columns: usize) -> P
             _ => {}
         }
     }
+    values
+}
+
+/// Gives b and c such that some x, w, y and z above zero meet every row and column, so that a best x exists. The
+/// numbers have a size of their own in each lane.
+fn give_sides(random: &mut Random, problem: &mut Problem) {
+    let (m, n) = (problem.matrix.m, problem.matrix.n);
     let scales: [f64; LANES] = std::array::from_fn(|_| random.pick(&[0.01, 1.0, 1.0, 100.0, 1e6]));
-    let b = (0..LANES * m).map(|k| random.float(1.0, 50.0) * scales[k % LANES]).collect();
+    let x = floats(random, LANES * n, 0.5, 5.0);
+    let y = floats(random, LANES * m, 0.1, 3.0);
+    let rests = floats(random, LANES * m, 0.1, 9.0);
+    problem.b =
+        (0..LANES * m).map(|k| if k / LANES < problem.s { rests[k] * scales[k % LANES] } else { 0.0 }).collect();
+    problem.c = floats(random, LANES * n, -2.0, -0.1);
+    for i in 0..m {
+        for place in problem.matrix.places(i) {
+            let (e, a) = (problem.matrix.columns[place] as usize, problem.values[place]);
+            for l in 0..LANES {
+                problem.b[LANES * i + l] += a * x[LANES * e + l] * scales[l];
+                problem.c[LANES * e + l] += a * y[LANES * i + l];
+            }
+        }
+    }
+}
+
+/// A problem that has a best x in each lane.
+pub fn solvable(random: &mut Random, most_rows: usize, most_columns: usize) -> Problem {
+    let (m, n) = (random.between(1, most_rows), random.between(1, most_columns));
+    let tenths = random.between(1, 8);
+    let matrix = matrix(random, m, n, tenths);
     let by_lane = std::array::from_fn(|_| random.pick(&[1e-8, 1e-8, 1e-8, 1e-6, 1e-2, 1.0]));
-    Problem {
+    let mut problem = Problem {
+        values: plain_values(random, matrix.entries()),
         s: slack_rows(random, m),
-        values,
-        b,
-        c: floats(random, LANES * n, -1.0, 10.0),
         tolerances: lane_tolerances(by_lane),
         limit: 120,
         matrix,
-    }
+        ..Problem::default()
+    };
+    give_sides(random, &mut problem);
+    problem
 }
 
 /// A solvable problem in which one lane is done at once or soon, and the others are slow.
@@ -115,7 +141,7 @@ pub fn edges(random: &mut Random, most_rows: usize, most_columns: usize) -> Prob
     problem
 }
 
-/// One lane has an edge number in b or c, so that it is spoilt alone; the rest is solvable.
+/// One lane has an edge number in b or c, so that it is spoilt alone; the others have a best x.
 pub fn one_bad_lane(random: &mut Random) -> Problem {
     let mut problem = solvable(random, 4, 5);
     let bad = random.below(LANES);
