@@ -7,7 +7,7 @@ use std::path::Path;
 
 use crate::backend::Backend;
 use crate::generate;
-use crate::problem::{Answer, LANES, Matrix, Problem};
+use crate::problem::{Answer, LANES, MOST_TESTS, Matrix, Problem};
 use crate::questions::Room;
 use crate::random::Random;
 use crate::record::{READING, read, write};
@@ -121,7 +121,7 @@ fn full(m: usize, n: usize, t: usize) -> Problem {
 }
 
 fn random_problems(random: &mut Random) -> Vec<Problem> {
-    let mut problems = vec![full(16, 8, 128), full(4, 32, 128)];
+    let mut problems = vec![full(16, 8, 128), full(4, 32, 128), generate::never_done().with_limit(MOST_TESTS)];
     for _ in 0..OF_EACH_KIND {
         problems.push(generate::solvable(random, 3, 3));
         problems.push(generate::early(random));

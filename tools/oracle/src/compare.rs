@@ -6,7 +6,7 @@ use crate::backend::{Backend, Test};
 use crate::generate;
 use crate::machine::factor_pattern;
 use crate::plan::pattern;
-use crate::problem::{Answer, LANES, MOST_TESTS, Matrix, Problem};
+use crate::problem::{Answer, LANES, MOST_COLUMNS, MOST_ENTRIES, MOST_ROWS, MOST_TESTS, Matrix, Problem};
 use crate::questions::Room;
 use crate::random::Random;
 use crate::reference::{self, Run};
@@ -270,9 +270,23 @@ fn compare_two_by_two(comparison: &mut Comparison) {
     }
 }
 
+/// Sizes and limits at their largest, and one beyond.
+fn compare_boundaries(comparison: &mut Comparison) {
+    let (m, n, t) = (MOST_ROWS, MOST_COLUMNS, MOST_ENTRIES);
+    for (m, n, t) in [(m, n, t), (m + 1, n, t), (m, n + 1, t), (m, n, t + 1), (m, 64, t), (1, n, n)] {
+        let problem = generate::sized(m, n, t, 1e9);
+        comparison.plan("largest sizes", &problem.matrix);
+        comparison.solve("largest sizes", &problem);
+    }
+    for limit in [1, MOST_TESTS - 1, MOST_TESTS, MOST_TESTS + 1] {
+        comparison.solve("largest limits", &generate::never_done().with_limit(limit));
+    }
+}
+
 pub fn compare_all(comparison: &mut Comparison, seed: u64, scale: usize) {
     let random = &mut Random::new(seed);
     compare_plans(comparison, random, scale);
+    compare_boundaries(comparison);
     compare_one_by_one(comparison);
     compare_two_by_two(comparison);
     for _ in 0..scale {

@@ -252,3 +252,22 @@ pub fn large(random: &mut Random) -> Problem {
         limit: 100,
     }
 }
+
+/// m rows and n columns with t entries, as even as can be; done at test 1 unless the tolerance is small.
+pub fn sized(m: usize, n: usize, t: usize, tolerance: f64) -> Problem {
+    let rows: Vec<Vec<usize>> = (0..m).map(|i| (0..(t + i) / m).collect()).collect();
+    Problem {
+        matrix: Matrix::from_rows(n, &rows),
+        values: vec![1.0; t],
+        s: m,
+        b: (0..LANES * m).map(|k| 1.0 + k as f64).collect(),
+        c: (0..LANES * n).map(|k| 1.0 + (k % 7) as f64).collect(),
+        tolerances: lane_tolerances([tolerance; LANES]),
+        limit: 3,
+    }
+}
+
+/// No lane is ever done or spoilt: the step's length is too small to move a number.
+pub fn never_done() -> Problem {
+    Problem { values: vec![1e100], s: 0, b: vec![1e100; LANES], c: vec![-1e100; LANES], ..sized(1, 1, 1, -1.0) }
+}

@@ -17,6 +17,7 @@ mod record;
 mod reference;
 #[cfg(ipm_c)]
 mod rooms;
+mod rubbish;
 mod unchanged;
 
 use std::io::{Read, Write};
@@ -31,6 +32,7 @@ use unchanged::Unchanged;
 
 const USAGE: &str = "usage: oracle COMMAND
   answer FILE [rust|reference|library]  the answer of each record of FILE (- is standard input)
+  read                                  as the reading program: one record from standard input, its sizes and all
   plan FILE [binary]                    the Rust's sixteen lists for each record: text, or u32 little-endian
   lanes FILE                            for each record the first test at which each lane is done
   compare [SEED] [SCALE]                everything beside everything; fails on a difference
@@ -38,7 +40,7 @@ const USAGE: &str = "usage: oracle COMMAND
   odd                                   what the Rust does with inputs that are refused";
 
 const SEED: u64 = 20261104;
-const SCALE: usize = 4000;
+const SCALE: usize = 2000;
 
 /// Every backend beside the reference.
 fn backends() -> Vec<Box<dyn Backend>> {
@@ -127,6 +129,7 @@ fn compare(seed: u64, scale: usize) -> Result<(), String> {
     println!("seed {seed}, scale {scale}");
     let mut comparison = compare::Comparison::new(backends());
     compare::compare_all(&mut comparison, seed, scale);
+    rubbish::compare(&mut comparison, &mut random::Random::new(seed), scale);
     #[cfg(ipm_c)]
     rooms::compare(&mut comparison, &mut random::Random::new(seed), 10 * scale);
     if comparison.report() { Ok(()) } else { Err("there are differences".into()) }
@@ -140,6 +143,10 @@ fn run(words: &[&str]) -> Result<(), String> {
     match words {
         ["answer", file] => answer(file, "rust"),
         ["answer", file, by] => answer(file, by),
+        ["read"] => {
+            print!("{}", cases::reading_text(&bytes_of("-")?)?);
+            Ok(())
+        }
         ["plan", file] => show_plan(file, false),
         ["plan", file, "binary"] => show_plan(file, true),
         ["lanes", file] => show_lanes(file),

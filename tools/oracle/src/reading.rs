@@ -11,22 +11,12 @@ pub struct ReadingProgram {
     path: String,
 }
 
-/// What the reading program prints for the bytes.
-pub fn run_program(path: &str, bytes: &[u8]) -> Result<String, String> {
-    let mut command = Command::new(path);
-    let mut child = command.stdin(Stdio::piped()).stdout(Stdio::piped()).spawn().map_err(|e| format!("{path}: {e}"))?;
-    // A program that stops reading early closes the pipe; its answer still counts.
-    let _ = child.stdin.take().expect("a pipe").write_all(bytes);
-    let output = child.wait_with_output().map_err(|e| e.to_string())?;
-    String::from_utf8(output.stdout).map_err(|e| e.to_string())
-}
-
 fn numbers(text: &str) -> Option<Vec<usize>> {
     text.split(' ').map(|word| word.parse().ok()).collect()
 }
 
 /// The answer that a text says. Its layout is checked by writing it again.
-pub fn answer_of_text(text: &str) -> Option<Answer> {
+fn answer_of_text(text: &str) -> Option<Answer> {
     let (first, rest) = text.split_once('\n')?;
     let answer = if let Some(words) = first.strip_prefix("refused ") {
         let [question, place, lane] = numbers(words)?[..] else { return None };
@@ -42,6 +32,17 @@ pub fn answer_of_text(text: &str) -> Option<Answer> {
 impl ReadingProgram {
     pub fn from_env() -> Option<Self> {
         std::env::var("IPM_READ").ok().map(|path| ReadingProgram { path })
+    }
+
+    /// What the program prints for the bytes.
+    pub fn run(&self, bytes: &[u8]) -> Result<String, String> {
+        let mut command = Command::new(&self.path);
+        let started = command.stdin(Stdio::piped()).stdout(Stdio::piped()).spawn();
+        let mut child = started.map_err(|e| format!("{}: {e}", self.path))?;
+        // A program that stops reading early closes the pipe; its answer still counts.
+        let _ = child.stdin.take().expect("a pipe").write_all(bytes);
+        let output = child.wait_with_output().map_err(|e| e.to_string())?;
+        String::from_utf8(output.stdout).map_err(|e| e.to_string())
     }
 }
 
@@ -59,7 +60,7 @@ impl Backend for ReadingProgram {
         if read(&bytes, READING).is_none() {
             return Ok(None);
         }
-        let text = run_program(&self.path, &bytes)?;
+        let text = self.run(&bytes)?;
         let answer = answer_of_text(&text).ok_or_else(|| format!("an unknown answer: {text:?}"))?;
         Ok(Some(Told::only(answer)))
     }
