@@ -2,7 +2,7 @@
 
 use std::collections::BTreeMap;
 
-use crate::backend::{Backend, Test};
+use crate::backend::Backend;
 use crate::generate;
 use crate::machine::factor_pattern;
 use crate::plan::pattern;
@@ -59,8 +59,8 @@ impl Comparison {
             let fault = match backend.solve(problem) {
                 Ok(None) => continue,
                 Ok(Some(told)) if told.answer != run.answer => format!("answers {:?}", told.answer),
-                Ok(Some(told)) if told.tests.as_ref().is_some_and(|tests| !agree(tests, &run.tests)) => {
-                    "has other tests".into()
+                Ok(Some(told)) if told.trace.as_ref().is_some_and(|trace| !trace.agrees(&run.trace)) => {
+                    "went another way".into()
                 }
                 Ok(Some(_)) => {
                     *self.counts.entry(format!("solves compared: {name}")).or_insert(0) += 1;
@@ -79,7 +79,7 @@ impl Comparison {
             Answer::Accepted { .. } => self.count("answers: accepted"),
             Answer::Refused(no) => self.count(format!("answers: refused {:02}", no.question)),
         }
-        if run.tests.is_empty() {
+        if run.trace.tests.is_empty() {
             return;
         }
         if let Answer::Refused(no) = run.answer
@@ -138,10 +138,10 @@ impl Comparison {
         for by in 0..LANES {
             let turned = problem.rotated(by);
             let run = self.solve(kind, &turned);
-            let end = run.tests.len();
+            let end = run.trace.tests.len();
             if by == 0 && !matches!(run.answer, Answer::Refused(no) if no.question == 12) {
                 for (limit, what) in [(end.wrapping_sub(1), "one below"), (end, "at"), (end + 1, "one above")] {
-                    if (1..=MOST_TESTS).contains(&limit) && !run.tests.is_empty() {
+                    if (1..=MOST_TESTS).contains(&limit) && !run.trace.tests.is_empty() {
                         self.count(format!("limits: {what} the last test"));
                         self.solve(kind, &turned.with_limit(limit));
                     }
@@ -172,12 +172,6 @@ impl Comparison {
         }
         faults.into_iter().for_each(|fault| self.differ(fault));
     }
-}
-
-/// The same tests. The Rust does not ask who is done in a test that a spoilt lane ends.
-fn agree(tests: &[Test], wanted: &[Test]) -> bool {
-    let same = |(p, q): (&Test, &Test)| p.spoilt == q.spoilt && (p.spoilt.contains(&true) || p.done == q.done);
-    tests.len() == wanted.len() && tests.iter().zip(wanted).all(same)
 }
 
 fn at_most(number: usize, bounds: &[usize]) -> String {

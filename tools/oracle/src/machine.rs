@@ -2,7 +2,7 @@
 //! rule. Nothing here reads the Rust, its lists or its order of work.
 
 use crate::plan::{neighbours, shared_places};
-use crate::problem::{Problem, lane};
+use crate::problem::{Problem, lane, settled_bits};
 
 const START: f64 = 1000.0;
 const CENTRING: f64 = 0.1;
@@ -256,6 +256,12 @@ impl<'a> Machine<'a> {
         let slacks = (0..self.shape.s)
             .fold(0.0, |theta, i| larger(larger(theta, -change.w[i] / self.w[i]), -change.y[i] / self.y[i]));
         smaller(DAMPING / larger(columns, slacks), 1.0)
+    }
+
+    /// x, z, y and w as bits, unless it is spoilt: then they are free.
+    pub fn numbers(&self) -> Option<Vec<u64>> {
+        let all = [&self.x, &self.z, &self.y, &self.w].into_iter().flatten();
+        (!self.spoilt).then(|| all.copied().map(settled_bits).collect())
     }
 
     /// What follows a test that steps.

@@ -22,7 +22,8 @@ fn with_right_sides(problem: Problem, b: &[f64]) -> Problem {
 
 /// Lane 0 of the Rust's x, or its panic, in one line.
 fn outcome(problem: &Problem) -> String {
-    let (end, tests) = solve_watched(problem);
+    let (end, trace) = solve_watched(problem);
+    let tests = trace.tests;
     match end {
         Ok(x) => format!("accepted {} x {:?}", tests.len(), crate::problem::lane(&x, 0)),
         Err(text) => format!("panic after {} tests: {text}", tests.len()),

@@ -1,26 +1,26 @@
 //! The answers of document 01, by the machine and the lists written from it.
 
-use crate::backend::{Backend, Test, Told};
+use crate::backend::{Backend, Test, Told, Trace};
 use crate::machine::{Machine, Shape, Verdict};
 use crate::plan::{lists, plan_words};
 use crate::problem::{Answer, LANES, Matrix, Planned, Problem, Refusal, settled_bits};
 use crate::questions::{Room, ask_plan, ask_solve};
 
-/// A run of the four machines: its answer, its tests, and the lanes that were spoilt by their wait.
+/// A run of the four machines: its answer, how it came about, and the lanes that were spoilt by their wait.
 pub struct Run {
     pub answer: Answer,
-    pub tests: Vec<Test>,
+    pub trace: Trace,
     pub spoilt_waiting: [bool; LANES],
 }
 
 impl Run {
     fn refused(no: Refusal) -> Self {
-        Run { answer: Answer::Refused(no), tests: Vec::new(), spoilt_waiting: [false; LANES] }
+        Run { answer: Answer::Refused(no), trace: Trace::default(), spoilt_waiting: [false; LANES] }
     }
 
     /// The first test at which the lane was done.
     pub fn first_done(&self, l: usize) -> Option<usize> {
-        self.tests.iter().position(|test| test.done[l]).map(|k| k + 1)
+        self.trace.tests.iter().position(|test| test.done[l]).map(|k| k + 1)
     }
 }
 
@@ -44,23 +44,24 @@ pub fn run(problem: &Problem, room: Room) -> Run {
     }
     let shape = Shape::new(problem);
     let mut machines: Vec<Machine> = (0..LANES).map(|l| Machine::new(&shape, problem, l)).collect();
-    let mut tests = Vec::new();
-    let mut spoilt_waiting = [false; LANES];
+    let mut run = Run::refused(Refusal::at(12, problem.limit));
     for test in 1..=problem.limit {
         let verdicts: [Verdict; LANES] = std::array::from_fn(|l| machines[l].test());
         let spoilt = verdicts.map(|verdict| verdict == Verdict::Spoilt);
-        tests.push(Test { spoilt, done: verdicts.map(|verdict| verdict == Verdict::Done) });
+        run.trace.tests.push(Test { spoilt, done: verdicts.map(|verdict| verdict == Verdict::Done) });
         if let Some(answer) = stopped(verdicts, test, &machines) {
-            return Run { answer, tests, spoilt_waiting };
+            run.answer = answer;
+            break;
         }
         for (l, machine) in machines.iter_mut().enumerate() {
             match verdicts[l] {
-                Verdict::Done => spoilt_waiting[l] = machine.wait(),
+                Verdict::Done => run.spoilt_waiting[l] = machine.wait(),
                 _ => machine.step(),
             }
         }
     }
-    Run { answer: Answer::Refused(Refusal::at(12, problem.limit)), tests, spoilt_waiting }
+    run.trace.numbers = std::array::from_fn(|l| machines[l].numbers());
+    run
 }
 
 /// The plan's words, one list after another.
@@ -80,7 +81,7 @@ impl Backend for Reference {
 
     fn solve(&mut self, problem: &Problem) -> Result<Option<Told>, String> {
         let run = run(problem, Room::ample(problem));
-        Ok(Some(Told { answer: run.answer, tests: Some(run.tests) }))
+        Ok(Some(Told { answer: run.answer, trace: Some(run.trace) }))
     }
 
     fn plan(&mut self, matrix: &Matrix) -> Result<Option<Planned>, String> {

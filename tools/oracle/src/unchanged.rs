@@ -6,11 +6,11 @@ use std::num::NonZeroUsize;
 use std::panic::{AssertUnwindSafe, catch_unwind};
 
 use ipm_common::SparseNormalCholeskyIndices;
-use ipm_simd::{PathFollowingDirectSimdSolver, Tolerances};
+use ipm_simd::{PathFollowingDirectSimdSolver, Tolerances, inside};
 use nalgebra_sparse::CsrMatrix;
 use wide::{f64x4, watch};
 
-use crate::backend::{Backend, Test, Told};
+use crate::backend::{Backend, Numbers, Test, Told, Trace};
 use crate::plan::Lists;
 use crate::problem::{Answer, LANES, Matrix, Planned, Problem, Refusal, settled_bits};
 use crate::questions::{Room, ask_matrix, ask_solve};
@@ -26,18 +26,25 @@ fn sizes(words: &[u32]) -> Vec<usize> {
     words.iter().map(|&word| word as usize).collect()
 }
 
-/// The Rust's own x, whatever it is given; it may panic.
-fn solve_raw(problem: &Problem) -> Vec<f64> {
+fn solver(problem: &Problem) -> PathFollowingDirectSimdSolver {
     let matrix = &problem.matrix;
     let (offsets, columns) = (sizes(&matrix.offsets), sizes(&matrix.columns));
     let values = problem.values.clone();
-    let mut solver = PathFollowingDirectSimdSolver::from_data(matrix.m, matrix.n, offsets, columns, values, problem.s);
+    PathFollowingDirectSimdSolver::from_data(matrix.m, matrix.n, offsets, columns, values, problem.s)
+}
+
+fn solve_with(solver: &mut PathFollowingDirectSimdSolver, problem: &Problem) -> Vec<f64> {
     let tolerances = four(&problem.tolerances);
     let tolerances =
         Tolerances { primal_feasibility: tolerances[0], dual_feasibility: tolerances[1], optimality: tolerances[2] };
     let limit = NonZeroUsize::new(problem.limit).expect("a limit above 0");
     let x = solver.solve(&four(&problem.b), &four(&problem.c), &tolerances, limit);
     x.iter().flat_map(|entry| entry.to_array()).collect()
+}
+
+fn numbers(solver: &PathFollowingDirectSimdSolver) -> Numbers {
+    let all = inside::numbers(solver).concat();
+    std::array::from_fn(|l| Some(all.iter().map(|entry| settled_bits(entry.to_array()[l])).collect()))
 }
 
 thread_local! {
@@ -69,12 +76,16 @@ fn panic_text(payload: Box<dyn Any + Send>) -> String {
     }
 }
 
-/// The Rust's end: x, or what its panic said; and what its tests said.
-pub fn solve_watched(problem: &Problem) -> (Result<Vec<f64>, String>, Vec<Test>) {
+/// The Rust's end, whatever it is given: x, or what its panic said; and how it came about.
+pub fn solve_watched(problem: &Problem) -> (Result<Vec<f64>, String>, Trace) {
+    let mut solver = match caught(|| solver(problem)) {
+        Ok(solver) => solver,
+        Err(text) => return (Err(text), Trace::default()),
+    };
     watch::start();
-    let end = caught(|| solve_raw(problem));
+    let end = caught(|| solve_with(&mut solver, problem));
     let tests = watch::finish().into_iter().map(|test| Test { spoilt: test.nan, done: test.done });
-    (end, tests.collect())
+    (end, Trace { tests: tests.collect(), numbers: numbers(&solver) })
 }
 
 /// The Rust only panics. The test and the lanes come from the stand-in's notes of `is_nan`.
@@ -131,9 +142,9 @@ impl Backend for Unchanged {
         if ask_solve(problem, Room::ample(problem)).is_err() {
             return Ok(None);
         }
-        let (end, tests) = solve_watched(problem);
-        let answer = answer_of(end, &tests)?;
-        Ok(Some(Told { answer, tests: Some(tests) }))
+        let (end, trace) = solve_watched(problem);
+        let answer = answer_of(end, &trace.tests)?;
+        Ok(Some(Told { answer, trace: Some(trace) }))
     }
 
     fn plan(&mut self, matrix: &Matrix) -> Result<Option<Planned>, String> {
