@@ -10,12 +10,12 @@ use lib.Dec.{eqb, ltb}
 use lib.ListN.{length, getD}
 use lib.Ieee.{Float, nan, binary64, add, sub, mul, div, ofBits}
 use Rattle.lanes.specs.Lists.{at}
-use Rattle.lanes.specs.Lanes.{lanes, quad, cell as here}
+use Rattle.lanes.specs.Lanes.{lanes, each2, quad, cell as here}
 use Rattle.lanes.proofs.Quads.{lanes-ext, lanes-at}
 use Rattle.lanes.specs.Lists.{fold}
 use Rattle.lanes.specs.Arithmetic.{null}
-use Rattle.factor.proofs.Sizes.{null-bits}
-use Rattle.ranks.specs.Kernel.{Summed, normalStep, productStep, frontStep}
+use Rattle.lanes.proofs.Consts.{null-bits}
+use Rattle.ranks.specs.Factoring.{Summed, normalStep, productStep, NormalIn, ProductIn}
 
 module _ (step : ℕ → ℕ → Float → Float) (start : List Float) (from : ℕ) where
   pub summed-none : Summed step start from from start
@@ -28,11 +28,17 @@ module _ (step : ℕ → ℕ → Float → Float) (start : List Float) (from : �
       let z : p + 1 - from ≡ suc (p - from) = omega arith in
       rw z (e l b ∙ ap (step l (p - from)) (s l b))
 
+-- what the two calls of a product's turn leave
+
+pub product-value : (acc a b : List Float) {p r : List Float} → p ≡ each2 (mul binary64) a b → r ≡ each2 (sub binary64) acc p
+    → r ≡ lanes (λ l. sub binary64 (at acc l) (mul binary64 (at a l) (at b l)))
+product-value acc a b ep er = rw (er, ep)
+
 -- ---- a turn of each of the two sums
 
 pub product-turn : {a b t : List Float} (acc : List Float) (left right : List ℕ) (work : List Float) (lo from p i j : ℕ) (start : List Float) → from ≤ p
     → Summed (productStep left right work lo from) start from p acc
-    → i ≡ getD left p 0 → j ≡ getD right p 0 → a ≡ entry work (lo + i) → b ≡ entry work (lo + j) → t ≡ lanes (λ l. sub binary64 (at acc l) (mul binary64 (at a l) (at b l)))
+    → i ≡ getD left p 0 → j ≡ getD right p 0 → a ≡ quad work (lo + i) → b ≡ quad work (lo + j) → t ≡ lanes (λ l. sub binary64 (at acc l) (mul binary64 (at a l) (at b l)))
     → Summed (productStep left right work lo from) start from (p + 1) t
 product-turn {a} {b} {t} acc left right work lo from p i j start h s ei ej ea eb et =
     let z : p ≡ from + (p - from) = omega arith in
@@ -46,7 +52,7 @@ product-turn {a} {b} {t} acc left right work lo from p i j start h s ei ej ea eb
 
 pub normal-turn : {xe ze t : List Float} (acc : List Float) (vals : List Float) (left right cols : List ℕ) (work : List Float) (x z from p i j e : ℕ) (start : List Float) → from ≤ p
     → Summed (normalStep vals left right cols work x z from) start from p acc
-    → i ≡ getD left p 0 → j ≡ getD right p 0 → e ≡ getD cols p 0 → xe ≡ entry work (x + e) → ze ≡ entry work (z + e)
+    → i ≡ getD left p 0 → j ≡ getD right p 0 → e ≡ getD cols p 0 → xe ≡ quad work (x + e) → ze ≡ quad work (z + e)
     → t ≡ lanes (λ l. add binary64 (at acc l) (div binary64 (mul binary64 (mul binary64 (getD vals i nan) (getD vals j nan)) (at xe l)) (at ze l)))
     → Summed (normalStep vals left right cols work x z from) start from (p + 1) t
 normal-turn {xe} {ze} {t} acc vals left right cols work x z from p i j e start h s ei ej ee ex ez et =
@@ -64,8 +70,19 @@ normal-turn {xe} {ze} {t} acc vals left right cols work x z from p i j e start h
     (ap (λ (v : List Float). at v l) ex ∙ lanes-at (here 4 work (x + e)) l c ∙ ap (λ (k : ℕ). here 4 work (x + k) l) fe)
     (ap (λ (v : List Float). at v l) ez ∙ lanes-at (here 4 work (z + e)) l c ∙ ap (λ (k : ℕ). here 4 work (z + k) l) fe))
 
-pub summed-end : (step : ℕ → ℕ → Float → Float) (start acc : List Float) (from p to : ℕ) → p ≡ to → Summed step start from p acc → Summed step start from to acc
-summed-end step start acc from p to e s = subst (λ (k : ℕ). Summed step start from k acc) e s
+-- at the loop's end, by the ends as the list has them
+pub summed-end : (step : ℕ → ℕ → ℕ → Float → Float) (start acc : List Float) {from from′ p to to′ : ℕ} → from ≡ from′ → to ≡ to′ → p ≡ to
+    → Summed (step from) start from p acc → Summed (step from′) start from′ to′ acc
+summed-end step start acc {from} {from′} {p} {to} {to′} a b c s =
+    subst (λ (t : ℕ). Summed (step t) start t to′ acc) a (subst (λ (t : ℕ). Summed (step from) start from t acc) (c ∙ b) s)
+
+pub normal-here : {vals : List Float} {left right cols : List ℕ} {work : List Float} {x z from from′ to to′ : ℕ} → from ≡ from′ → to ≡ to′
+    → NormalIn vals left right cols work x z from′ to′ → NormalIn vals left right cols work x z from to
+normal-here p q h = rw (p, q) h
+
+pub product-here : {left right : List ℕ} {work : List Float} {lo from from′ to to′ : ℕ} → from ≡ from′ → to ≡ to′
+    → ProductIn left right work lo from′ to′ → ProductIn left right work lo from to
+product-here p q h = rw (p, q) h
 
 -- ---- where an entry starts, and how it is finished
 
@@ -88,17 +105,3 @@ finish-on i j F G e = rw (eq-eqb i j e) refl
 
 pub finish-off : (i j : ℕ) (F G : ℕ → Float) → (i ≡ j → ⊥) → lanes G ≡ lanes (λ l. cond (eqb i j) (F l) (G l))
 finish-off i j F G n = rw (ne-eqb i j n) refl
-
-pub front-row-turn : {a b t : List Float} (acc : List Float) (js : List ℕ) (work : List Float) (dy lo from p j : ℕ) (start : List Float) → from ≤ p
-    → Summed (frontStep js work dy lo from) start from p acc
-    → j ≡ getD js p 0 → a ≡ entry work (dy + j) → b ≡ entry work (lo + p) → t ≡ lanes (λ l. sub binary64 (at acc l) (mul binary64 (at a l) (at b l)))
-    → Summed (frontStep js work dy lo from) start from (p + 1) t
-front-row-turn {a} {b} {t} acc js work dy lo from p j start h s ej ea eb et =
-    let z : p ≡ from + (p - from) = omega arith in
-    summed-more (frontStep js work dy lo from) start from p acc t h s
-    (λ l c.
-    ap (λ (v : List Float). at v l) et
-    ∙ lanes-at (λ l. sub binary64 (at acc l) (mul binary64 (at a l) (at b l))) l c
-    ∙ ap₂ (λ (u v : Float). sub binary64 (at acc l) (mul binary64 u v))
-    (ap (λ (v : List Float). at v l) ea ∙ lanes-at (here 4 work (dy + j)) l c ∙ ap (λ (k : ℕ). here 4 work (dy + k) l) (ej ∙ ap (λ (k : ℕ). getD js k 0) z))
-    (ap (λ (v : List Float). at v l) eb ∙ lanes-at (here 4 work (lo + p)) l c ∙ ap (λ (k : ℕ). here 4 work (lo + k) l) z))

@@ -88,7 +88,7 @@ module _ (A : Problem) (i : ℕ) where
         (λ j h r.
         ap (λ (e : ℕ). F e (entry A i e) r) (row-at j h) ∙ ap (λ (a : Float). F (getD (A .cols) (from + j) 0) a r) (entry-at j h))
 
--- ---- through any list: a column's rows, the columns that two rows stepLength, the k of D, a row or a column of the factor
+-- ---- through any list: a column's rows, the columns that two rows share, the k of D, a row or a column of the factor
 
 pub each-pick : (n : ℕ) (p q : ℕ → Bool) (f : ℕ → Float → Float) (v : Float) → ((k : ℕ) → k < n → p k ≡ q k) → each n p f v ≡ each n q f v
 unfolding each

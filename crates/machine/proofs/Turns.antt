@@ -19,7 +19,8 @@ use Rattle.machine.specs.Work.{Says, Stepped, stepOf, Ran}
 use Rattle.lanes.proofs.Lists.{first-le, first-same}
 use Rattle.machine.proofs.Ends.{Quiet, some-no, stop-spoilt, stop-done, stop-spent}
 use Rattle.machine.proofs.Machines.{lane-live, said-of, fresh-has, moved-has}
-use Rattle.machine.proofs.Wait.{SoundState, SoundMachine, left-sound, rust-next}
+use Rattle.machine.specs.Theorems.{SoundState}
+use Rattle.machine.proofs.Wait.{SoundMachine, left-sound, rust-next}
 use Rattle.machine.proofs.Demand3.{made-once, made-again, made-test, made-from}
 
 module _ (C : Call) where

@@ -26,7 +26,8 @@ use Rattle.machine.specs.Machine.{Problem, State, holds, entry, inFactor, reduc
 use Rattle.lanes.specs.Arithmetic.{null}
 use Rattle.machine.proofs.Factor.{fold-same}
 use Rattle.machine.proofs.Entries.{each-pick}
-use Rattle.ranks.specs.Kernel.{normalStep, productStep, NormalIn, ProductIn, stateOf, matrixOf, entries}
+use Rattle.machine.specs.Work.{problemOf}
+use Rattle.ranks.specs.Factoring.{normalStep, productStep, NormalIn, ProductIn, stateOf, entries}
 use Rattle.ranks.proofs.Ranks.{pairs-at, pairs-in, pairs-long, before-next, ranked, ranked-in, ends-at, lplace-next, lplace-lt}
 use Rattle.ranks.proofs.Picks.{picks, picks-all, both-each, between, find-place, find-lt, both-all, below-has, held-factor, held-stored, anorm-none, ldecomp-none}
 
@@ -40,9 +41,9 @@ module _ (m n s : ℕ) (off cols : List ℕ) (vals : List Float) (ok : Accepted 
   g = shape off cols
 
   abbrev A : Problem
-  A = matrixOf m n s off cols vals
+  A = problemOf m n s off cols vals
 
-  -- ---- what two rows stepLength
+  -- ---- what two rows share
 
   abbrev wA : ℕ → ℕ → ℕ
   wA = weight g AnormIndptr
@@ -130,7 +131,7 @@ module _ (m n s : ℕ) (off cols : List ℕ) (vals : List Float) (ok : Accepted 
             rw (anorm-i-at k h, anorm-j-at k h, anorm-e-at k h)
             (rw (sym (entry-place i e), sym (entry-place j e), sym (reg-at 4 work x n l e (shared-lt k h)), sym (reg-at 4 work z n l e (shared-lt k h))) refl)
 
-  -- ---- what two rows of the factor stepLength
+  -- ---- what two rows of the factor share
 
   abbrev wD : ℕ → ℕ → ℕ
   wD = weight g LdecompIndptr

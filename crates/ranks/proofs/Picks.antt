@@ -58,7 +58,7 @@ picks-all P p (suc n) h t l = go (p n) refl l (picks-all P p n (λ k b. h k (ome
         at (yes b) = subst P (sym (List·getD-append xs (n ∷ []) 0 t b)) (ih t b)
         at (no b) = subst P (sym (getD-at xs n [] 0 t (omega (arith, length-append xs (n ∷ []))))) (h n (omega arith) e)
 
--- ---- through what two rows stepLength
+-- ---- through what two rows share
 both-walk : (xs ys : List ℕ) (f : ℕ → Float → Float) (v : Float) → walk xs (λ e r. cond (has ys e) (f e r) r) v ≡ walk (both xs ys) f v
 unfolding walk both
 both-walk [] ys f v = refl

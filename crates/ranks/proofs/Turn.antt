@@ -17,15 +17,14 @@ use Rattle.lists.specs.Cat.{cat, pick, pairs}
 use Rattle.lists.specs.Lists.{Shape, shape, lplace, before, weight, products, shared, piece, listOf}
 use Rattle.lists.specs.Ready.{Accepted}
 use Rattle.lists.specs.declared.Which.the-variants.{AnormIndptr, AnormIndptrI, AnormIndptrJ, AnormIndices, LdecompIndptr, LdecompIndptrI, LdecompIndptrJ, Lindptr, LdiagIndptr, Lindices}
-use Rattle.lanes.specs.Lanes.{lanes, quad as entry4, cell as here}
-use Rattle.lanes.specs.Region.{reg, Wrote, Apart, before as ahead, after}
-use Rattle.lanes.proofs.Regions.{reg-at, wrote-apart, apart-front}
-use Rattle.lanes.proofs.Quads.{lanes-at, lanes-ext}
+use Rattle.lanes.specs.Lanes.{cell as here}
+use Rattle.lanes.specs.Region.{reg}
+use Rattle.lanes.proofs.Regions.{reg-at}
 use Rattle.lanes.specs.Lists.{at, fold, each}
 use Rattle.machine.specs.Machine.{Problem, State, holds, entry, inFactor, reduced, factorEntry, factor, cell}
 use Rattle.lanes.specs.Arithmetic.{null}
-use Rattle.machine.proofs.Factor.{entry-same, factor-is, Before}
-use Rattle.ranks.specs.Kernel.{normalStep, productStep, NormalIn, ProductIn, Planned, Regions, Given, Stands, Factored, stateOf, matrixOf, entries}
+use Rattle.machine.specs.Work.{problemOf}
+use Rattle.ranks.specs.Factoring.{normalStep, productStep, NormalIn, ProductIn, Planned, Regions, Given, Stands, Factored, stateOf, entries}
 use Rattle.ranks.proofs.Ranks.{pairs-at, pairs-in, before-next, ranked, ranked-in, ends-at, lplace-next, lplace-lt, lplace-lt-row, byEntry, by-entry-length, by-row-at, by-row-in, Entry, entry-of}
 use Rattle.ranks.proofs.Picks.{picks-all, held-factor, held-diag, anorm-none, ldecomp-none}
 use Rattle.ranks.proofs.Meets.{shared-length, products-length, anorm-i-at, anorm-j-at, anorm-e-at, anorm-i-long, anorm-j-long, anorm-e-long, ldecomp-i-long, ldecomp-j-long, products-in, shared-lt, left-lt, right-lt, ldecomp-i-at, ldecomp-j-at, normal-is, products-is}
@@ -35,7 +34,7 @@ module _ (m n s : ℕ) (off cols : List ℕ) (vals : List Float) (ok : Accepted 
   g = shape off cols
 
   abbrev A : Problem
-  A = matrixOf m n s off cols vals
+  A = problemOf m n s off cols vals
 
   abbrev wA : ℕ → ℕ → ℕ
   wA = weight g AnormIndptr
@@ -89,11 +88,11 @@ module _ (m n s : ℕ) (off cols : List ℕ) (vals : List Float) (ok : Accepted 
       pub normal-ready : NormalIn vals (listOf g AnormIndptrI m) (listOf g AnormIndptrJ m) (listOf g AnormIndices m) work x z (before wA i j) (before wA i (suc j))
       normal-ready = record {
         order = omega (arith, before-next wA i j);
-        is-long = anorm-i-long m n s off cols vals ok i j (st .row) (st .low);
-        js-long = anorm-j-long m n s off cols vals ok i j (st .row) (st .low);
-        es-long = anorm-e-long m n s off cols vals ok i j (st .row) (st .low);
-        is-in = λ p a b. omega (arith, ap (λ (k : ℕ). getD (listOf g AnormIndptrI m) k 0) (from-on p a), anorm-i-at m n s off cols vals ok i j (st .row) (st .low) (p - before wA i j) (near p a b), left-lt m n s off cols vals ok i j (st .row) (st .low) (p - before wA i j) (near p a b));
-        js-in = λ p a b. omega (arith, ap (λ (k : ℕ). getD (listOf g AnormIndptrJ m) k 0) (from-on p a), anorm-j-at m n s off cols vals ok i j (st .row) (st .low) (p - before wA i j) (near p a b), right-lt m n s off cols vals ok i j (st .row) (st .low) (p - before wA i j) (near p a b));
+        left-long = anorm-i-long m n s off cols vals ok i j (st .row) (st .low);
+        right-long = anorm-j-long m n s off cols vals ok i j (st .row) (st .low);
+        cols-long = anorm-e-long m n s off cols vals ok i j (st .row) (st .low);
+        left-in = λ p a b. omega (arith, ap (λ (k : ℕ). getD (listOf g AnormIndptrI m) k 0) (from-on p a), anorm-i-at m n s off cols vals ok i j (st .row) (st .low) (p - before wA i j) (near p a b), left-lt m n s off cols vals ok i j (st .row) (st .low) (p - before wA i j) (near p a b));
+        right-in = λ p a b. omega (arith, ap (λ (k : ℕ). getD (listOf g AnormIndptrJ m) k 0) (from-on p a), anorm-j-at m n s off cols vals ok i j (st .row) (st .low) (p - before wA i j) (near p a b), right-lt m n s off cols vals ok i j (st .row) (st .low) (p - before wA i j) (near p a b));
         x-in = λ p a b. omega (arith, column p a b, R .x-in);
         z-in = λ p a b. omega (arith, column p a b, R .z-in);
       }
@@ -111,10 +110,10 @@ module _ (m n s : ℕ) (off cols : List ℕ) (vals : List Float) (ok : Accepted 
       pub product-ready : ProductIn (listOf g LdecompIndptrI m) (listOf g LdecompIndptrJ m) work lo (before wD i j) (before wD i (suc j))
       product-ready = record {
         order = omega (arith, before-next wD i j);
-        is-long = ldecomp-i-long m n s off cols vals ok i j (st .row) (st .low);
-        js-long = ldecomp-j-long m n s off cols vals ok i j (st .row) (st .low);
-        is-in = λ p a b. omega (arith, ap (λ (k : ℕ). getD (listOf g LdecompIndptrI m) k 0) (from-on p a), ldecomp-i-at m n s off cols vals ok i j (st .row) (st .low) (p - before wD i j) (near p a b), products-in m n s off cols vals ok i j (st .row) (st .low) (p - before wD i j) (near p a b) .0, R .l-in);
-        js-in = λ p a b. omega (arith, ap (λ (k : ℕ). getD (listOf g LdecompIndptrJ m) k 0) (from-on p a), ldecomp-j-at m n s off cols vals ok i j (st .row) (st .low) (p - before wD i j) (near p a b), products-in m n s off cols vals ok i j (st .row) (st .low) (p - before wD i j) (near p a b) .1, R .l-in);
+        left-long = ldecomp-i-long m n s off cols vals ok i j (st .row) (st .low);
+        right-long = ldecomp-j-long m n s off cols vals ok i j (st .row) (st .low);
+        left-in = λ p a b. omega (arith, ap (λ (k : ℕ). getD (listOf g LdecompIndptrI m) k 0) (from-on p a), ldecomp-i-at m n s off cols vals ok i j (st .row) (st .low) (p - before wD i j) (near p a b), products-in m n s off cols vals ok i j (st .row) (st .low) (p - before wD i j) (near p a b) .0, R .l-in);
+        right-in = λ p a b. omega (arith, ap (λ (k : ℕ). getD (listOf g LdecompIndptrJ m) k 0) (from-on p a), ldecomp-j-at m n s off cols vals ok i j (st .row) (st .low) (p - before wD i j) (near p a b), products-in m n s off cols vals ok i j (st .row) (st .low) (p - before wD i j) (near p a b) .1, R .l-in);
       }
         where
           from-on : (p : ℕ) → before wD i j ≤ p → before wD i j + (p - before wD i j) ≡ p
