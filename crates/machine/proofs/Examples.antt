@@ -1,5 +1,5 @@
 -- The rows of specs/Examples.antt hold, by computing. Assumes nothing.
-use mathlib.Core.Path.{_≡_, refl}
+use mathlib.Core.Path.{refl}
 use mathlib.Core.List.{List, [], _∷_, _++_}
 use lib.Ieee.{toBits, ofBits, add, sub, mul, div, neg, lt, ofInt, round, isNan}
 use Rattle.machine.specs.Outcome.{solved, xAt}
