@@ -57,14 +57,14 @@ last v = large ∷ v ∷ []
 abbrev thousand : ℕ
 thousand = 0x408f400000000000
 
--- row {0} with one value, and s
-abbrev oneRow : Float → ℕ → Problem
-oneRow a s = record { m = 1; n = 1; s = s; off = 0 ∷ 1 ∷ []; cols = 0 ∷ []; vals = a ∷ [] }
+-- row {0} with value 1 and s 1
+abbrev oneRow : Problem
+oneRow = record { m = 1; n = 1; s = 1; off = 0 ∷ 1 ∷ []; cols = 0 ∷ []; vals = one ∷ [] }
 
--- row {0} with value 1 and s 1, in K lanes; b and c, the primal, dual and optimality tolerances
+-- K lanes of it: b and c, the primal, dual and optimality tolerances
 abbrev single : ℕ → List Float → Float → List Float → List Float → List Float → Call
 single K b c primal dual gap =
-    record { K = K; problem = oneRow one 1; settings = standard; b = b; c = replicate K c; tolerances = primal ++ (dual ++ gap) }
+    record { K = K; problem = oneRow; settings = standard; b = b; c = replicate K c; tolerances = primal ++ (dual ++ gap) }
 
 -- rows {0}, {1}, two lanes
 abbrev twoRows : Call
@@ -89,11 +89,6 @@ empty t =
       c = [];
       tolerances = replicate 12 t;
     }
-
--- a stored 0.0 in an equality row; lane 0 is done at test 1, lane 1 steps
-abbrev storedZero : Call
-storedZero =
-    record { K = 2; problem = oneRow null 0; settings = standard; b = two one; c = two one; tolerances = replicate 5 large ++ (null ∷ []) }
 
 -- rows {0,1}, {0}, {1}, the last an equality: the factor has (2, 1) by the chain 2-0-1
 abbrev star : Call
@@ -129,12 +124,9 @@ paper-strict = record { call = single 4 (four one) null (four large) (four null)
 abbrev pub divisors : Row
 divisors = record { call = single 1 (one ∷ []) one (whole 2 ∷ []) (fraction 1 2 ∷ []) (large ∷ []); limit = 1; answer = accepted 1; bits = thousand ∷ [] }
 
--- R is 0 and not below lane 1's tolerance 0; so with Q, and with G, which is 2000000/2001
+-- R is 0 and not below lane 1's tolerance 0; so with G, which is 2000000/2001
 abbrev pub strict-R : Row
 strict-R = record { call = single 2 (two (whole 2000)) one (last null) (two large) (two large); limit = 1; answer = noAt12 1; bits = [] }
-
-abbrev pub strict-Q : Row
-strict-Q = record { call = single 2 (two one) null (two large) (last null) (two large); limit = 1; answer = noAt12 1; bits = [] }
 
 abbrev pub strict-G : Row
 strict-G = record { call = single 2 (two one) one (two large) (two large) (last (whole 2000000 ⊘ whole 2001)); limit = 1; answer = noAt12 1; bits = [] }
@@ -155,7 +147,7 @@ abbrev pub empty-spent : Row
 empty-spent = record { call = empty null; limit = 2; answer = noAt12 2; bits = [] }
 
 abbrev pub firstTest : List Row
-firstTest = paper-accepted ∷ paper-strict ∷ divisors ∷ strict-R ∷ strict-Q ∷ strict-G ∷ layout ∷ spent ∷ empty-done ∷ empty-spent ∷ []
+firstTest = paper-accepted ∷ paper-strict ∷ divisors ∷ strict-R ∷ strict-G ∷ layout ∷ spent ∷ empty-done ∷ empty-spent ∷ []
 
 -- ---- rows with steps
 
@@ -163,24 +155,12 @@ firstTest = paper-accepted ∷ paper-strict ∷ divisors ∷ strict-R ∷ strict
 abbrev pub paper-nan : Row
 paper-nan = record { call = single 4 (lanes one one nan one) one (four small) (four small) (four small); limit = 2; answer = noAt11 2 2; bits = [] }
 
--- NaN in lanes 1 and 2 of three: the lowest is named
-abbrev pub lowest : Row
-lowest = record { call = single 3 (one ∷ nan ∷ nan ∷ []) one (replicate 3 small) (replicate 3 small) (replicate 3 small); limit = 2; answer = noAt11 2 1; bits = [] }
-
--- lane 0 waits with its numbers while lane 1 steps once
-abbrev pub waiting : Row
-waiting = record { call = single 2 (two one) one (two large) (two large) (last (whole 900)); limit = 2; answer = accepted 2; bits = thousand ∷ 0x3ff7fdf3b645a000 ∷ [] }
-
--- lane 0 is done and its step is not finite, so that it is spoilt at test 2
-abbrev pub lost-lane : Row
-lost-lane = record { call = storedZero; limit = 2; answer = noAt11 2 0; bits = [] }
-
 -- two steps, the tolerances being the least floats above R, Q and G of test 3
 abbrev pub chained : Row
 chained = record { call = star; limit = 3; answer = accepted 3; bits = 0x40318bbcfab550d0 ∷ 0x403438ca154eeaf8 ∷ [] }
 
 abbrev pub later : List Row
-later = paper-nan ∷ lowest ∷ waiting ∷ lost-lane ∷ chained ∷ []
+later = paper-nan ∷ chained ∷ []
 
 abbrev pub rows : List Row
 rows = firstTest ++ later
