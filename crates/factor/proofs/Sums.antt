@@ -1,5 +1,5 @@
 -- The two sums of an entry, turn by turn; where an entry starts, and how it is finished. Assumes nothing.
-use mathlib.Core.Path.{_≡_, refl, sym, ap, ap₂, _∙_, subst}
+use mathlib.Core.Path.{_≡_, refl, ap, ap₂, _∙_, subst}
 use mathlib.Core.Bool.{Bool, true, false, cond, _&&_}
 use mathlib.Core.List.{List}
 use Prim.Native.Nat.{ℕ, suc, _+_, _-_, _<_, _≤_}
@@ -7,11 +7,11 @@ use native.Mathlib.Omega.{arith}
 use mathlib.Core.Logic.{_⊎_, inl, inr}
 use borrow.Author.Tests.{eq-eqb, ne-eqb, lt-ltb, le-ltb}
 use lib.Dec.{eqb, ltb}
-use lib.ListN.{length, getD}
+use lib.ListN.{getD}
 use lib.Ieee.{Float, nan, binary64, add, sub, mul, div, ofBits}
 use Rattle.lanes.specs.Lists.{at, fold}
 use Rattle.lanes.specs.Lanes.{lanes, each1, each2, quad, cell as here}
-use Rattle.lanes.proofs.Quads.{lanes-ext, lanes-at}
+use Rattle.lanes.proofs.Quads.{lanes-at}
 use Rattle.lanes.specs.Arithmetic.{√, magnitude, null}
 use Rattle.lanes.proofs.Consts.{null-bits}
 use Rattle.ranks.specs.Factoring.{Summed, normalStep, productStep, NormalIn, ProductIn}

@@ -1,33 +1,28 @@
 -- An entry of the factor: what its sums read is there, what they make is the machine's, and it is put where it belongs. Assumes nothing.
-use mathlib.Core.Path.{_≡_, refl, sym, ap, ap₂, _∙_, subst}
-use mathlib.Core.Logic.{_⊎_, inl, inr}
-use mathlib.Core.Bool.{Bool, true, false, cond, _&&_, _||_, true≢false, false≢true}
-use mathlib.Core.List.{List, [], _∷_, _++_, map}
-use Prim.Native.Nat.{ℕ, zero, suc, _+_, _-_, _*_, _<_, _≤_}
+use mathlib.Core.Path.{_≡_, refl, ap}
+use mathlib.Core.Bool.{Bool, true, false, cond, _&&_}
+use mathlib.Core.List.{List}
+use Prim.Native.Nat.{ℕ, suc, _+_, _-_, _<_, _≤_}
 use native.Mathlib.Omega.{arith}
 use native.Mathlib.Numerals.{add-one}
-use native.Mathlib.Decide.{decLt}
-use borrow.Author.Tests.{lt-ltb, le-ltb, ltb-true}
+use borrow.Author.Tests.{ltb-true}
 use lib.Dec.{eqb, ltb}
 use lib.ListN.{length, getD}
-use lib.Ieee.{Float, nan, binary64, add, sub, mul, div}
-use Rattle.csr.specs.Counts.{sum, one}
-use Rattle.csr.specs.Chain.{factorHas}
-use Rattle.lists.specs.Cat.{cat, pick, pairs}
-use Rattle.lists.specs.Lists.{Shape, shape, lplace, before, weight, products, shared, piece, listOf}
+use lib.Ieee.{Float, binary64, div}
+use Rattle.lists.specs.Lists.{Shape, shape, lplace, before, weight, piece, listOf}
 use Rattle.lists.specs.Ready.{Accepted}
-use Rattle.lists.specs.declared.Which.the-variants.{AnormIndptr, AnormIndptrI, AnormIndptrJ, AnormIndices, LdecompIndptr, LdecompIndptrI, LdecompIndptrJ, Lindptr, LdiagIndptr, Lindices}
+use Rattle.lists.specs.declared.Which.the-variants.{AnormIndptr, AnormIndptrI, AnormIndptrJ, AnormIndices, LdecompIndptr, LdecompIndptrI, LdecompIndptrJ, LdiagIndptr}
 use Rattle.lanes.specs.Lanes.{cell as here}
 use Rattle.lanes.specs.Region.{reg}
 use Rattle.lanes.proofs.Regions.{reg-at}
-use Rattle.lanes.specs.Lists.{at, fold, each}
-use Rattle.machine.specs.Machine.{Problem, State, holds, entry, inFactor, reduced, factorEntry, factor, cell}
+use Rattle.lanes.specs.Lists.{at, fold}
+use Rattle.machine.specs.Machine.{Problem, reduced}
 use Rattle.lanes.specs.Arithmetic.{null}
 use Rattle.machine.specs.Work.{problemOf}
-use Rattle.ranks.specs.Factoring.{normalStep, productStep, NormalIn, ProductIn, Planned, Regions, Given, Stands, Factored, stateOf, entries}
-use Rattle.ranks.proofs.Ranks.{pairs-at, pairs-in, before-next, ranked, ranked-in, ends-at, lplace-next, lplace-lt, lplace-lt-row, byEntry, by-entry-length, by-row-at, by-row-in, Entry, entry-of}
-use Rattle.ranks.proofs.Picks.{picks-all, held-factor, held-diag, anorm-none, ldecomp-none}
-use Rattle.ranks.proofs.Meets.{shared-length, products-length, anorm-i-at, anorm-j-at, anorm-e-at, anorm-i-long, anorm-j-long, anorm-e-long, ldecomp-i-long, ldecomp-j-long, products-in, shared-lt, left-lt, right-lt, ldecomp-i-at, ldecomp-j-at, normal-is, products-is}
+use Rattle.ranks.specs.Factoring.{normalStep, productStep, NormalIn, ProductIn, Regions, Stands, stateOf, entries}
+use Rattle.ranks.proofs.Ranks.{before-next, ranked, ranked-in, ends-at, lplace-lt, by-row-at, by-row-in}
+use Rattle.ranks.proofs.Picks.{held-diag, anorm-none, ldecomp-none}
+use Rattle.ranks.proofs.Meets.{anorm-i-at, anorm-j-at, anorm-e-at, anorm-i-long, anorm-j-long, anorm-e-long, ldecomp-i-long, ldecomp-j-long, products-in, shared-lt, left-lt, right-lt, ldecomp-i-at, ldecomp-j-at, normal-is, products-is}
 
 module _ (m n s : ℕ) (off cols : List ℕ) (vals : List Float) (ok : Accepted off cols m n) where
   abbrev g : Shape
