@@ -1,0 +1,4 @@
+pub mod Pattern
+pub mod Chain
+pub mod Counts
+pub mod Csr

@@ -1,0 +1,104 @@
+-- A loop over the places from `from` on: one more. Assumes nothing.
+use mathlib.Core.Path.{_≡_, refl, sym, ap, ap₂, _∙_, subst}
+use mathlib.Core.Bool.{Bool, true, false, cond, _&&_}
+use mathlib.Core.List.{List, [], _∷_}
+use Prim.Native.Nat.{ℕ, zero, suc, _+_, _-_, _*_, _<_, _≤_}
+use native.Mathlib.Omega.{arith}
+use mathlib.Core.Logic.{_⊎_, inl, inr}
+use borrow.Author.Tests.{eq-eqb, ne-eqb, lt-ltb, le-ltb}
+use lib.Dec.{eqb, ltb}
+use lib.ListN.{length, getD}
+use lib.Ieee.{Float, nan, binary64, add, sub, mul, div, ofBits}
+use Rattle.lanes.specs.Lists.{at}
+use Rattle.lanes.specs.Lanes.{lanes, quad, cell as here}
+use Rattle.lanes.proofs.Quads.{lanes-ext, lanes-at}
+use Rattle.lanes.specs.Lists.{fold}
+use Rattle.lanes.specs.Arithmetic.{null}
+use Rattle.factor.proofs.Sizes.{null-bits}
+use Rattle.ranks.specs.Kernel.{Summed, normalStep, productStep, frontStep}
+
+module _ (step : ℕ → ℕ → Float → Float) (start : List Float) (from : ℕ) where
+  pub summed-none : Summed step start from from start
+  unfolding fold
+  summed-none l h = let z : from - from ≡ 0 = omega arith in rw z refl
+
+  pub summed-more : (p : ℕ) (acc t : List Float) → from ≤ p → Summed step start from p acc → ((l : ℕ) → l < 4 → at t l ≡ step l (p - from) (at acc l)) → Summed step start from (p + 1) t
+  unfolding fold
+  summed-more p acc t h s e l b =
+      let z : p + 1 - from ≡ suc (p - from) = omega arith in
+      rw z (e l b ∙ ap (step l (p - from)) (s l b))
+
+-- ---- a turn of each of the two sums
+
+pub product-turn : {a b t : List Float} (acc : List Float) (left right : List ℕ) (work : List Float) (lo from p i j : ℕ) (start : List Float) → from ≤ p
+    → Summed (productStep left right work lo from) start from p acc
+    → i ≡ getD left p 0 → j ≡ getD right p 0 → a ≡ entry work (lo + i) → b ≡ entry work (lo + j) → t ≡ lanes (λ l. sub binary64 (at acc l) (mul binary64 (at a l) (at b l)))
+    → Summed (productStep left right work lo from) start from (p + 1) t
+product-turn {a} {b} {t} acc left right work lo from p i j start h s ei ej ea eb et =
+    let z : p ≡ from + (p - from) = omega arith in
+    summed-more (productStep left right work lo from) start from p acc t h s
+    (λ l c.
+    ap (λ (v : List Float). at v l) et
+    ∙ lanes-at (λ l. sub binary64 (at acc l) (mul binary64 (at a l) (at b l))) l c
+    ∙ ap₂ (λ (u v : Float). sub binary64 (at acc l) (mul binary64 u v))
+    (ap (λ (v : List Float). at v l) ea ∙ lanes-at (here 4 work (lo + i)) l c ∙ ap (λ (k : ℕ). here 4 work (lo + k) l) (ei ∙ ap (λ (k : ℕ). getD left k 0) z))
+    (ap (λ (v : List Float). at v l) eb ∙ lanes-at (here 4 work (lo + j)) l c ∙ ap (λ (k : ℕ). here 4 work (lo + k) l) (ej ∙ ap (λ (k : ℕ). getD right k 0) z)))
+
+pub normal-turn : {xe ze t : List Float} (acc : List Float) (vals : List Float) (left right cols : List ℕ) (work : List Float) (x z from p i j e : ℕ) (start : List Float) → from ≤ p
+    → Summed (normalStep vals left right cols work x z from) start from p acc
+    → i ≡ getD left p 0 → j ≡ getD right p 0 → e ≡ getD cols p 0 → xe ≡ entry work (x + e) → ze ≡ entry work (z + e)
+    → t ≡ lanes (λ l. add binary64 (at acc l) (div binary64 (mul binary64 (mul binary64 (getD vals i nan) (getD vals j nan)) (at xe l)) (at ze l)))
+    → Summed (normalStep vals left right cols work x z from) start from (p + 1) t
+normal-turn {xe} {ze} {t} acc vals left right cols work x z from p i j e start h s ei ej ee ex ez et =
+    let y : p ≡ from + (p - from) = omega arith in
+    let fi : i ≡ getD left (from + (p - from)) 0 = ei ∙ ap (λ (k : ℕ). getD left k 0) y in
+    let fj : j ≡ getD right (from + (p - from)) 0 = ej ∙ ap (λ (k : ℕ). getD right k 0) y in
+    let fe : e ≡ getD cols (from + (p - from)) 0 = ee ∙ ap (λ (k : ℕ). getD cols k 0) y in
+    summed-more (normalStep vals left right cols work x z from) start from p acc t h s
+    (λ l c.
+    ap (λ (v : List Float). at v l) et
+    ∙ lanes-at (λ l. add binary64 (at acc l) (div binary64 (mul binary64 (mul binary64 (getD vals i nan) (getD vals j nan)) (at xe l)) (at ze l))) l c
+    ∙ ap₂ (λ (u v : ℕ). add binary64 (at acc l) (div binary64 (mul binary64 (mul binary64 (getD vals u nan) (getD vals v nan)) (at xe l)) (at ze l))) fi fj
+    ∙ ap₂
+    (λ (u v : Float). add binary64 (at acc l) (div binary64 (mul binary64 (mul binary64 (getD vals (getD left (from + (p - from)) 0) nan) (getD vals (getD right (from + (p - from)) 0) nan)) u) v))
+    (ap (λ (v : List Float). at v l) ex ∙ lanes-at (here 4 work (x + e)) l c ∙ ap (λ (k : ℕ). here 4 work (x + k) l) fe)
+    (ap (λ (v : List Float). at v l) ez ∙ lanes-at (here 4 work (z + e)) l c ∙ ap (λ (k : ℕ). here 4 work (z + k) l) fe))
+
+pub summed-end : (step : ℕ → ℕ → Float → Float) (start acc : List Float) (from p to : ℕ) → p ≡ to → Summed step start from p acc → Summed step start from to acc
+summed-end step start acc from p to e s = subst (λ (k : ℕ). Summed step start from k acc) e s
+
+-- ---- where an entry starts, and how it is finished
+
+and-false-l : (a b : Bool) → a ≡ false → a && b ≡ false
+and-false-l a b e = ap (λ (t : Bool). t && b) e
+
+and-false-r : (a b : Bool) → b ≡ false → a && b ≡ false
+and-false-r true b e = e
+and-false-r false b e = refl
+
+pub start-on : (i j s : ℕ) (F : ℕ → Float) (z : Float) → i ≡ j → i < s → lanes F ≡ lanes (λ l. cond (eqb i j && ltb i s) (F l) z)
+start-on i j s F z e h = rw (eq-eqb i j e, lt-ltb i s h) refl
+
+pub start-off : (i j s : ℕ) (F : ℕ → Float) → ((i ≡ j → ⊥) ⊎ (s ≤ i)) → lanes (λ l. ofBits binary64 0) ≡ lanes (λ l. cond (eqb i j && ltb i s) (F l) null)
+start-off i j s F (inl n) = rw (and-false-l (eqb i j) (ltb i s) (ne-eqb i j n)) (rw null-bits refl)
+start-off i j s F (inr h) = rw (and-false-r (eqb i j) (ltb i s) (le-ltb i s h)) (rw null-bits refl)
+
+pub finish-on : (i j : ℕ) (F G : ℕ → Float) → i ≡ j → lanes F ≡ lanes (λ l. cond (eqb i j) (F l) (G l))
+finish-on i j F G e = rw (eq-eqb i j e) refl
+
+pub finish-off : (i j : ℕ) (F G : ℕ → Float) → (i ≡ j → ⊥) → lanes G ≡ lanes (λ l. cond (eqb i j) (F l) (G l))
+finish-off i j F G n = rw (ne-eqb i j n) refl
+
+pub front-row-turn : {a b t : List Float} (acc : List Float) (js : List ℕ) (work : List Float) (dy lo from p j : ℕ) (start : List Float) → from ≤ p
+    → Summed (frontStep js work dy lo from) start from p acc
+    → j ≡ getD js p 0 → a ≡ entry work (dy + j) → b ≡ entry work (lo + p) → t ≡ lanes (λ l. sub binary64 (at acc l) (mul binary64 (at a l) (at b l)))
+    → Summed (frontStep js work dy lo from) start from (p + 1) t
+front-row-turn {a} {b} {t} acc js work dy lo from p j start h s ej ea eb et =
+    let z : p ≡ from + (p - from) = omega arith in
+    summed-more (frontStep js work dy lo from) start from p acc t h s
+    (λ l c.
+    ap (λ (v : List Float). at v l) et
+    ∙ lanes-at (λ l. sub binary64 (at acc l) (mul binary64 (at a l) (at b l))) l c
+    ∙ ap₂ (λ (u v : Float). sub binary64 (at acc l) (mul binary64 u v))
+    (ap (λ (v : List Float). at v l) ea ∙ lanes-at (here 4 work (dy + j)) l c ∙ ap (λ (k : ℕ). here 4 work (dy + k) l) (ej ∙ ap (λ (k : ℕ). getD js k 0) z))
+    (ap (λ (v : List Float). at v l) eb ∙ lanes-at (here 4 work (lo + p)) l c ∙ ap (λ (k : ℕ). here 4 work (lo + k) l) z))

@@ -1,0 +1,40 @@
+-- The sixteen lists together. Assumes nothing.
+use mathlib.Core.Path.{_≡_, refl, sym, ap, ap₂, _∙_, subst}
+use mathlib.Core.List.{List, [], _∷_, _++_}
+use Prim.Native.Nat.{ℕ, _+_, _<_, _≤_}
+use native.Mathlib.Omega.{arith}
+use lib.ListN.{length, getD}
+use Rattle.pattern.specs.Word.{bit}
+use Rattle.lists.specs.Cat.{Wrote}
+use Rattle.lists.specs.Lists.{shape, tenOf, sideOf, planOf, plan-parts}
+use Rattle.lists.specs.Ready.{Ready, Accepted}
+use Rattle.lists.specs.declared.Side.the-variants.{Factor, Matrix}
+use Rattle.lists.proofs.Write.{wrote-as}
+use Rattle.lists.proofs.Whole.{three, three-length}
+use Rattle.transpose.specs.Bins.{Grid, sideIn}
+use Rattle.ipm_common.specs.Kept.{Rows}
+use Rattle.ipm_common.proofs.Factor.{side-same}
+
+pub accepted-grid : (off cols : List ℕ) (m n : ℕ) → Accepted off cols m n → Grid off cols m n
+accepted-grid off cols m n a = record {
+  offsets = omega (arith, a .csr .offsets);
+  few = a .csr .few;
+  order = a .csr .order;
+  ends = a .csr .ends;
+  rising = a .csr .rising;
+  nnz = omega (arith, a .csr .nnz);
+  wide = a .wide;
+  within = a .within;
+}
+
+module _ (off cols : List ℕ) (m n : ℕ) (p lp li : List ℕ) (ready : Ready off cols m p) (v : Rows (bit p) lp li m) where
+  pub plan-long : length (planOf (shape off cols) m n) ≡ length (tenOf (shape off cols) m 10) + length (sideIn lp li m m) + length (sideIn off cols m n)
+  plan-long =
+      ap length (plan-parts (shape off cols) m n)
+      ∙ three-length (tenOf (shape off cols) m 10) (sideOf (shape off cols) Factor m m) (sideOf (shape off cols) Matrix m n)
+      ∙ ap (λ (k : ℕ). length (tenOf (shape off cols) m 10) + k + length (sideIn off cols m n)) (sym (ap length (side-same off cols m p ready lp li v)))
+
+  pub plan-wrote : (a b c d : List ℕ) (s t u : ℕ) → Wrote a b 0 (tenOf (shape off cols) m 10) s → Wrote b c s (sideIn lp li m m) t → Wrote c d t (sideIn off cols m n) u → Wrote a d 0 (planOf (shape off cols) m n) u
+  plan-wrote a b c d s t u x y z =
+      wrote-as a d 0 u _ _ (sym (plan-parts (shape off cols) m n))
+      (three a b c d 0 s t u _ _ _ x (wrote-as b c s t _ _ (side-same off cols m p ready lp li v) y) z)

@@ -1,0 +1,27 @@
+use borrow.Author.Needs.{needs}
+use Rattle.kernels.proofs.complement_in.Statement.{statement}
+use Rattle.kernels.proofs.complement_in.Tie as tie
+use Rattle.kernels.proofs.complement_in.Reads as reads
+use Rattle.kernels.proofs.complement_in.Lts as lts
+use Rattle.lanes.proofs.div4.Reads as div4-reads
+use Rattle.lanes.proofs.mul4.Reads as mul4-reads
+use Rattle.lanes.proofs.sub4.Reads as sub4-reads
+
+mul4-requires : tie.Need-mul4-requires
+mul4-requires c κs = search needs
+
+sub4-requires : tie.Need-sub4-requires
+sub4-requires c κs = search needs
+
+div4-requires : tie.Need-div4-requires
+div4-requires c κs = search needs
+
+sub4-requires-2 : tie.Need-sub4-requires-2
+sub4-requires-2 c κs = search needs
+
+returns : tie.Need-returns
+returns c = rw (c .sub42 .ensures, c .before .div4 .ensures, c .before .before .sub4 .ensures, c .before .before .before .mul4 .ensures)
+
+pub complement-in-spec : {M : Type 1} → statement M
+complement-in-spec =
+    tie.close (tie.spec mul4-requires sub4-requires div4-requires sub4-requires-2 returns)

@@ -1,0 +1,22 @@
+use borrow.Author.Needs.{needs}
+use Rattle.kernels.proofs.f_in.Statement.{statement}
+use Rattle.kernels.proofs.f_in.Tie as tie
+use Rattle.kernels.proofs.f_in.Reads as reads
+use Rattle.kernels.proofs.f_in.Lts as lts
+use Rattle.lanes.proofs.neg4.Reads as neg4-reads
+use Rattle.lanes.proofs.sub4.Reads as sub4-reads
+
+sub4-requires : tie.Need-sub4-requires
+sub4-requires c κs = search needs
+
+sub4-requires-2 : tie.Need-sub4-requires-2
+sub4-requires-2 c κs = search needs
+
+neg4-requires : tie.Need-neg4-requires
+neg4-requires c κs = search needs
+
+returns : tie.Need-returns
+returns c = rw (c .neg4 .ensures, c .before .sub42 .ensures, c .before .before .sub4 .ensures)
+
+pub f-in-spec : {M : Type 1} → statement M
+f-in-spec = tie.close (tie.spec sub4-requires sub4-requires-2 neg4-requires returns)

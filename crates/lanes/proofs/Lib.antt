@@ -1,0 +1,5 @@
+pub mod Lists
+pub mod Regions
+pub mod Quads
+pub mod Consts
+pub mod Magnitude

@@ -1,0 +1,5 @@
+pub mod Lists
+pub mod Arithmetic
+pub mod Constants
+pub mod Lanes
+pub mod Region

@@ -1,0 +1,132 @@
+-- What each kind of list adds at a pair is what the code writes there. Assumes nothing.
+use mathlib.Core.Path.{_≡_, refl, sym, ap, ap₂, _∙_, subst}
+use mathlib.Core.Bool.{Bool, true, false, _&&_, _||_}
+use mathlib.Core.List.{List, [], _∷_, _++_, map}
+use Prim.Native.Nat.{ℕ, zero, suc, _+_, _-_, _*_, _<_, _≤_}
+use native.Mathlib.Omega.{arith}
+use native.Mathlib.Numerals.{add-one}
+use lib.Dec.{leb, eqb}
+use lib.ListN.{length, getD}
+use Rattle.csr.specs.Pattern.{stored, neighbours}
+use Rattle.csr.specs.Chain.{stored-diag}
+use Rattle.csr.specs.Counts.{sum, one}
+use Rattle.pattern.specs.Word.{bit, rowOnes}
+use Rattle.pattern.proofs.Digits.{sum-ext}
+use Rattle.lists.specs.Cat.{cat, pick}
+use Rattle.lists.specs.Lists.{Shape, shape, weight, lplace, before, piece, shared, sharedOf, products, place, chosen, walkOf}
+use Rattle.lists.specs.Ready.{Ready}
+use Rattle.lists.specs.declared.Which.the-variants.{AnormIndptr, AnormIndptrI, AnormIndptrJ, AnormIndices, LdecompIndptr, LdecompIndptrI, LdecompIndptrJ, Lindptr, LdiagIndptr, Lindices}
+use Rattle.lists.specs.declared.Take.the-variants.{Left, Right, Column}
+use Rattle.lists.proofs.Write.{cat-ext}
+use Rattle.lists.proofs.Counts.{bit-held, held-stored, row-held, before-row, lplace-from}
+
+pub map-join : (h : ℕ → ℕ) (xs ys : List ℕ) → map h (xs ++ ys) ≡ map h xs ++ map h ys
+map-join h [] ys = refl
+map-join h (x ∷ xs) ys = ap (λ (l : List ℕ). h x ∷ l) (map-join h xs ys)
+
+map-self : (xs : List ℕ) → map (λ e. e) xs ≡ xs
+map-self [] = refl
+map-self (x ∷ xs) = ap (λ (l : List ℕ). x ∷ l) (map-self xs)
+
+pub map-pick : (h : ℕ → ℕ) (t : Bool) (x : ℕ) → map h (pick t x) ≡ pick t (h x)
+map-pick h true x = refl
+map-pick h false x = refl
+
+pub map-cat : (h : ℕ → ℕ) (n : ℕ) (f : ℕ → List ℕ) → map h (cat n f) ≡ cat n (λ k. map h (f k))
+unfolding cat
+map-cat h zero f = refl
+map-cat h (suc n) f = map-join h (cat n f) (f n) ∙ ap (λ (l : List ℕ). l ++ map h (f n)) (map-cat h n f)
+
+and-comm : (a b : Bool) → a && b ≡ b && a
+and-comm true true = refl
+and-comm true false = refl
+and-comm false true = refl
+and-comm false false = refl
+
+module _ (off cols : List ℕ) (m : ℕ) (p : List ℕ) (ready : Ready off cols m p) where
+  -- the places in row r of the k that two rows hold
+  walk-map : (h : ℕ → Bool) (r q bound base : ℕ) → r < m → q < m → bound ≤ 256 → base ≡ lplace (shape off cols) r 0
+      → ((k : ℕ) → k < bound → h k ≡ bit p r k && bit p q k)
+      → map (lplace (shape off cols) r) (cat bound (λ k. pick (h k) k)) ≡ walkOf (bit p) r q bound base
+  unfolding walkOf
+  walk-map h r q bound base hr hq hb e same =
+      map-cat (lplace (shape off cols) r) bound (λ k. pick (h k) k)
+      ∙ cat-ext bound (λ k. map (lplace (shape off cols) r) (pick (h k) k)) (λ k. pick (bit p r k && bit p q k) (base + sum k (λ b. one (bit p r b))))
+      (λ k l.
+      map-pick (lplace (shape off cols) r) (h k) k
+      ∙ ap₂ pick (same k l)
+      (lplace-from (shape off cols) r k
+      ∙ ap₂ _+_ (sym e) (sum-ext k (λ b. one ((shape off cols) .held r b)) (λ b. one (bit p r b)) (λ b n. sym (ap one (bit-held off cols m p ready r b hr (omega arith)))))))
+
+  module _ (i j : ℕ) (hi : i < m) (hj : j ≤ i) where
+    small : i < 256
+    small = omega (arith, ready .csr .few)
+
+    held-is : (t : Bool) → t ≡ bit p i j → (shape off cols) .held i j ≡ t
+    held-is t e = sym (e ∙ bit-held off cols m p ready i j hi (omega (arith, small)))
+
+    pub of-AnormIndptr : (t : Bool) (n : ℕ) → t ≡ bit p i j → n ≡ before (weight (shape off cols) AnormIndptr) i (suc j) → piece (shape off cols) AnormIndptr i j ≡ pick t n
+    unfolding piece
+    of-AnormIndptr t n e g = ap₂ pick (held-is t e) (sym g)
+
+    pub of-LdecompIndptr : (t : Bool) (n : ℕ) → t ≡ bit p i j → n ≡ before (weight (shape off cols) LdecompIndptr) i (suc j) → piece (shape off cols) LdecompIndptr i j ≡ pick t n
+    unfolding piece
+    of-LdecompIndptr t n e g = ap₂ pick (held-is t e) (sym g)
+
+    pub of-AnormIndptrI : piece (shape off cols) AnormIndptrI i j ≡ sharedOf (shape off cols) Left i j
+    unfolding piece sharedOf
+    of-AnormIndptrI = refl
+
+    pub of-AnormIndptrJ : piece (shape off cols) AnormIndptrJ i j ≡ sharedOf (shape off cols) Right i j
+    unfolding piece sharedOf
+    of-AnormIndptrJ = refl
+
+    pub of-AnormIndices : piece (shape off cols) AnormIndices i j ≡ sharedOf (shape off cols) Column i j
+    unfolding piece sharedOf
+    of-AnormIndices = sym (map-self (shared (shape off cols) i j))
+
+    both-bits : (k : ℕ) → k < j → (shape off cols) .held i k && (shape off cols) .held j k ≡ bit p i k && bit p j k
+    both-bits k l = sym (ap₂ _&&_ (bit-held off cols m p ready i k hi (omega (arith, small))) (bit-held off cols m p ready j k (omega arith) (omega (arith, small))))
+
+    pub of-LdecompIndptrI : (e : ℕ) → e ≡ lplace (shape off cols) i 0 → piece (shape off cols) LdecompIndptrI i j ≡ walkOf (bit p) i j j e
+    unfolding piece products
+    of-LdecompIndptrI e g =
+        walk-map (λ k. (shape off cols) .held i k && (shape off cols) .held j k) i j j e hi (omega arith) (omega (arith, small)) g both-bits
+
+    pub of-LdecompIndptrJ : (f : ℕ) → f ≡ lplace (shape off cols) j 0 → piece (shape off cols) LdecompIndptrJ i j ≡ walkOf (bit p) j i j f
+    unfolding piece products
+    of-LdecompIndptrJ f g =
+        walk-map (λ k. (shape off cols) .held i k && (shape off cols) .held j k) j i j f (omega arith) hi (omega (arith, small)) g
+        (λ k l. both-bits k l ∙ and-comm (bit p i k) (bit p j k))
+
+    -- the place after row i
+    pub after-row : (e : ℕ) → e ≡ lplace (shape off cols) i 0 → lplace (shape off cols) (suc i) 0 ≡ e + rowOnes p i
+    unfolding lplace
+    after-row e g =
+        ap (λ (k : ℕ). lplace (shape off cols) k 0) (sym (add-one i))
+        ∙ row-next
+        ∙ lplace-from (shape off cols) i (i + 1)
+        ∙ ap₂ _+_ (sym g) (ap (λ (k : ℕ). sum k (λ b. one ((shape off cols) .held i b))) (add-one i) ∙ sym (row-held off cols m p ready i hi))
+      where
+        row-next : lplace (shape off cols) (i + 1) 0 ≡ lplace (shape off cols) i (i + 1)
+        row-next = before-row (λ a b. one ((shape off cols) .held a b)) i
+
+    pub of-Lindptr : (e x : ℕ) → e ≡ lplace (shape off cols) i 0 → x ≡ rowOnes p i → piece (shape off cols) Lindptr i j ≡ pick (eqb j i) (e + x)
+    unfolding piece
+    of-Lindptr e x g q = ap (pick (eqb j i)) (after-row e g ∙ ap (λ (k : ℕ). e + k) (sym q))
+
+    -- the diagonal is the last of its row
+    diag-last : rowOnes p i ≡ sum i (λ b. one ((shape off cols) .held i b)) + 1
+    unfolding sum
+    diag-last = row-held off cols m p ready i hi ∙ ap (λ (t : Bool). sum i (λ b. one ((shape off cols) .held i b)) + one t) (held-stored off cols i i (omega arith) ∙ stored-diag (neighbours off cols) i i refl)
+
+    pub row-some : (x : ℕ) → x ≡ rowOnes p i → 1 ≤ x
+    row-some x e = omega (arith, diag-last)
+
+    pub of-LdiagIndptr : (e x : ℕ) → e ≡ lplace (shape off cols) i 0 → x ≡ rowOnes p i → piece (shape off cols) LdiagIndptr i j ≡ pick (eqb j i) (e + x - 1)
+    unfolding piece
+    of-LdiagIndptr e x g q = ap (pick (eqb j i)) (omega (arith, lplace-from (shape off cols) i i, diag-last))
+
+    pub of-Lindices : (t : Bool) → t ≡ bit p i j → piece (shape off cols) Lindices i j ≡ pick t j
+    unfolding piece
+    of-Lindices t e = ap (λ (s : Bool). pick s j) (held-is t e)

@@ -1,0 +1,136 @@
+-- Demand 3 from what a solve's contract says. Assumes nothing.
+use mathlib.Core.Path.{_≡_, refl, sym, ap, _∙_, subst}
+use mathlib.Core.Logic.{_⊎_, inl, inr, _↔_, _≢_}
+use mathlib.Core.Bool.{Bool, true, false, cond, true≢false, false≢true}
+use mathlib.Core.List.{List, [], _∷_, _++_}
+use Prim.Native.Nat.{ℕ, zero, suc, _+_, _-_, _*_, _≤_, _<_}
+use native.Mathlib.Nat.{eq-or-lt-of-le}
+use native.Mathlib.Omega.{arith}
+use lib.Ieee.{Float}
+use lib.ListN.{length, drop, replicate, getD}
+use Rattle.csr.specs.Pattern.{neighbours, stored}
+use Rattle.csr.specs.Chain.{Chain, factor-stored, stored↔chain, neighbours-sym}
+use Rattle.lanes.specs.Lists.{at}
+use Rattle.machine.specs.Machine.{Status, spoilt, Machine, live, lost, status, next, yields, machine, left, start, inFactor}
+use Rattle.lanes.specs.Arithmetic.{null}
+use Rattle.machine.specs.Outcome.{Outcome, accepted, noAt11, noAt12, testsMade, outcome, Call, laneData, laneMachine, laneStatus, solved, xOf, xAt}
+use Rattle.machine.specs.Ends.{Ends}
+use Rattle.machine.specs.Demand3.{Memory, Buffers, isLost, Has, numbers, fresh, Moved, AtTest, Made, once, again, outputAfter, leaves, Demand3}
+use Rattle.machine.specs.Work.{Says, Stepped, stepOf, stepBy, Ran}
+use Rattle.machine.proofs.Ends.{ends, larger}
+use Rattle.machine.proofs.Machines.{others, output-at, fresh-has, moved-has, said-of, lane-next}
+
+module _ (C : Call) where
+  not-accepted : (o : Outcome) (v : List Float) → ((k : ℕ) → o ≢ accepted k) → outputAfter C o v ≡ v
+  not-accepted (accepted k) v n = absurd (n k refl)
+  not-accepted (noAt11 k l) v n = refl
+  not-accepted (noAt12 k) v n = refl
+
+  -- the machine's factor below the diagonal, by chains
+  pub factor-chain : (i j : ℕ) → j < i → (inFactor (C .problem) i j ≡ true) ↔ Chain (neighbours (C .problem .off) (C .problem .cols)) i j
+  unfolding inFactor
+  factor-chain i j h =
+      let off = C .problem .off in
+      let cols = C .problem .cols in
+      let e = factor-stored off cols i j (omega arith) in
+      let s = stored↔chain (neighbours off cols) (neighbours-sym off cols) i j h in
+      (λ t. s .0 (sym e ∙ t), λ w. e ∙ s .1 w)
+
+  pub solved-larger : (N N' : ℕ) → N ≤ N' → solved C N ≢ noAt12 N → solved C N' ≡ solved C N
+  unfolding solved
+  solved-larger N N' h n = larger (C .K) (laneStatus C) N N' h n
+
+  pub solved-ends : (N : ℕ) → Ends (C .K) (laneStatus C) N (solved C N)
+  unfolding solved
+  solved-ends N = ends (C .K) (laneStatus C) N
+
+  -- ---- for a loop over the tests: one more test
+
+  pub made-test : (k : ℕ) (M : Memory) (said : List Status) → Made C k M said → AtTest C k M said
+  made-test k M said (once e a) = a
+  made-test k M said (again m v a) = a
+
+  pub made-from : (k : ℕ) (M : Memory) (said : List Status) → Made C k M said → 1 ≤ k
+  made-from k M said (once e a) = omega arith
+  made-from k M said (again m v a) = omega arith
+
+  -- the first test: the memory is all 1000.0, and the test says what its numbers yield
+  first-memory : Memory
+  first-memory = fresh (C .K) (C .problem .m) (C .problem .n) (C .problem .s)
+
+  fresh-says : (l : ℕ) → l < C .K → laneStatus C l 1 ≡ status (C .problem) (C .settings) (laneData C l) (numbers C first-memory l)
+  unfolding laneStatus laneMachine machine left start first-memory
+  fresh-says l b = said-of C (laneMachine C l 1) l (numbers C first-memory l) (fresh-has C l b)
+
+  pub made-once : (M : Memory) (said : List Status) → M ≡ fresh (C .K) (C .problem .m) (C .problem .n) (C .problem .s) → Says C M said → Made C 1 M said
+  unfolding first-memory
+  made-once M said e h =
+      once e (record {
+        has = λ l b. subst (λ (Z : Memory). Has (laneMachine C l 1) (numbers C Z l)) (sym e) (fresh-has C l b);
+        says = λ l b. h l b ∙ ap (λ (Z : Memory). status (C .problem) (C .settings) (laneData C l) (numbers C Z l)) e ∙ sym (fresh-says l b);
+      })
+
+  -- each further one: the step moves every lane as its own machine does, and the test says spoilt of a lane that the step lost, and of any complement what its numbers yield
+  pub made-again : (k : ℕ) (M M' : Memory) (said said' : List Status)
+      → Made C k M said
+      → ((l : ℕ) → l < C .K → laneStatus C l k ≢ spoilt)
+      → Moved C M M'
+      → ((l : ℕ) → l < C .K → getD said' l spoilt
+      ≡ cond (isLost (next (C .problem) (C .settings) (laneData C l) (live (numbers C M l)))) spoilt (status (C .problem) (C .settings) (laneData C l) (numbers C M' l)))
+      → Made C (k + 1) M' said'
+  unfolding laneStatus
+  made-again k M M' said said' m n v h =
+      let a = made-test k M said m in
+      let o = made-from k M said m in
+      again m v (record {
+        has = moved-has C k M M' said o a n v;
+        says = λ l b.
+            h l b
+            ∙ sym (said-of C (next (C .problem) (C .settings) (laneData C l) (live (numbers C M l))) l (numbers C M' l) (v l b))
+            ∙ ap (yields (C .problem) (C .settings) (laneData C l)) (sym (lane-next C k M said o a l b (n l b)));
+      })
+
+  -- what a chain of tests says of each one of them
+  pub every-test : (k : ℕ) (M : Memory) (said : List Status) → Made C k M said → (j : ℕ) → 1 ≤ j → j ≤ k → (M' : Memory) × (said' : List Status) × AtTest C j M' said'
+  every-test k M said (once {M = N} e a) j h b = let z : j ≡ 1 = omega arith in (N, said, subst (λ (i : ℕ). AtTest C i N said) (sym z) a)
+  every-test k M said (again {k = i} {M = N} {M' = N'} {said = t} m v a) j h b = go (λ (z : j ≤ i). every-test i N t m j h z) (eq-or-lt-of-le b)
+    where
+      go : (j ≤ i → (M' : Memory) × (said' : List Status) × AtTest C j M' said') → (j ≡ i + 1) ⊎ (j < i + 1) → (M' : Memory) × (said' : List Status) × AtTest C j M' said'
+      go ih (inl z) = (N', said, subst (λ (x : ℕ). AtTest C x N' said) (sym z) a)
+      go ih (inr z) = ih (omega arith)
+
+  module _ (plan : List ℕ) (F : ℕ) (planned : ℕ → ℕ → Bool) (N : ℕ) (B : Buffers) where
+    leaves-same : (N' : ℕ) → solved C N' ≡ solved C N → leaves C plan F N' B ≡ leaves C plan F N B
+    leaves-same N' e i =
+        record {
+          output = outputAfter C (e i) (B .output);
+          index = plan ++ drop (length plan) (B .index);
+          work = replicate F null ++ drop F (B .work);
+        }
+
+    -- A run that made its tests, the answer and the lent lists: that is all that a contract of `solve` has to give
+    pub demand3 : (B' : Buffers) (o : Outcome)
+        → (M : Memory) (said : List Status) → Made C (testsMade (C .K) (laneStatus C) N) M said
+        → ((i j : ℕ) → j < i → i < C .problem .m → planned i j ≡ stored (neighbours (C .problem .off) (C .problem .cols)) i j)
+        → o ≡ solved C N
+        → B' ≡ leaves C plan F N B
+        → Demand3 C plan F planned N B B' o
+    demand3 B' o M said made p e f =
+        record {
+          tests = (M, said, made);
+          others = others C;
+          factor = λ i j h b. (
+            let s = stored↔chain (neighbours (C .problem .off) (C .problem .cols)) (neighbours-sym (C .problem .off) (C .problem .cols)) i j h in
+                (λ t. s .0 (sym (p i j h b) ∙ t), λ w. p i j h b ∙ s .1 w),
+            factor-chain i j h,
+          );
+          ends = subst (Ends (C .K) (laneStatus C) N) (sym e) (solved-ends N);
+          output = λ k l x a h b.
+              ap (λ (Z : Buffers). at (Z .output) (C .K * x + l)) f
+              ∙ ap (λ (z : Outcome). at (outputAfter C z (B .output)) (C .K * x + l)) (sym e ∙ a)
+              ∙ output-at C k l x h b;
+          kept = λ n. ap (λ (Z : Buffers). Z .output) f ∙ not-accepted (solved C N) (B .output) (λ k a. n k (e ∙ a));
+          larger = λ N' h u n.
+              let z : solved C N' ≡ solved C N = solved-larger N N' h (λ a. n (e ∙ a)) in
+              (z ∙ sym e, leaves-same N' z ∙ sym f);
+        }

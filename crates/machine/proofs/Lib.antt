@@ -1,0 +1,10 @@
+pub mod Ends
+pub mod Machines
+pub mod Demand3
+pub mod Floats
+pub mod Wait
+pub mod Factor
+pub mod Walks
+pub mod Output
+pub mod Turns
+pub mod Entries

@@ -1,0 +1,82 @@
+use mathlib.Core.Path.{_≡_, refl, sym, ap, _∙_, subst}
+use mathlib.Core.Bool.{Bool, true, false, not}
+use Prim.Native.Nat.{ℕ, suc, _≤_, _<_, _-_, _+_}
+use native.Mathlib.Omega.{arith}
+use native.Mathlib.Nat.{eq-or-lt-of-le}
+use mathlib.Core.Logic.{_⊎_, inl, inr}
+use mathlib.Core.List.{List}
+use lib.ListN.{getD}
+use borrow.Author.Needs.{needs}
+use Rattle.machine.specs.Machine.{Status, spoilt}
+use Rattle.machine.specs.Outcome.{isSpoilt, isDone}
+use Rattle.lanes.proofs.Lists.{first-at, first-all}
+use Rattle.machine.proofs.lowest_undone.Statement.{statement}
+use Rattle.machine.proofs.lowest_undone.Tie as tie
+use Rattle.machine.proofs.lowest_undone.Reads as reads
+use Rattle.machine.proofs.lowest_undone.Lts as lts
+use Rattle.machine.proofs.is_done.Reads as is-done-reads
+
+one-more : (v : List Status) (l : ℕ) → ((j : ℕ) → j < l → not (isDone (getD v j spoilt)) ≡ false) → not (isDone (getD v l spoilt)) ≡ false → (j : ℕ) → j < l + 1 → not (isDone (getD v j spoilt)) ≡ false
+one-more v l h e j b = go (eq-or-lt-of-le b)
+  where
+    go : (suc j ≡ l + 1) ⊎ (suc j < l + 1) → not (isDone (getD v j spoilt)) ≡ false
+    go (inl z) = let y : j ≡ l = omega arith in subst (λ (j : ℕ). not (isDone (getD v j spoilt)) ≡ false) (sym y) e
+    go (inr z) = h j (omega arith)
+
+abbrev Inv-loop : tie.InvT-loop
+Inv-loop statuses l₀ l = (l ≤ 4) × ((j : ℕ) → j < l → not (isDone (getD statuses j spoilt)) ≡ false)
+
+abbrev μ-loop : tie.MeasureT-loop
+μ-loop statuses l₀ l = 4 - l
+
+-- src/lib.rt:67:5
+loop-holds : tie.Need-loop-holds Inv-loop μ-loop
+loop-holds c = (omega arith, λ j h. absurd (omega arith))
+
+-- src/lib.rt:68:17
+mul-t : tie.Need-mul-t Inv-loop μ-loop
+mul-t c = search needs
+
+-- src/lib.rt:68:17
+array-copy-out-t : tie.Need-array-copy-out-t Inv-loop μ-loop
+array-copy-out-t c = search needs
+
+-- src/lib.rt:69:13
+is-done-requires : tie.Need-is-done-requires Inv-loop μ-loop
+is-done-requires c κs = search needs
+
+-- src/lib.rt:70:13
+returns : tie.Need-returns Inv-loop μ-loop
+returns c = sym (first-at (λ j. not (isDone (getD (c .before .before .before .before .before .args .t1) j spoilt))) 4 (c .before .before .before .before .loop .l) (omega arith) (sym (ap not (c .before .is-done .ensures)) ∙ c .if1 .taken) (c .before .before .before .before .loop .inv .1))
+
+-- src/lib.rt:72:9
+add-l : tie.Need-add-l Inv-loop μ-loop
+add-l c = search needs
+
+-- src/lib.rt:67:5
+loop-less : tie.Need-loop-less Inv-loop μ-loop
+loop-less c = search needs
+
+-- src/lib.rt:67:5
+loop-again : tie.Need-loop-again Inv-loop μ-loop
+loop-again c = (omega arith, one-more (c .before .before .before .before .before .args .t1) (c .before .before .before .before .loop .l) (c .before .before .before .before .loop .inv .1) (sym (ap not (c .before .is-done .ensures)) ∙ c .if1 .left))
+
+-- src/lib.rt:63:1
+returns-2 : tie.Need-returns-2 Inv-loop μ-loop
+returns-2 c = sym (first-all (λ j. not (isDone (getD (c .before .before .args .t1) j spoilt))) 4 (λ j h. c .before .loop .inv .1 j (omega arith)))
+
+pub lowest-undone-spec : {M : Type 1} → statement M
+lowest-undone-spec =
+    tie.close
+    (tie.spec
+    Inv-loop
+    μ-loop
+    loop-holds
+    mul-t
+    array-copy-out-t
+    is-done-requires
+    returns
+    add-l
+    loop-less
+    loop-again
+    returns-2)

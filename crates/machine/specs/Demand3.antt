@@ -1,0 +1,116 @@
+-- Demand 3: one claim about all the tests of a solve. Definitions only.
+use mathlib.Core.Path.{_≡_}
+use mathlib.Core.Logic.{_↔_, _≢_}
+use mathlib.Core.Bool.{Bool, true, false}
+use mathlib.Core.List.{List, [], _∷_, _++_}
+use Prim.Native.Nat.{ℕ, zero, suc, _+_, _*_, _≤_, _<_}
+use lib.ListN.{getD, length, drop, replicate}
+use lib.Ieee.{Float}
+use Rattle.csr.specs.Pattern.{neighbours}
+use Rattle.csr.specs.Chain.{Chain}
+use Rattle.lanes.specs.Lists.{at, lane}
+use Rattle.machine.specs.Machine.{Problem, LaneData, Settings, State, Machine, live, lost, Status, spoilt, done, steps, status, next, inFactor}
+use Rattle.lanes.specs.Arithmetic.{whole, null}
+use Rattle.machine.specs.Outcome.{Outcome, accepted, noAt11, noAt12, testsMade, Call, laneData, laneMachine, laneStatus, solved, xOf, xAt}
+use Rattle.machine.specs.Ends.{Ends}
+
+-- the lists in which a solve keeps the numbers of all its lanes
+pub record Memory : Type 0 where
+  pub x : List Float
+  pub z : List Float
+  pub y : List Float
+  pub w : List Float
+
+-- the lent lists that a solve may direction
+pub record Buffers : Type 0 where
+  pub output : List Float
+  pub index : List ℕ
+  pub work : List Float
+
+-- all of it 1000.0
+abbrev pub fresh : ℕ → ℕ → ℕ → ℕ → Memory
+fresh K m n s =
+    record {
+      x = replicate (K * n) (whole 1000);
+      z = replicate (K * n) (whole 1000);
+      y = replicate (K * m) (whole 1000);
+      w = replicate (K * s) (whole 1000);
+    }
+
+abbrev pub isLost : Machine → Bool
+isLost (live q) = false
+isLost lost = true
+
+-- a lane with these numbers has those of the machine; the numbers of a lost machine are free
+abbrev pub Has : Machine → State → Type 0
+Has (live q) p = p ≡ q
+Has lost p = Unit {0}
+
+module _ (C : Call) where
+  -- lane l's numbers
+  abbrev pub numbers : Memory → ℕ → State
+  numbers M l =
+      record {
+        x = lane (C .K) (C .problem .n) l (M .x);
+        z = lane (C .K) (C .problem .n) l (M .z);
+        y = lane (C .K) (C .problem .m) l (M .y);
+        w = lane (C .K) (C .problem .s) l (M .w);
+      }
+
+  -- each lane of M' has what the lane's own step or wait makes of its numbers in M: what the program's step promises
+  abbrev pub Moved : Memory → Memory → Type 0
+  Moved M M' = (l : ℕ) → l < C .K → Has (next (C .problem) (C .settings) (laneData C l) (live (numbers M l))) (numbers M' l)
+
+  -- each lane has the numbers that its machine's test k reads: a program's test requires this of its memory
+  abbrev pub Reads : ℕ → Memory → Type 0
+  Reads k M = (l : ℕ) → l < C .K → Has (laneMachine C l k) (numbers M l)
+
+  -- at test k each lane has its machine's numbers, and the test said of it what the machine's test yields
+  pub record AtTest (k : ℕ) (M : Memory) (said : List Status) : Type 0 where
+    pub has : Reads k M
+    pub says : (l : ℕ) → l < C .K → getD said l spoilt ≡ laneStatus C l k
+
+  -- tests 1 to k were made, the last on the memory M, and it said this: a chain of memories, the first of 1000.0, each moved to the next
+  pub data Made : ℕ → Memory → List Status → Type 0 where
+    once : {M : Memory} {said : List Status} → M ≡ fresh (C .K) (C .problem .m) (C .problem .n) (C .problem .s) → AtTest 1 M said → Made 1 M said
+    again : {k : ℕ} {M M' : Memory} {said said' : List Status}
+        → Made k M said → Moved M M' → AtTest (k + 1) M' said' → Made (k + 1) M' said'
+
+  -- what a solve leaves in the output, and in all lent lists: W words of plan, F zeros
+  abbrev pub outputAfter : Outcome → List Float → List Float
+  outputAfter (accepted k) v = xAt C k
+  outputAfter (noAt11 k l) v = v
+  outputAfter (noAt12 k) v = v
+
+  abbrev pub leaves : List ℕ → ℕ → ℕ → Buffers → Buffers
+  leaves plan F N B =
+      record {
+        output = outputAfter (solved C N) (B .output);
+        index = plan ++ drop (length plan) (B .index);
+        work = replicate F null ++ drop F (B .work);
+      }
+
+  -- `plan` and F are the matrix's; `planned i j`: the plan's factor has an entry (i, j)
+  pub record Demand3 (plan : List ℕ) (F : ℕ) (planned : ℕ → ℕ → Bool) (N : ℕ) (B B' : Buffers) (o : Outcome) : Type 0 where
+    -- at every test made each lane has its machine's numbers, and is done or spoilt exactly when the machine is
+    pub tests : (M : Memory) × (said : List Status) × Made (testsMade (C .K) (laneStatus C) N) M said
+    -- whatever the complement lanes hold
+    pub others :
+        (b c t : List Float) (l k : ℕ)
+        → let C' : Call = record { K = C .K; problem = C .problem; settings = C .settings; b = b; c = c; tolerances = t } in
+        laneData C' l ≡ laneData C l
+        → laneMachine C' l k ≡ laneMachine C l k
+    -- the planned factor's entries and the machine's, by chains
+    pub factor :
+        (i j : ℕ)
+        → j < i
+        → i < C .problem .m
+        → ((planned i j ≡ true) ↔ Chain (neighbours (C .problem .off) (C .problem .cols)) i j)
+        × ((inFactor (C .problem) i j ≡ true) ↔ Chain (neighbours (C .problem .off) (C .problem .cols)) i j)
+    -- accepted, at 11, at 12
+    pub ends : Ends (C .K) (laneStatus C) N o
+    -- the output is each machine's x there, bit for bit; else it is as before
+    pub output : (k l e : ℕ) → o ≡ accepted k → l < C .K → e < C .problem .n → at (B' .output) (C .K * e + l) ≡ xOf C (laneMachine C l k) e
+    pub kept : ((k : ℕ) → o ≢ accepted k) → B' .output ≡ B .output
+    -- a larger limit
+    pub larger : (N' : ℕ) → N ≤ N' → N' ≤ 10000 → o ≢ noAt12 N → (solved C N' ≡ o) × (leaves plan F N' B ≡ B')

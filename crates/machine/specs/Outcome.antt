@@ -1,0 +1,104 @@
+-- A solve of K lanes up to a limit: which test stops it, and with what. Definitions only.
+use mathlib.Core.Bool.{Bool, true, false, cond, _&&_, _||_, not}
+use mathlib.Core.List.{List, [], _∷_, _++_}
+use Prim.Native.Nat.{ℕ, zero, suc, _+_, _-_, _*_, _/_, _%_}
+use lib.Dec.{eqb, ltb}
+use lib.ListN.{getD, length}
+use lib.Ieee.{Float}
+pub use Rattle.machine.specs.declared.Outcome.{Outcome}
+pub use Rattle.machine.specs.declared.Outcome.the-variants.{Accepted as accepted, NoAt11 as noAt11, NoAt12 as noAt12}
+use Rattle.lanes.specs.Lists.{at, vec, first, lane}
+use Rattle.machine.specs.Machine.{Problem, LaneData, Settings, State, Machine, live, lost, Status, spoilt, done, steps, machine, yields}
+
+abbrev pub isSpoilt : Status → Bool
+isSpoilt spoilt = true
+isSpoilt done = false
+isSpoilt (steps t) = false
+
+abbrev pub isDone : Status → Bool
+isDone spoilt = false
+isDone done = true
+isDone (steps t) = false
+
+-- `says l k`: what test k of lane l yields
+module _ (K : ℕ) (says : ℕ → ℕ → Status) where
+  -- the lowest spoilt lane at test k, or K; the lowest lane that is not done, or K
+  unfoldable pub lowestSpoilt : ℕ → ℕ
+  unfolding first
+  lowestSpoilt k = first K (λ l. isSpoilt (says l k))
+
+  unfoldable pub lowestUndone : ℕ → ℕ
+  unfolding first
+  lowestUndone k = first K (λ l. not (isDone (says l k)))
+
+  unfoldable pub someSpoilt : ℕ → Bool
+  unfolding lowestSpoilt
+  someSpoilt k = ltb (lowestSpoilt k) K
+
+  unfoldable pub allDone : ℕ → Bool
+  unfolding lowestUndone
+  allDone k = eqb (lowestUndone k) K
+
+  -- the solve stops at the first test that yields a spoilt lane or all lanes done; where there is none up to N it is a no at 12
+  unfoldable pub outcome : ℕ → Outcome
+  unfolding first someSpoilt allDone
+  outcome N =
+      let j = first N (λ i. someSpoilt (i + 1) || allDone (i + 1)) in
+      let k = j + 1 in
+      cond (eqb j N) (noAt12 N) (cond (someSpoilt k) (noAt11 k (lowestSpoilt k)) (accepted k))
+
+  -- how many tests are made
+  unfoldable pub testsMade : ℕ → ℕ
+  unfolding first someSpoilt allDone
+  testsMade N =
+      let j = first N (λ i. someSpoilt (i + 1) || allDone (i + 1)) in
+      cond (eqb j N) N (j + 1)
+
+-- ---- a call: the problem, and the lists of all lanes
+pub record Call : Type 0 where
+  pub K : ℕ
+  pub problem : Problem
+  pub settings : Settings
+  pub b : List Float
+  pub c : List Float
+  pub tolerances : List Float
+
+module _ (C : Call) where
+  -- what lane l is fed
+  abbrev pub laneData : ℕ → LaneData
+  laneData l =
+      record {
+        b = lane (C .K) (C .problem .m) l (C .b);
+        c = lane (C .K) (C .problem .n) l (C .c);
+        primal = at (C .tolerances) l;
+        dual = at (C .tolerances) (C .K + l);
+        gap = at (C .tolerances) (2 * C .K + l);
+      }
+
+  -- lane l's machine as test k reads it, and what the test yields
+  unfoldable pub laneMachine : ℕ → ℕ → Machine
+  unfolding machine lane
+  laneMachine l k = machine (C .problem) (C .settings) (laneData l) k
+
+  unfoldable pub laneStatus : ℕ → ℕ → Status
+  unfolding yields laneMachine
+  laneStatus l k = yields (C .problem) (C .settings) (laneData l) (laneMachine l k)
+
+  unfoldable pub solved : ℕ → Outcome
+  unfolding outcome laneStatus
+  solved N = outcome (C .K) laneStatus N
+
+  -- the verdict of lane l's machine run alone (for a solve in which each lane drops out by itself)
+  unfoldable pub alone : ℕ → ℕ → Outcome
+  unfolding outcome laneStatus
+  alone l N = outcome 1 (λ _. laneStatus l) N
+
+  -- entry e lane l of the output: each machine's x
+  abbrev pub xOf : Machine → ℕ → Float
+  xOf (live q) e = at (q .x) e
+  xOf lost e = lib.Ieee.nan
+
+  -- the machines' x at test k, entry e lane l at K * e + l
+  unfoldable pub xAt : ℕ → List Float
+  unfolding vec laneMachine
+  xAt k = vec (C .K * C .problem .n) (λ p. xOf (laneMachine (p % C .K) k) (p / C .K))

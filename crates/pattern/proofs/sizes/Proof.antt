@@ -1,0 +1,181 @@
+use Prim.Native.Nat.{ℕ, suc, _≤_, _<_, _+_, _*_, _-_}
+use mathlib.Core.Path.{_≡_, refl, sym, ap, ap₂, _∙_, subst}
+use mathlib.Core.Bool.{Bool, true, false}
+use mathlib.Core.List.{List}
+use native.Mathlib.Omega.{arith}
+use lib.ListN.{length}
+use Rattle.csr.specs.Pattern.{row, neighbours}
+use Rattle.csr.specs.Counts.{sum, countE, countS, countD}
+use Rattle.pattern.proofs.Whole.{count-E, count-D, sum-next, bothN, commonN, clear-zeros}
+use Rattle.pattern.proofs.sizes.Statement.{statement}
+use Rattle.pattern.proofs.sizes.Tie as tie
+use Rattle.pattern.proofs.sizes.Reads as reads
+use Rattle.pattern.proofs.sizes.Lts as lts
+use Rattle.pattern.proofs.both_ones.Reads as both-ones-reads
+use Rattle.pattern.proofs.count.Reads as count-reads
+use Rattle.pattern.proofs.pattern.Reads as pattern-reads
+use Rattle.pattern.proofs.shared_rows.Reads as shared-rows-reads
+
+abbrev Inv-loop2 : tie.InvT-loop2
+Inv-loop2 off cols m p e s₀ t₀ i j₀ s t j =
+    (j ≤ i + 1) × (s ≡ s₀ + sum j (λ b. commonN off cols i b)) × (t ≡ t₀ + sum j (λ b. bothN p i b)) × (s ≤ s₀ + 16384 * j) × (t ≤ t₀ + 256 * j)
+
+abbrev μ-loop2 : tie.MeasureT-loop2
+μ-loop2 off cols m p e s₀ t₀ i j₀ s t j = i + 1 - j
+
+abbrev Inv-loop : tie.InvT-loop
+Inv-loop off cols m p e s₀ t₀ i₀ s t i =
+    (i ≤ m) × (s ≡ sum i (λ a. sum (suc a) (λ b. commonN off cols a b))) × (t ≡ sum i (λ a. sum (suc a) (λ b. bothN p a b))) × (s ≤ 4194304 * i) × (t ≤ 65536 * i)
+
+abbrev μ-loop : tie.MeasureT-loop
+μ-loop off cols m p e s₀ t₀ i₀ s t i = m - i
+
+-- src/lib.rt:171:27
+slice-aggregate-pattern : tie.Need-slice-aggregate-pattern Inv-loop2 μ-loop2 Inv-loop μ-loop
+slice-aggregate-pattern c = refl
+
+-- src/lib.rt:171:5
+pattern-requires : tie.Need-pattern-requires Inv-loop2 μ-loop2 Inv-loop μ-loop
+pattern-requires c κs = (c .before .before .before .pre, refl, λ i h. clear-zeros 1024 i)
+
+-- src/lib.rt:172:19
+slice-aggregate-count : tie.Need-slice-aggregate-count Inv-loop2 μ-loop2 Inv-loop μ-loop
+slice-aggregate-count c = sym (c .before .before .pattern .kept .1 .1 .1 .0)
+
+-- src/lib.rt:172:9
+count-requires : tie.Need-count-requires Inv-loop2 μ-loop2 Inv-loop μ-loop
+count-requires c κs = (c .before .before .pattern .kept .1 .1 .1 .0, c .before .before .before .before .before .before .pre .few)
+
+-- src/lib.rt:176:5
+loop-holds : tie.Need-loop-holds Inv-loop2 μ-loop2 Inv-loop μ-loop
+unfolding sum
+loop-holds c = omega arith
+
+-- src/lib.rt:178:9
+loop2-holds : tie.Need-loop2-holds Inv-loop2 μ-loop2 Inv-loop μ-loop
+unfolding sum
+loop2-holds c = omega arith
+
+-- src/lib.rt:179:18
+shared-rows-requires : tie.Need-shared-rows-requires Inv-loop2 μ-loop2 Inv-loop μ-loop
+shared-rows-requires c κs = (c .before .before .before .before .before .before .before .before .before .before .before .pre, omega arith, omega arith)
+
+-- src/lib.rt:179:13
+add-s : tie.Need-add-s Inv-loop2 μ-loop2 Inv-loop μ-loop
+add-s c = omega (arith, c .before .before .before .before .before .before .before .before .before .before .before .before .pre .few)
+
+-- src/lib.rt:180:28
+slice-aggregate-both-ones : tie.Need-slice-aggregate-both-ones Inv-loop2 μ-loop2 Inv-loop μ-loop
+slice-aggregate-both-ones c = sym (c .before .before .before .before .before .before .before .before .before .pattern .kept .1 .1 .1 .0)
+
+-- src/lib.rt:180:18
+both-ones-requires : tie.Need-both-ones-requires Inv-loop2 μ-loop2 Inv-loop μ-loop
+both-ones-requires c κs = (c .before .before .before .before .before .before .before .before .before .pattern .kept .1 .1 .1 .0, omega (arith, c .before .before .before .before .before .before .before .before .before .before .before .before .before .pre .few), omega (arith, c .before .before .before .before .before .before .before .before .before .before .before .before .before .pre .few))
+
+-- src/lib.rt:180:13
+add-t : tie.Need-add-t Inv-loop2 μ-loop2 Inv-loop μ-loop
+add-t c = omega (arith, c .before .before .before .before .before .before .before .before .before .before .before .before .before .before .pre .few)
+
+-- src/lib.rt:181:13
+add-j : tie.Need-add-j Inv-loop2 μ-loop2 Inv-loop μ-loop
+add-j c = omega (arith, c .before .before .before .before .before .before .before .before .before .before .before .before .before .before .pre .few)
+
+-- src/lib.rt:178:9
+loop2-less : tie.Need-loop2-less Inv-loop2 μ-loop2 Inv-loop μ-loop
+loop2-less c = omega arith
+
+-- src/lib.rt:178:9
+loop2-again : tie.Need-loop2-again Inv-loop2 μ-loop2 Inv-loop μ-loop
+unfolding bothN commonN
+loop2-again c =
+    let a = c .before .before .before .before .before .before .before .before .before .before .before .before .before .before .args in
+    let l = c .before .before .before .before .loop2 in
+    let i = c .before .before .before .before .before .before .loop .i in
+    let p = c .before .before .before .before .before .before .before .before .before .before .pattern .last .1 .1 .1 .0 in (
+      omega arith,
+      omega (arith, sum-next (l .j) (λ b. commonN (a .off .now) (a .cols .now) i b), c .before .before .shared-rows .ensures .0, l .inv .1),
+      omega (arith, sum-next (l .j) (λ b. bothN p i b), c .both-ones .ensures .0, l .inv .2),
+      omega (arith, l .inv .3, c .before .before .shared-rows .ensures .1),
+      omega (arith, l .inv .4, c .both-ones .ensures .1),
+    )
+
+-- src/lib.rt:183:9
+add-i : tie.Need-add-i Inv-loop2 μ-loop2 Inv-loop μ-loop
+add-i c = omega (arith, c .before .before .before .before .before .before .before .before .before .before .before .pre .few)
+
+-- src/lib.rt:176:5
+loop-less : tie.Need-loop-less Inv-loop2 μ-loop2 Inv-loop μ-loop
+loop-less c = omega arith
+
+-- src/lib.rt:176:5
+loop-again : tie.Need-loop-again Inv-loop2 μ-loop2 Inv-loop μ-loop
+loop-again c =
+    let a = c .before .before .before .before .before .before .before .before .before .before .before .args in
+    let l = c .before .loop2 in
+    let o = c .before .before .before .loop in
+    let p = c .before .before .before .before .before .before .before .pattern .last .1 .1 .1 .0 in
+    let e : l .j ≡ suc (o .i) = omega arith in (
+      omega arith,
+      omega (arith, sum-next (o .i) (λ a′. sum (suc a′) (λ b. commonN (a .off .now) (a .cols .now) a′ b)), l .inv .1, o .inv .1, ap (λ (n : ℕ). sum n (λ b. commonN (a .off .now) (a .cols .now) (o .i) b)) e),
+      omega (arith, sum-next (o .i) (λ a′. sum (suc a′) (λ b. bothN p a′ b)), l .inv .2, o .inv .2, ap (λ (n : ℕ). sum n (λ b. bothN p (o .i) b)) e),
+      omega (arith, l .inv .3, o .inv .3, c .before .before .before .before .before .before .before .before .before .before .before .pre .few),
+      omega (arith, l .inv .4, o .inv .4, c .before .before .before .before .before .before .before .before .before .before .before .pre .few),
+    )
+
+-- what the loops leave: E, and D with E
+total : (c : tie.After-loop Inv-loop2 μ-loop2 Inv-loop μ-loop)
+    → (c .before .before .count .result ≡ countE (c .before .before .before .before .before .before .before .before .before .args .off .now) (c .before .before .before .before .before .before .before .before .before .args .cols .now) (c .before .before .before .before .before .before .before .before .before .args .m))
+    × (c .before .loop .t ≡ countD (c .before .before .before .before .before .before .before .before .before .args .off .now) (c .before .before .before .before .before .before .before .before .before .args .cols .now) (c .before .before .before .before .before .before .before .before .before .args .m) + countE (c .before .before .before .before .before .before .before .before .before .args .off .now) (c .before .before .before .before .before .before .before .before .before .args .cols .now) (c .before .before .before .before .before .before .before .before .before .args .m))
+unfolding bothN
+total c =
+    let s = c .before .before .before .before .before .before .before .before .before in
+    let p = c .before .before .before .before .before .pattern .last .1 .1 .1 .0 in
+    let e : c .before .loop .i ≡ s .args .m = omega arith in (
+      c .before .before .count .ensures ∙ count-E (s .args .off .now) (s .args .cols .now) p (s .args .m) (s .pre .few) (c .before .before .before .before .before .pattern .ensures),
+      c .before .loop .inv .2
+          ∙ ap (λ (n : ℕ). sum n (λ a. sum (suc a) (λ b. bothN p a b))) e
+          ∙ count-D (s .args .off .now) (s .args .cols .now) p (s .args .m) (s .pre .few) (c .before .before .before .before .before .pattern .ensures),
+    )
+
+-- src/lib.rt:185:22
+sub-t21 : tie.Need-sub-t21 Inv-loop2 μ-loop2 Inv-loop μ-loop
+sub-t21 c = omega (arith, total c .0, total c .1)
+
+-- src/lib.rt:166:1
+returns : tie.Need-returns Inv-loop2 μ-loop2 Inv-loop μ-loop
+unfolding countS commonN
+returns c =
+    let s = c .before .before .before .before .before .before .before .before .before in
+    let e : c .before .loop .i ≡ s .args .m = omega arith in (
+      total c .0,
+      c .before .loop .inv .1 ∙ ap (λ (n : ℕ). sum n (λ a. sum (suc a) (λ b. commonN (s .args .off .now) (s .args .cols .now) a b))) e,
+      omega (arith, total c .0, total c .1),
+    )
+
+pub sizes-spec : {M : Type 1} → statement M
+sizes-spec =
+    tie.close
+    (tie.spec
+    Inv-loop2
+    μ-loop2
+    Inv-loop
+    μ-loop
+    slice-aggregate-pattern
+    pattern-requires
+    slice-aggregate-count
+    count-requires
+    loop-holds
+    loop2-holds
+    shared-rows-requires
+    add-s
+    slice-aggregate-both-ones
+    both-ones-requires
+    add-t
+    add-j
+    loop2-less
+    loop2-again
+    add-i
+    loop-less
+    loop-again
+    sub-t21
+    returns)

@@ -1,0 +1,44 @@
+-- Bits of words, and a pattern of 256 rows of 256 bits, four words to a row.
+-- Assumes nothing.
+use mathlib.Core.Path.{_≡_, refl}
+use mathlib.Core.Bool.{Bool, true, false, _&&_, _||_}
+use mathlib.Core.List.{List, [], _∷_}
+use Prim.Native.Nat.{ℕ, zero, suc, _+_, _*_, _/_, _%_, _^_, _<_, _≤_}
+use lib.Dec.{eqb, leb, ltb}
+use lib.ListN.{getD}
+use Rattle.csr.specs.Pattern.{stored}
+use Rattle.csr.specs.Counts.{sum, one}
+
+-- is digit k of a number set?
+unfoldable pub digit : ℕ → ℕ → Bool
+digit n k = eqb (n / 2 ^ k % 2) 1
+
+-- bit j of row i
+unfoldable pub bit : List ℕ → ℕ → ℕ → Bool
+unfolding digit
+bit p i j = digit (getD p (i * 4 + j / 64) 0) (j % 64)
+
+-- p is q with bit j of row i set, and no other bit changed
+abbrev pub Put : List ℕ → List ℕ → ℕ → ℕ → Type 0
+Put q p i j = (a b : ℕ) → a < 256 → b < 256 → bit p a b ≡ (eqb a i && eqb b j) || bit q a b
+
+-- row i of p holds just what `stored` says
+abbrev pub Done : (ℕ → ℕ → Bool) → List ℕ → ℕ → Type 0
+Done nb p i = (b : ℕ) → b < 256 → bit p i b ≡ leb b i && stored nb i b
+
+-- row i of p holds the diagonal and the neighbours below it
+abbrev pub Seeded : (ℕ → ℕ → Bool) → List ℕ → ℕ → Type 0
+Seeded nb p i = (b : ℕ) → b < 256 → bit p i b ≡ eqb i b || (ltb b i && nb i b)
+
+-- p and q agree but for row i
+abbrev pub OtherRows : List ℕ → List ℕ → ℕ → Type 0
+OtherRows q p i = (a b : ℕ) → a < 256 → b < 256 → (a ≡ i → ⊥) → bit p a b ≡ bit q a b
+
+-- the number of bits set in row i
+unfoldable pub rowOnes : List ℕ → ℕ → ℕ
+unfolding bit sum
+rowOnes p i = sum 256 (λ j. one (bit p i j))
+
+-- row i of p is clear
+abbrev pub Clear : List ℕ → ℕ → Type 0
+Clear p i = (b : ℕ) → b < 256 → bit p i b ≡ false

@@ -1,0 +1,152 @@
+-- An entry of the factor: what its sums read is there, what they make is the machine's, and it is put where it belongs. Assumes nothing.
+use mathlib.Core.Path.{_≡_, refl, sym, ap, ap₂, _∙_, subst}
+use mathlib.Core.Logic.{_⊎_, inl, inr}
+use mathlib.Core.Bool.{Bool, true, false, cond, _&&_, _||_, true≢false, false≢true}
+use mathlib.Core.List.{List, [], _∷_, _++_, map}
+use Prim.Native.Nat.{ℕ, zero, suc, _+_, _-_, _*_, _<_, _≤_}
+use native.Mathlib.Omega.{arith}
+use native.Mathlib.Numerals.{add-one}
+use native.Mathlib.Decide.{decLt}
+use borrow.Author.Tests.{lt-ltb, le-ltb, ltb-true}
+use lib.Dec.{eqb, ltb}
+use lib.ListN.{length, getD}
+use lib.Ieee.{Float, nan, binary64, add, sub, mul, div}
+use Rattle.csr.specs.Counts.{sum, one}
+use Rattle.csr.specs.Chain.{factorHas}
+use Rattle.lists.specs.Cat.{cat, pick, pairs}
+use Rattle.lists.specs.Lists.{Shape, shape, lplace, before, weight, products, shared, piece, listOf}
+use Rattle.lists.specs.Ready.{Accepted}
+use Rattle.lists.specs.declared.Which.the-variants.{AnormIndptr, AnormIndptrI, AnormIndptrJ, AnormIndices, LdecompIndptr, LdecompIndptrI, LdecompIndptrJ, Lindptr, LdiagIndptr, Lindices}
+use Rattle.lanes.specs.Lanes.{lanes, quad as entry4, cell as here}
+use Rattle.lanes.specs.Region.{reg, Wrote, Apart, before as ahead, after}
+use Rattle.lanes.proofs.Regions.{reg-at, wrote-apart, apart-front}
+use Rattle.lanes.proofs.Quads.{lanes-at, lanes-ext}
+use Rattle.lanes.specs.Lists.{at, fold, each}
+use Rattle.machine.specs.Machine.{Problem, State, holds, entry, inFactor, reduced, factorEntry, factor, cell}
+use Rattle.lanes.specs.Arithmetic.{null}
+use Rattle.machine.proofs.Factor.{entry-same, factor-is, Before}
+use Rattle.ranks.specs.Kernel.{normalStep, productStep, NormalIn, ProductIn, Planned, Regions, Given, Stands, Factored, stateOf, matrixOf, entries}
+use Rattle.ranks.proofs.Ranks.{pairs-at, pairs-in, before-next, ranked, ranked-in, ends-at, lplace-next, lplace-lt, lplace-lt-row, byEntry, by-entry-length, by-row-at, by-row-in, Entry, entry-of}
+use Rattle.ranks.proofs.Picks.{picks-all, held-factor, held-diag, anorm-none, ldecomp-none}
+use Rattle.ranks.proofs.Meets.{shared-length, products-length, anorm-i-at, anorm-j-at, anorm-e-at, anorm-i-long, anorm-j-long, anorm-e-long, ldecomp-i-long, ldecomp-j-long, products-in, shared-lt, left-lt, right-lt, ldecomp-i-at, ldecomp-j-at, normal-is, products-is}
+
+module _ (m n s : ℕ) (off cols : List ℕ) (vals : List Float) (ok : Accepted off cols m n) where
+  abbrev g : Shape
+  g = shape off cols
+
+  abbrev A : Problem
+  A = matrixOf m n s off cols vals
+
+  abbrev wA : ℕ → ℕ → ℕ
+  wA = weight g AnormIndptr
+
+  abbrev wD : ℕ → ℕ → ℕ
+  wD = weight g LdecompIndptr
+
+  -- ---- the ends of an entry's numbers
+
+  module _ (i j e : ℕ) (st : Stands off cols m i j e) where
+    pub anorm-from : getD (listOf g AnormIndptr m) e 0 ≡ before wA i j
+    unfolding listOf piece
+    anorm-from = rw (st .at) (ends-at g m wA (λ a b _ l t. anorm-none off cols a b l t) i j (st .row) (omega (arith, st .low)))
+
+    pub anorm-to : getD (listOf g AnormIndptr m) (e + 1) 0 ≡ before wA i (suc j)
+    unfolding listOf piece
+    anorm-to = rw (add-one e, st .at) (ranked g m (λ a b. before wA a (suc b)) i j (st .row) (st .low) (st .held))
+
+    pub ldecomp-from : getD (listOf g LdecompIndptr m) e 0 ≡ before wD i j
+    unfolding listOf piece
+    ldecomp-from = rw (st .at) (ends-at g m wD (λ a b _ l t. ldecomp-none off cols a b l t) i j (st .row) (omega (arith, st .low)))
+
+    pub ldecomp-to : getD (listOf g LdecompIndptr m) (e + 1) 0 ≡ before wD i (suc j)
+    unfolding listOf piece
+    ldecomp-to = rw (add-one e, st .at) (ranked g m (λ a b. before wD a (suc b)) i j (st .row) (st .low) (st .held))
+
+    pub anorm-room : e + 1 < length (listOf g AnormIndptr m)
+    unfolding listOf piece
+    anorm-room = omega (arith, ranked-in g m (λ a b. before wA a (suc b)) i j (st .row) (st .low) (st .held), st .at)
+
+    pub ldecomp-room : e + 1 < length (listOf g LdecompIndptr m)
+    unfolding listOf piece
+    ldecomp-room = omega (arith, ranked-in g m (λ a b. before wD a (suc b)) i j (st .row) (st .low) (st .held), st .at)
+
+    pub diag-is : getD (listOf g LdiagIndptr m) j 0 ≡ lplace g j j
+    unfolding listOf piece
+    diag-is = by-row-at m (λ a. lplace g a a) j (omega (arith, st .row, st .low))
+
+    pub diag-room : j < length (listOf g LdiagIndptr m)
+    unfolding listOf piece
+    diag-room = by-row-in m (λ a. lplace g a a) j (omega (arith, st .row, st .low))
+
+    pub entry-room : e < entries off cols m
+    entry-room = omega (arith, st .at, lplace-lt g i j m (st .row) (st .low) (st .held))
+
+    pub diag-entry : lplace g j j < entries off cols m
+    diag-entry = lplace-lt g j j m (omega (arith, st .row, st .low)) (omega arith) (held-diag off cols j)
+
+    -- ---- what the sums read is there
+    module _ (work : List Float) (x z y w lo : ℕ) (values : length vals ≡ length cols) (R : Regions x z y w lo m n s (entries off cols m) work) where
+      pub normal-ready : NormalIn vals (listOf g AnormIndptrI m) (listOf g AnormIndptrJ m) (listOf g AnormIndices m) work x z (before wA i j) (before wA i (suc j))
+      normal-ready = record {
+        order = omega (arith, before-next wA i j);
+        is-long = anorm-i-long m n s off cols vals ok i j (st .row) (st .low);
+        js-long = anorm-j-long m n s off cols vals ok i j (st .row) (st .low);
+        es-long = anorm-e-long m n s off cols vals ok i j (st .row) (st .low);
+        is-in = λ p a b. omega (arith, ap (λ (k : ℕ). getD (listOf g AnormIndptrI m) k 0) (from-on p a), anorm-i-at m n s off cols vals ok i j (st .row) (st .low) (p - before wA i j) (near p a b), left-lt m n s off cols vals ok i j (st .row) (st .low) (p - before wA i j) (near p a b));
+        js-in = λ p a b. omega (arith, ap (λ (k : ℕ). getD (listOf g AnormIndptrJ m) k 0) (from-on p a), anorm-j-at m n s off cols vals ok i j (st .row) (st .low) (p - before wA i j) (near p a b), right-lt m n s off cols vals ok i j (st .row) (st .low) (p - before wA i j) (near p a b));
+        x-in = λ p a b. omega (arith, column p a b, R .x-in);
+        z-in = λ p a b. omega (arith, column p a b, R .z-in);
+      }
+        where
+          from-on : (p : ℕ) → before wA i j ≤ p → before wA i j + (p - before wA i j) ≡ p
+          from-on p a = omega arith
+
+          near : (p : ℕ) → before wA i j ≤ p → p < before wA i (suc j) → p - before wA i j < wA i j
+          near p a b = omega (arith, before-next wA i j)
+
+          column : (p : ℕ) → before wA i j ≤ p → p < before wA i (suc j) → getD (listOf g AnormIndices m) p 0 < n
+          column p a b =
+              omega (arith, ap (λ (k : ℕ). getD (listOf g AnormIndices m) k 0) (from-on p a), anorm-e-at m n s off cols vals ok i j (st .row) (st .low) (p - before wA i j) (near p a b), shared-lt m n s off cols vals ok i j (st .row) (st .low) (p - before wA i j) (near p a b))
+
+      pub product-ready : ProductIn (listOf g LdecompIndptrI m) (listOf g LdecompIndptrJ m) work lo (before wD i j) (before wD i (suc j))
+      product-ready = record {
+        order = omega (arith, before-next wD i j);
+        is-long = ldecomp-i-long m n s off cols vals ok i j (st .row) (st .low);
+        js-long = ldecomp-j-long m n s off cols vals ok i j (st .row) (st .low);
+        is-in = λ p a b. omega (arith, ap (λ (k : ℕ). getD (listOf g LdecompIndptrI m) k 0) (from-on p a), ldecomp-i-at m n s off cols vals ok i j (st .row) (st .low) (p - before wD i j) (near p a b), products-in m n s off cols vals ok i j (st .row) (st .low) (p - before wD i j) (near p a b) .0, R .l-in);
+        js-in = λ p a b. omega (arith, ap (λ (k : ℕ). getD (listOf g LdecompIndptrJ m) k 0) (from-on p a), ldecomp-j-at m n s off cols vals ok i j (st .row) (st .low) (p - before wD i j) (near p a b), products-in m n s off cols vals ok i j (st .row) (st .low) (p - before wD i j) (near p a b) .1, R .l-in);
+      }
+        where
+          from-on : (p : ℕ) → before wD i j ≤ p → before wD i j + (p - before wD i j) ≡ p
+          from-on p a = omega arith
+
+          near : (p : ℕ) → before wD i j ≤ p → p < before wD i (suc j) → p - before wD i j < wD i j
+          near p a b = omega (arith, before-next wD i j)
+
+      -- ---- what they make is the machine's, of the factor as it stands in the memory
+
+      abbrev pub first : ℕ → Float
+      first l = cond (eqb i j && ltb i s) (div binary64 (here 4 work (w + i) l) (here 4 work (y + i) l)) null
+
+      first-is : (l : ℕ) → first l ≡ cond (eqb i j && ltb i s) (div binary64 (at (reg 4 work w s l) i) (at (reg 4 work y m l) i)) null
+      first-is l = go (eqb i j) (ltb i s) refl
+        where
+          go : (t u : Bool) → ltb i s ≡ u
+              → cond (t && u) (div binary64 (here 4 work (w + i) l) (here 4 work (y + i) l)) null ≡ cond (t && u) (div binary64 (at (reg 4 work w s l) i) (at (reg 4 work y m l) i)) null
+          go true true e = rw (reg-at 4 work w s l i (ltb-true i s e), reg-at 4 work y m l i (st .row)) refl
+          go true false e = refl
+          go false u e = refl
+
+      abbrev pub inMemory : ℕ → ℕ → ℕ → Float
+      inMemory l a b = here 4 work (lo + lplace g a b) l
+
+      pub rest-is : (l : ℕ)
+          → fold (before wD i (suc j) - before wD i j) (productStep (listOf g LdecompIndptrI m) (listOf g LdecompIndptrJ m) work lo (before wD i j) l)
+          (fold (before wA i (suc j) - before wA i j) (normalStep vals (listOf g AnormIndptrI m) (listOf g AnormIndptrJ m) (listOf g AnormIndices m) work x z (before wA i j) l) (first l))
+          ≡ reduced A (stateOf work x z y w m n s l) (inMemory l) i j
+      unfolding reduced
+      rest-is l =
+          let da : before wA i (suc j) - before wA i j ≡ wA i j = omega (arith, before-next wA i j) in
+          let dd : before wD i (suc j) - before wD i j ≡ wD i j = omega (arith, before-next wD i j) in
+          rw (da, dd, first-is l, normal-is m n s off cols vals ok i j (st .row) (st .low) work x z l (cond (eqb i j && ltb i s) (div binary64 (at (reg 4 work w s l) i) (at (reg 4 work y m l) i)) null))
+          (products-is m n s off cols vals ok i j (st .row) (st .low) work lo l _)

@@ -1,0 +1,86 @@
+use native.Mathlib.Omega.{arith}
+use mathlib.Core.Path.{_≡_, _∙_, ap, sym, refl}
+use Prim.Native.Nat.{ℕ, _-_, _+_, _≤_, _<_}
+use lib.ListN.{length, getD}
+use Rattle.rows.proofs.Spans.{span-same, span-all}
+use Rattle.rows.specs.Parts.{plusRow, lessRow, plusCol, lessCol}
+use borrow.Author.Needs.{needs}
+use Rattle.rows.proofs.col_less.Statement.{statement}
+use Rattle.rows.proofs.col_less.Tie as tie
+use Rattle.rows.proofs.col_less.Reads as reads
+use Rattle.rows.proofs.col_less.Lts as lts
+use Rattle.sparse.proofs.less_col.Reads as less-col-reads
+
+mul-a : tie.Need-mul-a
+mul-a c = search needs
+
+shared-slice-read-a : tie.Need-shared-slice-read-a
+shared-slice-read-a c = search needs
+
+cast-a : tie.Need-cast-a
+cast-a c = omega (arith, c .shared-slice-known6 .given (c .before .before .before .before .before .before .args .e))
+
+add-g : tie.Need-add-g
+add-g c = search needs
+
+mul-g : tie.Need-mul-g
+mul-g c = search needs
+
+shared-slice-read-g : tie.Need-shared-slice-read-g
+shared-slice-read-g c = search needs
+
+cast-g : tie.Need-cast-g
+cast-g c = omega (arith, c .shared-slice-known7 .given (c .before .before .before .before .before .before .before .args .e + 1))
+
+mul-less-col : tie.Need-mul-less-col
+mul-less-col c = omega (arith, c .before .before .before .before .before .before .before .pre .0 .csr .rises (c .before .before .before .before .before .before .before .args .e) (c .before .before .before .before .before .before .before .pre .1), c .before .before .before .before .before .before .before .pre .0 .csr .ends (c .before .before .before .before .before .before .before .args .e) (c .before .before .before .before .before .before .before .pre .1), c .before .before .before .before .before .before .before .pre .0 .sizes)
+
+sub-less-col : tie.Need-sub-less-col
+sub-less-col c = omega (arith, c .before .before .before .before .before .before .before .pre .0 .csr .rises (c .before .before .before .before .before .before .before .args .e) (c .before .before .before .before .before .before .before .pre .1), c .before .before .before .before .before .before .before .pre .0 .csr .ends (c .before .before .before .before .before .before .before .args .e) (c .before .before .before .before .before .before .before .pre .1), c .before .before .before .before .before .before .before .pre .0 .sizes)
+
+part-less-col-start : tie.Need-part-less-col-start
+part-less-col-start c = omega (arith, c .before .before .before .before .before .before .before .pre .0 .csr .rises (c .before .before .before .before .before .before .before .args .e) (c .before .before .before .before .before .before .before .pre .1), c .before .before .before .before .before .before .before .pre .0 .csr .ends (c .before .before .before .before .before .before .before .args .e) (c .before .before .before .before .before .before .before .pre .1), c .before .before .before .before .before .before .before .pre .0 .sizes)
+
+part-less-col-end : tie.Need-part-less-col-end
+part-less-col-end c = omega (arith, c .before .before .before .before .before .before .before .pre .0 .csr .rises (c .before .before .before .before .before .before .before .args .e) (c .before .before .before .before .before .before .before .pre .1), c .before .before .before .before .before .before .before .pre .0 .csr .ends (c .before .before .before .before .before .before .before .args .e) (c .before .before .before .before .before .before .before .pre .1), c .before .before .before .before .before .before .before .pre .0 .sizes)
+
+mul-less-col-2 : tie.Need-mul-less-col-2
+mul-less-col-2 c = omega (arith, c .before .before .before .before .before .before .before .before .pre .0 .csr .rises (c .before .before .before .before .before .before .before .before .args .e) (c .before .before .before .before .before .before .before .before .pre .1), c .before .before .before .before .before .before .before .before .pre .0 .csr .ends (c .before .before .before .before .before .before .before .before .args .e) (c .before .before .before .before .before .before .before .before .pre .1), c .before .before .before .before .before .before .before .before .pre .0 .sizes)
+
+sub-less-col-2 : tie.Need-sub-less-col-2
+sub-less-col-2 c = omega (arith, c .before .before .before .before .before .before .before .before .pre .0 .csr .rises (c .before .before .before .before .before .before .before .before .args .e) (c .before .before .before .before .before .before .before .before .pre .1), c .before .before .before .before .before .before .before .before .pre .0 .csr .ends (c .before .before .before .before .before .before .before .before .args .e) (c .before .before .before .before .before .before .before .before .pre .1), c .before .before .before .before .before .before .before .before .pre .0 .sizes)
+
+part-less-col-start-2 : tie.Need-part-less-col-start-2
+part-less-col-start-2 c = omega (arith, c .before .before .before .before .before .before .before .before .pre .0 .csr .rises (c .before .before .before .before .before .before .before .before .args .e) (c .before .before .before .before .before .before .before .before .pre .1), c .before .before .before .before .before .before .before .before .pre .0 .csr .ends (c .before .before .before .before .before .before .before .before .args .e) (c .before .before .before .before .before .before .before .before .pre .1), c .before .before .before .before .before .before .before .before .pre .0 .sizes)
+
+part-less-col-end-2 : tie.Need-part-less-col-end-2
+part-less-col-end-2 c = omega (arith, c .before .before .before .before .before .before .before .before .pre .0 .csr .rises (c .before .before .before .before .before .before .before .before .args .e) (c .before .before .before .before .before .before .before .before .pre .1), c .before .before .before .before .before .before .before .before .pre .0 .csr .ends (c .before .before .before .before .before .before .before .before .args .e) (c .before .before .before .before .before .before .before .before .pre .1), c .before .before .before .before .before .before .before .before .pre .0 .sizes)
+
+less-col-requires : tie.Need-less-col-requires
+less-col-requires c κs = ((span-same (c .before .before .before .before .before .before .before .before .before .pre .0 .csr) (c .before .before .before .before .before .before .before .before .before .args .e) (c .before .before .before .before .before .before .before .before .before .pre .1) (c .before .before .before .before .before .before .before .before .before .args .places .now) (c .before .before .before .before .before .before .before .before .before .pre .0 .sizes), span-all (c .before .before .before .before .before .before .before .before .before .pre .0 .csr) (c .before .before .before .before .before .before .before .before .before .args .e) (c .before .before .before .before .before .before .before .before .before .pre .1) (c .before .before .before .before .before .before .before .before .before .args .rows .now) (λ (e : ℕ). e < c .before .before .before .before .before .before .before .before .before .args .m) refl (c .before .before .before .before .before .before .before .before .before .pre .0 .csr .below), span-all (c .before .before .before .before .before .before .before .before .before .pre .0 .csr) (c .before .before .before .before .before .before .before .before .before .args .e) (c .before .before .before .before .before .before .before .before .before .pre .1) (c .before .before .before .before .before .before .before .before .before .args .places .now) (λ (e : ℕ). e < length (c .before .before .before .before .before .before .before .before .before .args .vals .now)) (c .before .before .before .before .before .before .before .before .before .pre .0 .sizes) (c .before .before .before .before .before .before .before .before .before .pre .0 .range)), c .before .before .before .before .before .before .before .before .before .pre .2)
+
+returns : tie.Need-returns
+unfolding lessCol
+returns c = c .less-col .ensures
+
+pub col-less-spec : {M : Type 1} → statement M
+col-less-spec =
+    tie.close
+    (tie.spec
+    mul-a
+    shared-slice-read-a
+    cast-a
+    add-g
+    mul-g
+    shared-slice-read-g
+    cast-g
+    mul-less-col
+    sub-less-col
+    part-less-col-start
+    part-less-col-end
+    mul-less-col-2
+    sub-less-col-2
+    part-less-col-start-2
+    part-less-col-end-2
+    less-col-requires
+    returns)

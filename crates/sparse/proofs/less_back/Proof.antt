@@ -1,0 +1,100 @@
+use native.Mathlib.Omega.{arith}
+use mathlib.Core.Path.{_≡_, _∙_, ap}
+use Prim.Native.Nat.{_-_, _+_}
+use lib.ListN.{length, getD}
+use lib.Ieee.{binary64, add, sub, nan}
+use Rattle.lanes.specs.Region.{reg}
+use Rattle.lanes.proofs.Quads.{reg-quad}
+use Rattle.sparse.proofs.Loops.{Sum, sum-start, sum-turn, sum-end}
+use Rattle.sparse.specs.Sparse.{plusAll, lessAll, lessEach}
+use Rattle.sparse.proofs.less_back.Statement.{statement}
+use Rattle.sparse.proofs.less_back.Tie as tie
+use Rattle.sparse.proofs.less_back.Reads as reads
+use Rattle.sparse.proofs.less_back.Lts as lts
+use Rattle.lanes.proofs.get4.Reads as get4-reads
+use Rattle.sparse.proofs.less_in.Reads as less-in-reads
+
+abbrev Inv-loop : tie.InvT-loop
+Inv-loop es ps work d n l count acc₀ k₀ acc k =
+    Sum (sub binary64) (λ t j. getD (reg 4 work d n t) (getD es j 0) nan) (λ t j. getD (reg 4 work l count t) (getD ps j 0) nan) (length es) acc₀ acc k
+
+abbrev μ-loop : tie.MeasureT-loop
+μ-loop es ps work d n l count acc₀ k₀ acc k = length es - k
+
+loop-holds : tie.Need-loop-holds Inv-loop μ-loop
+loop-holds c = sum-start (c .before .before .before .good .1 .1 .1 .1 .1 .1 .1 .0 .1 .0 .1)
+
+mul-j : tie.Need-mul-j Inv-loop μ-loop
+mul-j c = omega arith
+
+shared-slice-read-j : tie.Need-shared-slice-read-j Inv-loop μ-loop
+shared-slice-read-j c = omega arith
+
+cast-j : tie.Need-cast-j Inv-loop μ-loop
+cast-j c = omega (arith, c .shared-slice-known4 .given (c .before .before .loop .k))
+
+mul-p : tie.Need-mul-p Inv-loop μ-loop
+mul-p c = omega arith
+
+shared-slice-read-p : tie.Need-shared-slice-read-p Inv-loop μ-loop
+shared-slice-read-p c = omega arith
+
+cast-p : tie.Need-cast-p Inv-loop μ-loop
+cast-p c = omega (arith, c .shared-slice-known5 .given (c .before .before .before .loop .k))
+
+add-get4 : tie.Need-add-get4 Inv-loop μ-loop
+add-get4 c = omega (arith, c .before .before .before .before .before .before .before .pre .0 .1 (c .before .before .before .loop .k) (c .before .before .loop-test .taken))
+
+get4-requires : tie.Need-get4-requires Inv-loop μ-loop
+get4-requires c κs = omega (arith, c .before .before .before .before .before .before .before .pre .0 .1 (c .before .before .before .loop .k) (c .before .before .loop-test .taken))
+
+add-get4-2 : tie.Need-add-get4-2 Inv-loop μ-loop
+add-get4-2 c = let s = c .before .before .before .before .before .before .before .before in omega (arith, s .pre .0 .2 (c .before .before .before .before .loop .k) (omega (arith, s .pre .0 .0, c .before .before .before .loop-test .taken)))
+
+get4-requires-2 : tie.Need-get4-requires-2 Inv-loop μ-loop
+get4-requires-2 c κs = let s = c .before .before .before .before .before .before .before .before in omega (arith, s .pre .0 .2 (c .before .before .before .before .loop .k) (omega (arith, s .pre .0 .0, c .before .before .before .loop-test .taken)))
+
+less-in-requires : tie.Need-less-in-requires Inv-loop μ-loop
+less-in-requires c κs = tt
+
+add-k : tie.Need-add-k Inv-loop μ-loop
+add-k c = omega arith
+
+loop-less : tie.Need-loop-less Inv-loop μ-loop
+loop-less c = omega arith
+
+loop-again : tie.Need-loop-again Inv-loop μ-loop
+loop-again c =
+    let at = c .before .before .before .before .before .before in
+    let s = at .before .before .before .before in
+    let h = c .before .before .before .before .before .loop-test .taken in
+    sum-turn (at .loop .inv) h (c .less-in .ensures)
+    (c .before .before .get4 .ensures ∙ reg-quad (s .args .work .now) (s .args .d) (s .args .n) (getD (s .args .es .now) (at .loop .k) 0) (s .pre .0 .1 (at .loop .k) h))
+    (c .before .get42 .ensures ∙ reg-quad (s .args .work .now) (s .args .l) (s .args .count) (getD (s .args .ps .now) (at .loop .k) 0) (s .pre .0 .2 (at .loop .k) (omega (arith, s .pre .0 .0))))
+
+returns : tie.Need-returns Inv-loop μ-loop
+unfolding lessEach
+returns c = sum-end (c .before .loop .inv) (c .loop-test .left)
+
+pub less-back-spec : {M : Type 1} → statement M
+less-back-spec =
+    tie.close
+    (tie.spec
+    Inv-loop
+    μ-loop
+    loop-holds
+    mul-j
+    shared-slice-read-j
+    cast-j
+    mul-p
+    shared-slice-read-p
+    cast-p
+    add-get4
+    get4-requires
+    add-get4-2
+    get4-requires-2
+    less-in-requires
+    add-k
+    loop-less
+    loop-again
+    returns)

@@ -1,0 +1,154 @@
+use native.Mathlib.Omega.{arith}
+use mathlib.Core.Path.{_≡_, _∙_, ap, sym}
+use Prim.Native.Nat.{_-_, _+_, _≤_, _<_}
+use lib.ListN.{length, getD}
+use lib.Ieee.{binary64, nan}
+use Rattle.lanes.specs.Region.{reg}
+use Rattle.lanes.proofs.Regions.{grows-none}
+use Rattle.lanes.proofs.Quads.{grows-turn}
+use Rattle.lanes.specs.Region.{Grows}
+use Rattle.substitution.proofs.Turns.{cut-length, cut-at, front-value, front-turn, front-end, back-value, Falls, falls-start, falls-turn, falls-end, solve-end}
+use Rattle.sparse.specs.Sparse.{frontAt}
+use borrow.Author.Needs.{needs}
+use Rattle.substitution.proofs.back_entry.Statement.{statement}
+use Rattle.substitution.proofs.back_entry.Tie as tie
+use Rattle.substitution.proofs.back_entry.Reads as reads
+use Rattle.substitution.proofs.back_entry.Lts as lts
+use Rattle.lanes.proofs.div4.Reads as div4-reads
+use Rattle.lanes.proofs.get4.Reads as get4-reads
+use Rattle.sparse.proofs.less_back.Reads as less-back-reads
+
+mul-a : tie.Need-mul-a
+mul-a c = search needs
+
+shared-slice-read-a : tie.Need-shared-slice-read-a
+shared-slice-read-a c = search needs
+
+cast-a : tie.Need-cast-a
+cast-a c = omega (arith, c .shared-slice-known6 .given (c .before .before .before .before .before .before .args .i))
+
+add-a : tie.Need-add-a
+add-a c = omega (arith, c .shared-slice-known6 .given (c .before .before .before .before .before .before .args .i))
+
+add-e : tie.Need-add-e
+add-e c = search needs
+
+mul-e : tie.Need-mul-e
+mul-e c = search needs
+
+shared-slice-read-e : tie.Need-shared-slice-read-e
+shared-slice-read-e c = search needs
+
+cast-e : tie.Need-cast-e
+cast-e c = omega (arith, c .shared-slice-known7 .given (c .before .before .before .before .before .before .before .args .i + 1))
+
+add-get4 : tie.Need-add-get4
+add-get4 c = search needs
+
+get4-requires : tie.Need-get4-requires
+get4-requires c κs = search needs
+
+mul-less-back : tie.Need-mul-less-back
+mul-less-back c = omega (arith, c .before .before .before .before .before .before .before .before .pre .0 .0 .rises (c .before .before .before .before .before .before .before .before .args .i) (c .before .before .before .before .before .before .before .before .pre .0 .1), c .before .before .before .before .before .before .before .before .pre .0 .0 .ends (c .before .before .before .before .before .before .before .before .args .i) (c .before .before .before .before .before .before .before .before .pre .0 .1), c .before .before .before .before .before .before .before .before .pre .0 .0 .sizes)
+
+sub-less-back : tie.Need-sub-less-back
+sub-less-back c = omega (arith, c .before .before .before .before .before .before .before .before .pre .0 .0 .rises (c .before .before .before .before .before .before .before .before .args .i) (c .before .before .before .before .before .before .before .before .pre .0 .1), c .before .before .before .before .before .before .before .before .pre .0 .0 .ends (c .before .before .before .before .before .before .before .before .args .i) (c .before .before .before .before .before .before .before .before .pre .0 .1), c .before .before .before .before .before .before .before .before .pre .0 .0 .sizes)
+
+part-less-back-start : tie.Need-part-less-back-start
+part-less-back-start c = omega (arith, c .before .before .before .before .before .before .before .before .pre .0 .0 .rises (c .before .before .before .before .before .before .before .before .args .i) (c .before .before .before .before .before .before .before .before .pre .0 .1), c .before .before .before .before .before .before .before .before .pre .0 .0 .ends (c .before .before .before .before .before .before .before .before .args .i) (c .before .before .before .before .before .before .before .before .pre .0 .1), c .before .before .before .before .before .before .before .before .pre .0 .0 .sizes)
+
+part-less-back-end : tie.Need-part-less-back-end
+part-less-back-end c = omega (arith, c .before .before .before .before .before .before .before .before .pre .0 .0 .rises (c .before .before .before .before .before .before .before .before .args .i) (c .before .before .before .before .before .before .before .before .pre .0 .1), c .before .before .before .before .before .before .before .before .pre .0 .0 .ends (c .before .before .before .before .before .before .before .before .args .i) (c .before .before .before .before .before .before .before .before .pre .0 .1), c .before .before .before .before .before .before .before .before .pre .0 .0 .sizes)
+
+mul-less-back-2 : tie.Need-mul-less-back-2
+mul-less-back-2 c = omega (arith, c .before .before .before .before .before .before .before .before .before .pre .0 .0 .rises (c .before .before .before .before .before .before .before .before .before .args .i) (c .before .before .before .before .before .before .before .before .before .pre .0 .1), c .before .before .before .before .before .before .before .before .before .pre .0 .0 .ends (c .before .before .before .before .before .before .before .before .before .args .i) (c .before .before .before .before .before .before .before .before .before .pre .0 .1), c .before .before .before .before .before .before .before .before .before .pre .0 .0 .sizes)
+
+sub-less-back-2 : tie.Need-sub-less-back-2
+sub-less-back-2 c = omega (arith, c .before .before .before .before .before .before .before .before .before .pre .0 .0 .rises (c .before .before .before .before .before .before .before .before .before .args .i) (c .before .before .before .before .before .before .before .before .before .pre .0 .1), c .before .before .before .before .before .before .before .before .before .pre .0 .0 .ends (c .before .before .before .before .before .before .before .before .before .args .i) (c .before .before .before .before .before .before .before .before .before .pre .0 .1), c .before .before .before .before .before .before .before .before .before .pre .0 .0 .sizes)
+
+part-less-back-start-2 : tie.Need-part-less-back-start-2
+part-less-back-start-2 c = omega (arith, c .before .before .before .before .before .before .before .before .before .pre .0 .0 .rises (c .before .before .before .before .before .before .before .before .before .args .i) (c .before .before .before .before .before .before .before .before .before .pre .0 .1), c .before .before .before .before .before .before .before .before .before .pre .0 .0 .ends (c .before .before .before .before .before .before .before .before .before .args .i) (c .before .before .before .before .before .before .before .before .before .pre .0 .1), c .before .before .before .before .before .before .before .before .before .pre .0 .0 .sizes)
+
+part-less-back-end-2 : tie.Need-part-less-back-end-2
+part-less-back-end-2 c = omega (arith, c .before .before .before .before .before .before .before .before .before .pre .0 .0 .rises (c .before .before .before .before .before .before .before .before .before .args .i) (c .before .before .before .before .before .before .before .before .before .pre .0 .1), c .before .before .before .before .before .before .before .before .before .pre .0 .0 .ends (c .before .before .before .before .before .before .before .before .before .args .i) (c .before .before .before .before .before .before .before .before .before .pre .0 .1), c .before .before .before .before .before .before .before .before .before .pre .0 .0 .sizes)
+
+less-back-requires : tie.Need-less-back-requires
+less-back-requires c κs =
+    let s = c .before .before .before .before .before .before .before .before .before .before in
+    let hi = s .pre .0 .0 in
+    let i = s .args .i in
+    let h = s .pre .0 .1 in
+    let r = hi .rises i h in
+    let z = hi .ends i h in
+    let q = hi .sizes in
+    let n = cut-length (getD (c .before .before .before .before .before .before .before .before .before .before .args .tptr .now) (c .before .before .before .before .before .before .before .before .before .before .args .i) 0 + 1) (getD (c .before .before .before .before .before .before .before .before .before .before .args .tptr .now) (c .before .before .before .before .before .before .before .before .before .before .args .i + 1) 0) (c .before .before .before .before .before .before .before .before .before .before .args .tind .now) z in
+    let n′ = cut-length (getD (c .before .before .before .before .before .before .before .before .before .before .args .tptr .now) (c .before .before .before .before .before .before .before .before .before .before .args .i) 0 + 1) (getD (c .before .before .before .before .before .before .before .before .before .before .args .tptr .now) (c .before .before .before .before .before .before .before .before .before .before .args .i + 1) 0) (c .before .before .before .before .before .before .before .before .before .before .args .tmap .now) (omega arith) in (
+      (
+        n′ ∙ sym n,
+        (λ k b. let b′ : k < (getD (c .before .before .before .before .before .before .before .before .before .before .args .tptr .now) (c .before .before .before .before .before .before .before .before .before .before .args .i + 1) 0) - (getD (c .before .before .before .before .before .before .before .before .before .before .args .tptr .now) (c .before .before .before .before .before .before .before .before .before .before .args .i) 0 + 1) = omega (arith, n) in rw (cut-at (getD (c .before .before .before .before .before .before .before .before .before .before .args .tptr .now) (c .before .before .before .before .before .before .before .before .before .before .args .i) 0 + 1) (getD (c .before .before .before .before .before .before .before .before .before .before .args .tptr .now) (c .before .before .before .before .before .before .before .before .before .before .args .i + 1) 0) (c .before .before .before .before .before .before .before .before .before .before .args .tind .now) k 0 b′) (hi .below ((getD (c .before .before .before .before .before .before .before .before .before .before .args .tptr .now) (c .before .before .before .before .before .before .before .before .before .before .args .i) 0 + 1) + k) (omega arith))),
+        (λ k b. let b′ : k < (getD (c .before .before .before .before .before .before .before .before .before .before .args .tptr .now) (c .before .before .before .before .before .before .before .before .before .before .args .i + 1) 0) - (getD (c .before .before .before .before .before .before .before .before .before .before .args .tptr .now) (c .before .before .before .before .before .before .before .before .before .before .args .i) 0 + 1) = omega (arith, n′) in rw (cut-at (getD (c .before .before .before .before .before .before .before .before .before .before .args .tptr .now) (c .before .before .before .before .before .before .before .before .before .before .args .i) 0 + 1) (getD (c .before .before .before .before .before .before .before .before .before .before .args .tptr .now) (c .before .before .before .before .before .before .before .before .before .before .args .i + 1) 0) (c .before .before .before .before .before .before .before .before .before .before .args .tmap .now) k 0 b′) (hi .places ((getD (c .before .before .before .before .before .before .before .before .before .before .args .tptr .now) (c .before .before .before .before .before .before .before .before .before .before .args .i) 0 + 1) + k) (omega arith))),
+      ),
+      s .pre .1 .1,
+    )
+
+add-g : tie.Need-add-g
+add-g c = search needs
+
+mul-g : tie.Need-mul-g
+mul-g c = search needs
+
+shared-slice-read-g : tie.Need-shared-slice-read-g
+shared-slice-read-g c = search needs
+
+cast-g : tie.Need-cast-g
+cast-g c = search needs
+
+sub-g : tie.Need-sub-g
+sub-g c = search needs
+
+add-get4-2 : tie.Need-add-get4-2
+add-get4-2 c = search needs
+
+get4-requires-2 : tie.Need-get4-requires-2
+get4-requires-2 c κs = search needs
+
+div4-requires : tie.Need-div4-requires
+div4-requires c κs = search needs
+
+returns : tie.Need-returns
+returns c =
+    back-value (c .before .before .before .before .before .before .before .before .before .before .before .before .before .before .args .ptr .now) (c .before .before .before .before .before .before .before .before .before .before .before .before .before .before .args .tptr .now) (c .before .before .before .before .before .before .before .before .before .before .before .before .before .before .args .tind .now) (c .before .before .before .before .before .before .before .before .before .before .before .before .before .before .args .tmap .now) (c .before .before .before .before .before .before .before .before .before .before .before .before .before .before .args .work .now) (c .before .before .before .before .before .before .before .before .before .before .before .before .before .before .args .d) (c .before .before .before .before .before .before .before .before .before .before .before .before .before .before .args .l) (c .before .before .before .before .before .before .before .before .before .before .before .before .before .before .args .m) (c .before .before .before .before .before .before .before .before .before .before .before .before .before .before .args .count) (c .before .before .before .before .before .before .before .before .before .before .before .before .before .before .args .i) (c .before .before .before .before .before .before .before .before .before .before .before .before .before .before .pre .0 .1) (omega (arith, c .before .before .before .before .before .before .before .before .before .before .before .before .before .before .pre .1 .0))
+    (c .before .before .before .before .before .before .get4 .ensures) (c .before .before .before .less-back .ensures) (c .before .get42 .ensures) (c .div4 .ensures)
+
+pub back-entry-spec : {M : Type 1} → statement M
+back-entry-spec =
+    tie.close
+    (tie.spec
+    mul-a
+    shared-slice-read-a
+    cast-a
+    add-a
+    add-e
+    mul-e
+    shared-slice-read-e
+    cast-e
+    add-get4
+    get4-requires
+    mul-less-back
+    sub-less-back
+    part-less-back-start
+    part-less-back-end
+    mul-less-back-2
+    sub-less-back-2
+    part-less-back-start-2
+    part-less-back-end-2
+    less-back-requires
+    add-g
+    mul-g
+    shared-slice-read-g
+    cast-g
+    sub-g
+    add-get4-2
+    get4-requires-2
+    div4-requires
+    returns)

@@ -1,0 +1,238 @@
+-- Counting by column, and where the columns start. Assumes nothing.
+use mathlib.Core.Path.{_≡_, refl, sym, ap, ap₂, _∙_, subst}
+use mathlib.Core.Bool.{Bool, true, false}
+use mathlib.Core.List.{List, [], _∷_, _++_}
+use Prim.Native.Nat.{ℕ, zero, suc, _+_, _-_, _*_, _<_, _≤_}
+use native.Mathlib.Omega.{arith}
+use native.Mathlib.Decide.{ℕ-discrete, decLt}
+use native.Mathlib.Numerals.{add-one}
+use lib.Dec.{eqb}
+use borrow.Author.Tests.{eq-eqb, ne-eqb}
+use lib.ListN.{length, getD, set, length-append, length-set, replicate}
+use lib.Seq.{sets, getD-set-same, getD-set-other}
+use Rattle.csr.specs.Pattern.{row}
+use Rattle.csr.specs.Counts.{sum, one}
+use Rattle.pattern.proofs.Digits.{sum-ext}
+use Rattle.lists.specs.Cat.{cat, pick, Wrote}
+use Rattle.lists.specs.Lists.{shape, holds, entry, column, columns, inColumn, columnEnds, endsOf, columnsOf, sideOf}
+use Rattle.lists.specs.declared.What.{What}
+use Rattle.lists.specs.declared.What.the-variants.{Numbers, Places}
+use Rattle.lists.specs.declared.Side.the-variants.{Matrix}
+use Rattle.lists.proofs.Write.{length-cat, cat-ext, cat-next, length-pick, wrote-join, wrote-as}
+use Rattle.lists.proofs.Walk.{sum-next}
+use Rattle.lists.proofs.Whole.{side-is, three, three-length}
+use Rattle.transpose.specs.Bins.{Bins, onto, putIn, rowsOf, roomOf, inRow, Outside, Grid, Tally, Starts, seen, endsFrom, sideIn}
+use Rattle.transpose.proofs.Fill.{in-step, in-room, in-start, in-end, bins-whole}
+use Rattle.transpose.proofs.Row.{row-long, in-q, e-at, e-below}
+
+-- ---- one more in a bin
+tally-put : (next : List ℕ) (n : ℕ) (held : ℕ → List ℕ) (e x : ℕ) → e < n → e < length next → Tally next n held → Tally (set next e (getD next e 0 + 1)) n (putIn e x held)
+tally-put next n held e x he hn b = record { count = λ c hc. go c hc (ℕ-discrete c e) }
+  where
+    go : (c : ℕ) → c < n → Dec (c ≡ e) → getD (set next e (getD next e 0 + 1)) c 0 ≡ length (onto (eqb c e) x (held c))
+    go c hc (yes q) =
+        ap (λ (k : ℕ). getD (set next e (getD next e 0 + 1)) k 0) q
+        ∙ getD-set-same next e (getD next e 0 + 1) 0 hn
+        ∙ omega (arith, b .count e he, ap (λ (k : ℕ). length (held k)) q, length-append (held c) (x ∷ []), ap (λ (t : Bool). length (onto t x (held c))) (eq-eqb c e q))
+    go c hc (no q) = getD-set-other next e c (getD next e 0 + 1) 0 q ∙ b .count c hc ∙ ap (λ (t : Bool). length (onto t x (held c))) (sym (ne-eqb c e q))
+
+tally-ext : (next : List ℕ) (n : ℕ) (f g : ℕ → List ℕ) → ((c : ℕ) → f c ≡ g c) → Tally next n f → Tally next n g
+tally-ext next n f g e b = record { count = λ c h. b .count c h ∙ ap length (e c) }
+
+sum-ones : (m : ℕ) (f : ℕ → Bool) → sum m (λ i. one (f i)) ≤ m
+unfolding sum
+sum-ones zero f = omega arith
+sum-ones (suc m) f = omega (arith, sum-ones m f, go (f m))
+  where
+    go : (t : Bool) → one t ≤ 1
+    go true = omega arith
+    go false = omega arith
+
+pub room-few : (off cols : List ℕ) (m c : ℕ) → roomOf off cols m c ≤ m
+unfolding inColumn
+room-few off cols m c = sum-ones m (λ i. holds (shape off cols) Matrix i c)
+
+sum-below : (n b : ℕ) (f : ℕ → ℕ) → ((c : ℕ) → f c ≤ b) → sum n f ≤ b * n
+unfolding sum
+sum-below zero b f h = omega arith
+sum-below (suc n) b f h = let z : b * suc n ≡ b * n + b = omega arith in omega (arith, sum-below n b f h, h n)
+
+pub room-sum : (off cols : List ℕ) (m n : ℕ) → m ≤ 256 → n ≤ 1024 → sum n (roomOf off cols m) ≤ 262144
+room-sum off cols m n hm hn = omega (arith, sum-below n 256 (roomOf off cols m) (λ c. omega (arith, room-few off cols m c)))
+
+pub seen-start : (off cols : List ℕ) (n : ℕ) (next : List ℕ) → ((c : ℕ) → getD next c 0 ≡ 0) → Tally next n (seen off cols 0)
+unfolding column cat
+seen-start off cols n next z = record { count = λ c h. z c }
+
+pub column-long : (off cols : List ℕ) (w : What) (m c : ℕ) → length (rowsOf off cols w m c) ≡ roomOf off cols m c
+unfolding column inColumn
+column-long off cols w m c =
+    length-cat m (λ r. pick (holds (shape off cols) Matrix r c) (entry (shape off cols) Matrix w r c))
+    ∙ sum-ext m (λ r. length (pick (holds (shape off cols) Matrix r c) (entry (shape off cols) Matrix w r c))) (λ r. one (holds (shape off cols) Matrix r c)) (λ k l. length-pick (holds (shape off cols) Matrix k c) (entry (shape off cols) Matrix w k c))
+
+module _ (off cols : List ℕ) (m n i : ℕ) (ok : Grid off cols m n) (hi : i < m) where
+  pub count-start : (next : List ℕ) (k : ℕ) → k ≡ getD off i 0 → Tally next n (seen off cols i) → Tally next n (inRow off cols Numbers i (k - getD off i 0))
+  count-start next k e b =
+      let z : 0 ≡ k - getD off i 0 = omega arith in
+      subst (λ (y : ℕ). Tally next n (inRow off cols Numbers i y)) z (tally-ext next n (seen off cols i) (inRow off cols Numbers i 0) (λ c. in-start off cols Numbers i c) b)
+
+  pub count-end : (next : List ℕ) (k : ℕ) → getD off (i + 1) 0 ≤ k → Tally next n (inRow off cols Numbers i (k - getD off i 0)) → Tally next n (seen off cols (i + 1))
+  count-end next k h b =
+      tally-ext next n (inRow off cols Numbers i (k - getD off i 0)) (seen off cols (i + 1)) (λ c. in-end off cols Numbers i (k - getD off i 0) c (omega (arith, row-long off cols m n i ok hi))) b
+
+  module _ (k e : ℕ) (lo : getD off i 0 ≤ k) (hk : k < getD off (i + 1) 0) (he : e ≡ getD cols k 0) (next : List ℕ) (long : n ≤ length next)
+      (b : Tally next n (inRow off cols Numbers i (k - getD off i 0))) where
+    e-in : e < n
+    e-in = e-below off cols m n i ok hi Numbers k e i lo hk he refl
+
+    pub count-turn : Tally (set next e (getD next e 0 + 1)) n (inRow off cols Numbers i (k + 1 - getD off i 0))
+    count-turn =
+        let z : k - getD off i 0 + 1 ≡ k + 1 - getD off i 0 = omega arith in
+        subst (λ (y : ℕ). Tally (set next e (getD next e 0 + 1)) n (inRow off cols Numbers i y)) z
+        (tally-ext _ n (putIn e i (inRow off cols Numbers i (k - getD off i 0))) (inRow off cols Numbers i (k - getD off i 0 + 1))
+        (in-step off cols Numbers i (k - getD off i 0) e i (ok .rising i hi) (in-q off cols m n i ok hi Numbers k e i lo hk he refl) (e-at off cols m n i ok hi Numbers k e i lo hk he refl) refl)
+        (tally-put next n (inRow off cols Numbers i (k - getD off i 0)) e i e-in (omega (arith, e-in)) b))
+
+    pub count-asks : (e < length next) × (getD next e 0 < 65536)
+    count-asks = (
+      omega (arith, e-in),
+      omega (
+        arith,
+        b .count e e-in,
+        in-room off cols Numbers i (k - getD off i 0) e i (ok .rising i hi) (in-q off cols m n i ok hi Numbers k e i lo hk he refl) (e-at off cols m n i ok hi Numbers k e i lo hk he refl) refl m hi,
+        room-few off cols m e,
+        ok .few,
+      ),
+    )
+
+-- ---- from counts to ends and starts
+module _ (f : ℕ → ℕ) where
+  unfoldable pub endsTo : ℕ → List ℕ
+  unfolding cat sum
+  endsTo n = cat n (λ e. sum (suc e) f ∷ [])
+
+  pub record Ending (index₀ index next₀ next again : List ℕ) (start at t e n : ℕ) : Type 0 where
+    pub total : t ≡ sum e f
+    pub few : t ≤ 256 * e
+    pub wrote : Wrote index₀ index start (endsTo e) at
+    pub starts : Starts next e f
+    pub starts2 : Starts again e f
+    pub rest : (c : ℕ) → e ≤ c → c < n → getD next c 0 ≡ f c
+
+  pub ending-start : (index next again : List ℕ) (start n : ℕ) → ((c : ℕ) → c < n → getD next c 0 ≡ f c) → Ending index index next next again start start 0 0 n
+  unfolding endsTo sum
+  ending-start index next again start n h = record {
+    total = refl;
+    few = omega arith;
+    wrote = record { is = refl; next = omega arith };
+    starts = record { first = λ c l. absurd (omega arith) };
+    starts2 = record { first = λ c l. absurd (omega arith) };
+    rest = λ c l u. h c u;
+  }
+
+  starts-next : (l : List ℕ) (e t : ℕ) → e < length l → t ≡ sum e f → Starts l e f → Starts (set l e t) (e + 1) f
+  starts-next l e t h q b = record { first = λ c u. go c u (ℕ-discrete c e) }
+    where
+      go : (c : ℕ) → c < e + 1 → Dec (c ≡ e) → getD (set l e t) c 0 ≡ sum c f
+      go c u (yes r) = ap (λ (k : ℕ). getD (set l e t) k 0) r ∙ getD-set-same l e t 0 h ∙ q ∙ ap (λ (k : ℕ). sum k f) (sym r)
+      go c u (no r) = getD-set-other l e c t 0 r ∙ b .first c (omega arith)
+
+  length-to : (n : ℕ) → length (endsTo n) ≡ n
+  unfolding endsTo cat
+  length-to zero = refl
+  length-to (suc n) = length-append (endsTo n) (sum (suc n) f ∷ []) ∙ omega (arith, length-to n)
+
+  module _ (index₀ index next₀ next again : List ℕ) (start at t e n : ℕ) (v : Ending index₀ index next₀ next again start at t e n) (he : e < n) where
+    pub ending-turn : (index′ : List ℕ) (r x : ℕ) → e < length next → e < length again → x ≡ getD next e 0 → x ≤ 256 → Wrote index index′ at ((t + x) ∷ []) r
+        → Ending index₀ index′ next₀ (set next e t) (set again e t) start r (t + x) (e + 1) n
+    unfolding endsTo sum
+    ending-turn index′ r x hn ha q few w = record {
+      total = tot;
+      few = omega (arith, v .few);
+      wrote =
+          wrote-as index₀ index′ start r _ _ (ap (λ (y : ℕ). endsTo e ++ (y ∷ [])) (tot ∙ ap (λ (k : ℕ). sum k f) (add-one e)) ∙ sym (cat-next e (λ k. sum (suc k) f ∷ [])))
+          (wrote-join index₀ index index′ start at r _ _ (v .wrote) w);
+      starts = starts-next next e t hn (v .total) (v .starts);
+      starts2 = starts-next again e t ha (v .total) (v .starts2);
+      rest = λ c l u. getD-set-other next e c t 0 (λ z. omega arith) ∙ v .rest c (omega arith) u;
+    }
+      where
+        tot : t + x ≡ sum (e + 1) f
+        tot = omega (arith, v .total, sum-next e f, v .rest e (omega arith) he)
+
+    pub ending-room : (start₀ l : ℕ) → start ≡ start₀ + 1 → start₀ + n + 1 ≤ l → at < l
+    ending-room start₀ l q h = omega (arith, v .wrote .next, length-to e)
+
+    pub ending-few : ((c : ℕ) → c < n → f c ≤ 256) → getD next e 0 ≤ 256
+    ending-few h = omega (arith, v .rest e (omega arith) he, h e he)
+
+  pub ending-end : (index₀ index₁ index next₀ next again : List ℕ) (start at₀ at t e n : ℕ) → e ≡ n → n < length again → Wrote index₀ index₁ start (0 ∷ []) at₀ → Ending index₁ index next₀ next again at₀ at t e n
+      → Wrote index₀ index start (endsFrom f n) at × (Starts next n f × Starts (set again n t) (n + 1) f)
+  unfolding endsFrom endsTo
+  ending-end index₀ index₁ index next₀ next again start at₀ at t e n q l w v =
+      let u = wrote-join index₀ index₁ index start at₀ at _ _ w (v .wrote) in
+      (subst (λ (k : ℕ). Wrote index₀ index start (0 ∷ cat k (λ x. sum (suc x) f ∷ [])) at) q u, (subst (λ (k : ℕ). Starts next k f) q (v .starts), starts-next again n t l (v .total ∙ ap (λ (k : ℕ). sum k f) q) (subst (λ (k : ℕ). Starts again k f) q (v .starts2))))
+
+-- ---- the scatter of all rows
+pub bins-start : (off cols : List ℕ) (w : What) (m n : ℕ) (index next : List ℕ) (start : ℕ) → Starts next n (roomOf off cols m) → Bins index next start n (roomOf off cols m) (rowsOf off cols w 0)
+unfolding column cat
+bins-start off cols w m n index next start s = record {
+  cursor = λ c h. s .first c h ∙ omega arith;
+  fits = λ c h. omega arith;
+  words = λ c k h l. absurd (omega arith);
+}
+
+pub outside-join : (a b c : List ℕ) (s e : ℕ) → Outside a b s e → Outside b c s e → Outside a c s e
+outside-join a b c s e u v = record { low = λ q h. v .low q h ∙ u .low q h; high = λ q h. v .high q h ∙ u .high q h }
+
+pub scattered : (off cols : List ℕ) (w : What) (m n : ℕ) (old index next : List ℕ) (start : ℕ) → length index ≡ length old → start + sum n (roomOf off cols m) ≤ length old
+    → Bins index next start n (roomOf off cols m) (rowsOf off cols w m) → Outside old index start (start + sum n (roomOf off cols m)) → index ≡ sets old start (cat n (rowsOf off cols w m))
+scattered off cols w m n old index next start len room b o =
+    bins-whole index next start n (roomOf off cols m) (rowsOf off cols w m) b (λ c h. column-long off cols w m c) old len room (o .low) (o .high)
+
+-- ---- the whole transpose
+module _ (off cols : List ℕ) (m n : ℕ) where
+  pub ends-are : (next : List ℕ) → Tally next n (seen off cols m) → endsFrom (λ c. getD next c 0) n ≡ endsOf (shape off cols) Matrix m n
+  unfolding endsFrom endsOf columnEnds
+  ends-are next t =
+      ap (λ (l : List ℕ). 0 ∷ l)
+      (cat-ext n (λ e. sum (suc e) (λ c. getD next c 0) ∷ []) (λ e. sum (suc e) (λ c. roomOf off cols m c) ∷ [])
+      (λ e h. ap (λ (k : ℕ). k ∷ []) (sum-ext (suc e) (λ c. getD next c 0) (λ c. roomOf off cols m c) (λ c l. t .count c (omega arith) ∙ column-long off cols Numbers m c))))
+
+  pub starts-are : (next l : List ℕ) (k : ℕ) → k ≤ n + 1 → Tally next n (seen off cols m) → Starts l k (λ c. getD next c 0) → Starts l k (roomOf off cols m)
+  starts-are next l k hk t s = record { first = λ c h. s .first c h ∙ sum-ext c (λ d. getD next d 0) (roomOf off cols m) (λ d u. t .count d (omega arith) ∙ column-long off cols Numbers m d) }
+
+  pub cols-are : (w : What) → cat n (rowsOf off cols w m) ≡ columnsOf (shape off cols) Matrix w m n
+  unfolding columnsOf columns
+  cols-are w = refl
+
+  pub cols-long : (w : What) → length (cat n (rowsOf off cols w m)) ≡ sum n (roomOf off cols m)
+  cols-long w = length-cat n (rowsOf off cols w m) ∙ sum-ext n (λ c. length (rowsOf off cols w m c)) (roomOf off cols m) (λ c h. column-long off cols w m c)
+
+  length-ends : (k : ℕ) → length (cat k (λ e. sum (suc e) (λ c. roomOf off cols m c) ∷ [])) ≡ k
+  unfolding cat
+  length-ends zero = refl
+  length-ends (suc k) = length-append (cat k (λ e. sum (suc e) (λ c. roomOf off cols m c) ∷ [])) (sum (suc k) (λ c. roomOf off cols m c) ∷ []) ∙ omega (arith, length-ends k)
+
+  pub ends-long : length (endsOf (shape off cols) Matrix m n) ≡ n + 1
+  unfolding endsOf columnEnds
+  ends-long = omega (arith, length-ends n)
+
+  pub side-long : length (sideIn off cols m n) ≡ n + 1 + sum n (roomOf off cols m) + sum n (roomOf off cols m)
+  side-long =
+      ap length (side-is (shape off cols) Matrix m n)
+      ∙ three-length (endsOf (shape off cols) Matrix m n) (columnsOf (shape off cols) Matrix Numbers m n) (columnsOf (shape off cols) Matrix Places m n)
+      ∙ omega (arith, ends-long, ap length (cols-are Numbers), ap length (cols-are Places), cols-long Numbers, cols-long Places)
+
+  pub side-wrote : (a b c d : List ℕ) (start p t : ℕ) → t ≡ sum n (roomOf off cols m) → Wrote a b start (endsOf (shape off cols) Matrix m n) p
+      → c ≡ sets b p (cat n (rowsOf off cols Numbers m)) → d ≡ sets c (p + t) (cat n (rowsOf off cols Places m)) → Wrote a d start (sideIn off cols m n) (p + t + t)
+  side-wrote a b c d start p t q w u v =
+      wrote-as a d start (p + t + t) _ _ (sym (side-is (shape off cols) Matrix m n))
+      (three a b c d start p (p + t) (p + t + t) _ _ _ w
+      (record { is = u ∙ ap (sets b p) (cols-are Numbers); next = omega (arith, q, cols-long Numbers, ap length (cols-are Numbers)) })
+      (record { is = v ∙ ap (sets c (p + t)) (cols-are Places); next = omega (arith, q, cols-long Places, ap length (cols-are Places)) }))
+
+pub zeros : (n k : ℕ) → _≡_ {A = ℕ} (getD (replicate n 0) k 0) 0
+zeros zero k = refl
+zeros (suc n) zero = refl
+zeros (suc n) (suc k) = zeros n k

@@ -1,0 +1,78 @@
+-- n bins of given sizes, one after the other from `start` in a memory, each filled from its front. Assumes nothing.
+use mathlib.Core.Path.{_≡_}
+use mathlib.Core.Bool.{Bool, true, false}
+use mathlib.Core.List.{List, [], _∷_, _++_}
+use Prim.Native.Nat.{ℕ, suc, _+_, _<_, _≤_}
+use lib.Dec.{eqb}
+use lib.ListN.{length, getD, take}
+use Rattle.csr.specs.Pattern.{has}
+use Rattle.lists.specs.Cat.{pick}
+use Rattle.csr.specs.Pattern.{row}
+use Rattle.csr.specs.Chain.{Below}
+use Rattle.csr.specs.Csr.{Rising}
+use Rattle.lists.specs.Cat.{cat}
+use Rattle.lists.specs.Lists.{Shape, shape, holds, entry, column, inColumn, sideOf}
+use Rattle.lists.specs.declared.What.{What}
+use Rattle.lists.specs.declared.What.the-variants.{Numbers}
+use Rattle.lists.specs.declared.Side.the-variants.{Matrix}
+use Rattle.csr.specs.Counts.{sum}
+
+-- bin c has room for `size c` words and holds the list `held c`; next c is where its next word goes
+pub record Bins (index next : List ℕ) (start n : ℕ) (size : ℕ → ℕ) (held : ℕ → List ℕ) : Type 0 where
+  pub cursor : (c : ℕ) → c < n → getD next c 0 ≡ sum c size + length (held c)
+  pub fits : (c : ℕ) → c < n → length (held c) ≤ size c
+  pub words : (c k : ℕ) → c < n → k < length (held c) → getD index (start + sum c size + k) 0 ≡ getD (held c) k 0
+
+abbrev pub onto : Bool → ℕ → List ℕ → List ℕ
+onto true x l = l ++ (x ∷ [])
+onto false x l = l
+
+-- x goes into bin e
+abbrev pub putIn : ℕ → ℕ → (ℕ → List ℕ) → ℕ → List ℕ
+putIn e x held c = onto (eqb c e) x (held c)
+
+-- what column c holds of the first i rows, and of those and the first q entries of row i
+abbrev pub rowsOf : List ℕ → List ℕ → What → ℕ → ℕ → List ℕ
+rowsOf off cols w i c = column (holds (shape off cols) Matrix) i (entry (shape off cols) Matrix w) c
+
+abbrev pub roomOf : List ℕ → List ℕ → ℕ → ℕ → ℕ
+roomOf off cols m c = inColumn (holds (shape off cols) Matrix) m c
+
+unfoldable pub inRow : List ℕ → List ℕ → What → ℕ → ℕ → ℕ → List ℕ
+inRow off cols w i q c = rowsOf off cols w i c ++ pick (has (take q ((shape off cols) .cols i)) c) (entry (shape off cols) Matrix w i c)
+
+-- nothing outside the bins has changed
+pub record Outside (old new : List ℕ) (start end : ℕ) : Type 0 where
+  pub low : (q : ℕ) → q < start → getD new q 0 ≡ getD old q 0
+  pub high : (q : ℕ) → end ≤ q → getD new q 0 ≡ getD old q 0
+
+-- lists of rows, rising, columns below n: the matrix's, or the factor's
+pub record Grid (off cols : List ℕ) (m n : ℕ) : Type 0 where
+  pub offsets : m < length off
+  pub few : m ≤ 256
+  pub order : (i : ℕ) → i < m → getD off i 0 ≤ getD off (i + 1) 0
+  pub ends : (i : ℕ) → i ≤ m → getD off i 0 ≤ length cols
+  pub rising : (i : ℕ) → i < m → Rising (row off cols i)
+  pub nnz : length cols ≤ 65536
+  pub wide : n ≤ 1024
+  pub within : (i : ℕ) → i < m → Below n (row off cols i)
+
+-- entry c of a memory counts what bin c holds
+pub record Tally (next : List ℕ) (n : ℕ) (held : ℕ → List ℕ) : Type 0 where
+  pub count : (c : ℕ) → c < n → getD next c 0 ≡ length (held c)
+
+-- entry c of a memory is where bin c starts
+pub record Starts (next : List ℕ) (n : ℕ) (size : ℕ → ℕ) : Type 0 where
+  pub first : (c : ℕ) → c < n → getD next c 0 ≡ sum c size
+
+-- what the columns hold of the first i rows, by row
+abbrev pub seen : List ℕ → List ℕ → ℕ → ℕ → List ℕ
+seen off cols i c = rowsOf off cols Numbers i c
+
+-- a 0 and the ends of n bins
+unfoldable pub endsFrom : (ℕ → ℕ) → ℕ → List ℕ
+unfolding cat sum
+endsFrom size n = 0 ∷ cat n (λ e. sum (suc e) size ∷ [])
+
+abbrev pub sideIn : List ℕ → List ℕ → ℕ → ℕ → List ℕ
+sideIn off cols m n = sideOf (shape off cols) Matrix m n

@@ -1,0 +1,177 @@
+ghost use mathlib.Core.Path.{_≡_};
+ghost use mathlib.Core.List.{List};
+ghost use Prim.Native.Nat.{ℕ, _+_, _<_, _≤_};
+ghost use lib.ListN.{length, getD, set};
+ghost use Rattle.csr.specs.Counts.{sum};
+ghost use lib.Seq.{sets};
+ghost use Rattle.lists.specs.Cat.{Wrote, cat};
+ghost use Rattle.transpose.specs.Bins.{Bins, putIn, rowsOf, roomOf, Outside, Grid, Tally, Starts, seen, endsFrom, sideIn};
+ghost use Rattle.lists.specs.Lists.{told};
+use lists::What;
+
+// One more word into the bin of column e.
+pub fn put_in(index: &mut [u32], next: &mut [u32], start: usize, e: usize, x: u32)
+    requires { ⌜ (e < length (now next)) × (start + getD (now next) e 0 < length (now index)) × (getD (now next) e 0 < 262144) ⌝ }
+    ensures { λ _. ⌜ (now (index .exit) ≡ set (now (index .entry)) (start + getD (now (next .entry)) e 0) x) × (now (next .exit) ≡ set (now (next .entry)) e (getD (now (next .entry)) e 0 + 1)) ⌝ }
+{
+    let q = next[e];
+    let at = start + (q as usize);
+    index[at] = x;
+    next[e] = q + 1;
+}
+
+fn at(s: &[u32], i: usize) -> usize
+    requires { ⌜ i < length (now s) ⌝ }
+    ensures { λ r. ⌜ r ≡ getD (now (s .entry)) i 0 ⌝ }
+{
+    s[i] as usize
+}
+
+fn of_entry(what: What, i: u32, place: u32) -> u32
+    ensures { λ r. ⌜ r ≡ told what i place ⌝ }
+{
+    match what {
+        What::Numbers => i,
+        What::Places => place,
+    }
+}
+
+// The entries of row i, each into its column's bin.
+pub fn scatter_row(
+    what: What,
+    off: &[u32],
+    cols: &[u32],
+    m: usize,
+    n: usize,
+    i: usize,
+    index: &mut [u32],
+    next: &mut [u32],
+    start: usize,
+)
+    requires { ⌜ Grid (now off) (now cols) m n × (i < m) × (n ≤ length (now next)) × (start + sum n (roomOf (now off) (now cols) m) ≤ length (now index)) × (sum n (roomOf (now off) (now cols) m) ≤ 262144) × Bins (now index) (now next) start n (roomOf (now off) (now cols) m) (rowsOf (now off) (now cols) what i) ⌝ }
+    ensures { λ _. ⌜ Bins (now (index .exit)) (now (next .exit)) start n (roomOf (now (off .entry)) (now (cols .entry)) m) (rowsOf (now (off .entry)) (now (cols .entry)) what (i + 1)) × Outside (now (index .entry)) (now (index .exit)) start (start + sum n (roomOf (now (off .entry)) (now (cols .entry)) m)) ⌝ }
+{
+    let a = at(off, i);
+    let b = at(off, i + 1);
+    let mut k = a;
+    while k < b {
+        let e = at(cols, k);
+        let x = of_entry(what, i as u32, k as u32);
+        put_in(index, next, start, e, x);
+        k += 1;
+    }
+}
+
+// One more in the count of column e.
+pub fn bump(next: &mut [u32], e: usize)
+    requires { ⌜ (e < length (now next)) × (getD (now next) e 0 < 65536) ⌝ }
+    ensures { λ _. ⌜ now (next .exit) ≡ set (now (next .entry)) e (getD (now (next .entry)) e 0 + 1) ⌝ }
+{
+    let q = next[e];
+    next[e] = q + 1;
+}
+
+// The entries of row i, each counted in its column.
+pub fn count_row(off: &[u32], cols: &[u32], m: usize, n: usize, i: usize, next: &mut [u32])
+    requires { ⌜ Grid (now off) (now cols) m n × (i < m) × (n ≤ length (now next)) × Tally (now next) n (seen (now off) (now cols) i) ⌝ }
+    ensures { λ _. ⌜ Tally (now (next .exit)) n (seen (now (off .entry)) (now (cols .entry)) (i + 1)) ⌝ }
+{
+    let a = at(off, i);
+    let b = at(off, i + 1);
+    let mut k = a;
+    while k < b {
+        let e = at(cols, k);
+        bump(next, e);
+        k += 1;
+    }
+}
+
+// How many entries each column has.
+pub fn count_rows(off: &[u32], cols: &[u32], m: usize, n: usize, next: &mut [u32])
+    requires { ⌜ Grid (now off) (now cols) m n × (n ≤ length (now next)) × ((c : ℕ) → getD (now next) c 0 ≡ 0) ⌝ }
+    ensures { λ _. ⌜ Tally (now (next .exit)) n (seen (now (off .entry)) (now (cols .entry)) m) ⌝ }
+{
+    let mut i: usize = 0;
+    while i < m {
+        count_row(off, cols, m, n, i, next);
+        i += 1;
+    }
+}
+
+fn swap(next: &mut [u32], e: usize, x: u32) -> u32
+    requires { ⌜ e < length (now next) ⌝ }
+    ensures { λ r. ⌜ (r ≡ getD (now (next .entry)) e 0) × (now (next .exit) ≡ set (now (next .entry)) e x) ⌝ }
+{
+    let q = next[e];
+    next[e] = x;
+    q
+}
+
+// From the counts of n columns: their ends to the index memory, and their starts to two memories.
+pub fn put_ends(
+    n: usize,
+    index: &mut [u32],
+    next: &mut [u32],
+    again: &mut [u32],
+    start: usize,
+) -> usize
+    requires { ⌜ (n < length (now next)) × (n < length (now again)) × (n ≤ 1024) × ((c : ℕ) → c < n → getD (now next) c 0 ≤ 256) × (start + n + 1 ≤ length (now index)) ⌝ }
+    ensures ends { λ r. ⌜ Wrote (now (index .entry)) (now (index .exit)) start (endsFrom (λ c. getD (now (next .entry)) c 0) n) r ⌝ }
+    ensures starts { λ r. ⌜ Starts (now (next .exit)) n (λ c. getD (now (next .entry)) c 0) × Starts (now (again .exit)) (n + 1) (λ c. getD (now (next .entry)) c 0) ⌝ }
+{
+    let mut at = lists::word(index, start, 0);
+    let mut t: u32 = 0;
+    let mut e: usize = 0;
+    while e < n {
+        let c = swap(next, e, t);
+        swap(again, e, t);
+        t += c;
+        at = lists::word(index, at, t);
+        e += 1;
+    }
+    swap(again, n, t);
+    at
+}
+
+// The entries of all rows, each into its column's bin.
+pub fn scatter(
+    what: What,
+    off: &[u32],
+    cols: &[u32],
+    m: usize,
+    n: usize,
+    index: &mut [u32],
+    next: &mut [u32],
+    start: usize,
+)
+    requires { ⌜ Grid (now off) (now cols) m n × (n ≤ length (now next)) × (start + sum n (roomOf (now off) (now cols) m) ≤ length (now index)) × Starts (now next) n (roomOf (now off) (now cols) m) ⌝ }
+    ensures { λ _. ⌜ now (index .exit) ≡ sets (now (index .entry)) start (cat n (rowsOf (now (off .entry)) (now (cols .entry)) what m)) ⌝ }
+{
+    let mut i: usize = 0;
+    while i < m {
+        scatter_row(what, off, cols, m, n, i, index, next, start);
+        i += 1;
+    }
+}
+
+// The three lists of the transpose: ends, rows and places.
+pub fn transpose(
+    off: &[u32],
+    cols: &[u32],
+    m: usize,
+    n: usize,
+    index: &mut [u32],
+    start: usize,
+) -> usize
+    requires { ⌜ Grid (now off) (now cols) m n × (start + length (sideIn (now off) (now cols) m n) ≤ length (now index)) ⌝ }
+    ensures { λ r. ⌜ Wrote (now (index .entry)) (now (index .exit)) start (sideIn (now (off .entry)) (now (cols .entry)) m n) r ⌝ }
+{
+    let mut next = [0u32; 1025];
+    let mut again = [0u32; 1025];
+    count_rows(off, cols, m, n, &mut next);
+    let a = put_ends(n, index, &mut next, &mut again, start);
+    let t = at(&again, n);
+    scatter(What::Numbers, off, cols, m, n, index, &mut next, a);
+    scatter(What::Places, off, cols, m, n, index, &mut again, a + t);
+    a + t + t
+}
