@@ -4,9 +4,9 @@
 //! and absent in the others. The lanes share A; each has its own b, c and tolerances.
 //!
 //! [`Solver`] sizes and owns the memory that the library is lent. Every answer is the library's own, a refusal too:
-//! see [`Refusal`].
+//! see [`Refusal`]. A caller with memory of its own calls [`library`].
 
-mod library;
+pub mod library;
 mod refusal;
 mod solver;
 

@@ -1,4 +1,5 @@
-//! The static library's functions, with slices for pointers and lengths. This is the only unsafe code of the crate.
+//! The static library's functions over memory that the caller lends, with slices for pointers and lengths. `ipm.h` says
+//! what each part has to hold. This is the only unsafe code of the crate.
 
 mod extern_c {
     unsafe extern "C" {
@@ -84,6 +85,7 @@ pub struct Lent<'a> {
     pub work: &'a mut [f64],
 }
 
+/// Questions 1 to 6 and the plan.
 pub fn plan(matrix: &Matrix, index: &mut [u32]) -> Answer {
     // Safety: every pointer comes with the length of its own slice, and slices of Rust that are written do not overlap
     // others.
@@ -101,6 +103,7 @@ pub fn plan(matrix: &Matrix, index: &mut [u32]) -> Answer {
     })
 }
 
+/// Questions 1 to 12 and x.
 pub fn solve(matrix: &Matrix, sides: Sides<'_>, lent: Lent<'_>) -> Answer {
     // Safety: as for `plan`.
     Answer::from_code(unsafe {
@@ -131,6 +134,7 @@ pub fn solve(matrix: &Matrix, sides: Sides<'_>, lent: Lent<'_>) -> Answer {
     })
 }
 
+/// See [`crate::root_bits`].
 pub fn root_bits(bits: u64) -> u64 {
     extern_c::ipm_root_bits(bits)
 }
