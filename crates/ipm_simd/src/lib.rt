@@ -231,7 +231,21 @@ fn solve_asked(
     let room = 4 * (5 * n + 3 * m + 2 * s + e);
     ipm_common::write_plan(offsets, columns, m, n, index);
     let outcome = run_plan(
-        offsets, columns, values, b, c, tolerances, index, work, m, n, s, limit, e, h, d,
+        offsets,
+        columns,
+        values,
+        b,
+        c,
+        tolerances,
+        index,
+        work,
+        m,
+        n,
+        s,
+        limit,
+        e,
+        h,
+        d,
     );
     let answer = report(outcome, output, work);
     clear_front(work, room);
@@ -278,7 +292,22 @@ fn solve_accepted(
     ) {
         Asked::Refused(r) => SolveAnswer::Refused(r),
         Asked::Good => solve_asked(
-            m, n, s, offsets, columns, values, b, c, tolerances, limit, output, index, work, e, h, d,
+            m,
+            n,
+            s,
+            offsets,
+            columns,
+            values,
+            b,
+            c,
+            tolerances,
+            limit,
+            output,
+            index,
+            work,
+            e,
+            h,
+            d,
         ),
     }
 }
@@ -304,7 +333,19 @@ pub fn solve(
     match csr::ask(m, n, offsets, columns, values.len()) {
         Asked::Refused(r) => SolveAnswer::Refused(r),
         Asked::Good => solve_accepted(
-            m, n, s, offsets, columns, values, b, c, tolerances, limit, output, index, work,
+            m,
+            n,
+            s,
+            offsets,
+            columns,
+            values,
+            b,
+            c,
+            tolerances,
+            limit,
+            output,
+            index,
+            work,
         ),
     }
 }

@@ -102,8 +102,8 @@ module _ (m n s : ℕ) (off cols : List ℕ) (vals b c tol : List Float) where
       reads = steps-reads C N k M g;
       shown = λ l a e. status-is l a ∙ (unfold laneStatus in ap (yields (C .problem) (C .settings) (laneData C l)) e ∙ (unfold yields in refl));
     }
-
     -- where all the machines are done the memory has their x
+
   x-at : (k : ℕ) (v : List Float) (said : List Status) → 4 * n ≤ length v → Made C k (memoryAt m n s v) said → ((l : ℕ) → l < 4 → getD said l spoilt ≡ done)
       → memoryAt m n s v .x ≡ xAt C k
   x-at k v said room mk d =

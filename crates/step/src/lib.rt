@@ -137,7 +137,28 @@ fn directions(
     let count = li.len();
     normal_eqn_rhs(off, cols, vals, cp, ci, cm, b, c, tol, work, m, n, s, mu);
     normal_matrix_cholesky_decomposition(
-        work, 0, n, y, w, l, m, n, s, off, cols, vals, ap, ai, aj, ae, dp, di, dj, lp, ld, li,
+        work,
+        0,
+        n,
+        y,
+        w,
+        l,
+        m,
+        n,
+        s,
+        off,
+        cols,
+        vals,
+        ap,
+        ai,
+        aj,
+        ae,
+        dp,
+        di,
+        dj,
+        lp,
+        ld,
+        li,
     );
     cholesky_solve(lp, li, tp, ti, tm, work, rhs, dy, l, m, count);
     compute_dx_dz_dw(off, cols, vals, cp, ci, cm, b, c, tol, work, m, n, s, mu)
@@ -168,14 +189,7 @@ fn pick4(done: [bool; 4], p: [f64; 4]) -> [f64; 4]
 }
 
 // Move the numbers by what was worked out; a done lane's step length is 0.
-fn advance(
-    work: &mut [f64],
-    m: usize,
-    n: usize,
-    s: usize,
-    theta: [f64; 4],
-    done: [bool; 4],
-)
+fn advance(work: &mut [f64], m: usize, n: usize, s: usize, theta: [f64; 4], done: [bool; 4])
     requires { ⌜ (s ≤ m) × (4 * lAt n m s ≤ length (now work)) ⌝ }
     ensures { λ _. ⌜ Advanced m n s theta done (now (work .entry)) (now (work .exit)) ⌝ }
 {
@@ -227,7 +241,33 @@ fn normal_eqn_step(
     ensures { λ _. ⌜ Took (problemOf m n s (now (off .entry)) (now (cols .entry)) (now (vals .entry))) standard (laneData (callOf m n s (now (off .entry)) (now (cols .entry)) (now (vals .entry)) (now (b .entry)) (now (c .entry)) (now (tol .entry)))) (lAt n m s + length (now (li .entry))) mu done (now (work .entry)) (now (work .exit)) ⌝ }
 {
     let theta = directions(
-        off, cols, vals, ap, ai, aj, ae, dp, di, dj, lp, ld, li, tp, ti, tm, cp, ci, cm, b, c, tol, work, m, n, s, mu,
+        off,
+        cols,
+        vals,
+        ap,
+        ai,
+        aj,
+        ae,
+        dp,
+        di,
+        dj,
+        lp,
+        ld,
+        li,
+        tp,
+        ti,
+        tm,
+        cp,
+        ci,
+        cm,
+        b,
+        c,
+        tol,
+        work,
+        m,
+        n,
+        s,
+        mu,
     );
     advance(work, m, n, s, theta, done);
 }
@@ -298,7 +338,33 @@ pub fn step_lanes(
     let mu = mu_in(g, n, s);
     let done = lanes_done(statuses);
     normal_eqn_step(
-        off, cols, vals, ap, ai, aj, ae, dp, di, dj, lp, ld, li, tp, ti, tm, cp, ci, cm, b, c, tol, work, m, n, s, mu,
+        off,
+        cols,
+        vals,
+        ap,
+        ai,
+        aj,
+        ae,
+        dp,
+        di,
+        dj,
+        lp,
+        ld,
+        li,
+        tp,
+        ti,
+        tm,
+        cp,
+        ci,
+        cm,
+        b,
+        c,
+        tol,
+        work,
+        m,
+        n,
+        s,
+        mu,
         done,
     );
 }

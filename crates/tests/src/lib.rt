@@ -132,14 +132,7 @@ fn judge(r: f64, q: f64, g: f64, mu: f64, primal: f64, dual: f64, gap: f64) -> S
     Status::Step(mu)
 }
 
-fn judge_lane(
-    r: [f64; 4],
-    q: [f64; 4],
-    g: [f64; 4],
-    mu: [f64; 4],
-    tol: &[f64],
-    l: usize,
-) -> Status
+fn judge_lane(r: [f64; 4], q: [f64; 4], g: [f64; 4], mu: [f64; 4], tol: &[f64], l: usize) -> Status
     requires { ⌜ (l < 4) × (length (now tol) ≡ 12) ⌝ }
     ensures { λ k. ⌜ k ≡ judged (at r l) (at q l) (at g l) (at mu l) (at (now (tol .entry)) l) (at (now (tol .entry)) (4 + l)) (at (now (tol .entry)) (8 + l)) ⌝ }
 {

@@ -25,10 +25,9 @@ normal-eqn-init-requires : tie.Need-normal-eqn-init-requires Inv-loop μ-loop
 normal-eqn-init-requires c κs = let e = c .before .before .before .before .before .before .before .before .before .before .before .before .before .before .before .before .before .before .before .before .before .before .before .before in omega (arith, e .pre .2)
 
 loop-holds : tie.Need-loop-holds Inv-loop μ-loop
-loop-holds c = 
+loop-holds c =
     let e = c .before .before .before .before .before .before .before .before .before .before .before .before .before .before .before .before .before .before .before .before .before .before .before .before .before .before .before in
-    let f = c .before .before .normal-eqn-init .ensures in
-    (
+    let f = c .before .before .normal-eqn-init .ensures in (
       start-steps (callOf (e .args .m) (e .args .n) (e .args .s) (e .args .off .now) (e .args .cols .now) (e .args .vals .now) (e .args .b .now) (e .args .c .now) (e .args .tol .now)) (e .args .limit) _ (e .pre .3) (fresh-at (e .args .m) (e .args .n) (e .args .s) (omega (arith, e .pre .2, f .frame .size)) f),
       record { size = refl; beyond = λ j l. refl },
       omega (arith, e .pre .2, f .frame .size),
@@ -47,9 +46,8 @@ same-length : tie.Need-same-length Inv-loop μ-loop
 same-length c = search needs
 
 returns : tie.Need-returns Inv-loop μ-loop
-returns c = 
-    let e = c .before .before .before .before .before .before .before .before .before .before .before .before .before .before .before .before .before .before .before .before .before .before .before .before .before .before .before .before .before .before .before .before in
-    (
+returns c =
+    let e = c .before .before .before .before .before .before .before .before .before .before .before .before .before .before .before .before .before .before .before .before .before .before .before .before .before .before .before .before .before .before .before .before in (
       untouched-on (untouched-wider (c .before .before .before .before .before .before .before .normal-eqn-init .ensures .frame) (omega arith)) (c .before .before .before .before .loop .inv .1),
       run-spoilt (e .args .m) (e .args .n) (e .args .s) (e .args .off .now) (e .args .cols .now) (e .args .vals .now) (e .args .b .now) (e .args .c .now) (e .args .tol .now) (e .args .limit) (c .before .before .before .before .loop .k) (c .before .before .before .before .loop .work) (c .before .before .test-at .result) (c .before .before .before .before .loop .inv .0) (c .before .before .test-at .ensures .says) (c .before .lowest-spoilt .result) (c .before .lowest-spoilt .ensures) (c .if1 .taken),
     )
@@ -61,9 +59,8 @@ same-length-2 : tie.Need-same-length-2 Inv-loop μ-loop
 same-length-2 c = search needs
 
 returns-2 : tie.Need-returns-2 Inv-loop μ-loop
-returns-2 c = 
-    let e = c .before .before .before .before .before .before .before .before .before .before .before .before .before .before .before .before .before .before .before .before .before .before .before .before .before .before .before .before .before .before .before .before .before .before in
-    (
+returns-2 c =
+    let e = c .before .before .before .before .before .before .before .before .before .before .before .before .before .before .before .before .before .before .before .before .before .before .before .before .before .before .before .before .before .before .before .before .before .before in (
       untouched-on (untouched-wider (c .before .before .before .before .before .before .before .before .before .normal-eqn-init .ensures .frame) (omega arith)) (c .before .before .before .before .before .before .loop .inv .1),
       run-done (e .args .m) (e .args .n) (e .args .s) (e .args .off .now) (e .args .cols .now) (e .args .vals .now) (e .args .b .now) (e .args .c .now) (e .args .tol .now) (e .args .limit) (c .before .before .before .before .before .before .loop .k) (c .before .before .before .before .before .before .loop .work) (c .before .before .before .before .test-at .result) (c .before .before .before .before .before .before .loop .inv .0) (c .before .before .before .before .test-at .ensures .says) (c .before .before .before .lowest-spoilt .result) (c .before .lowest-undone .result)
           (c .before .before .before .lowest-spoilt .ensures) (c .before .lowest-undone .ensures) (λ h. omega (arith, c .before .before .if1 .left)) (omega (arith, c .before .before .before .before .before .before .loop .inv .2)) (c .if2 .taken),
@@ -73,16 +70,15 @@ same-length-3 : tie.Need-same-length-3 Inv-loop μ-loop
 same-length-3 c = search needs
 
 returns-3 : tie.Need-returns-3 Inv-loop μ-loop
-returns-3 c = 
-    let e = c .before .before .before .before .before .before .before .before .before .before .before .before .before .before .before .before .before .before .before .before .before .before .before .before .before .before .before .before .before .before .before .before .before .before .before in
-    (
+returns-3 c =
+    let e = c .before .before .before .before .before .before .before .before .before .before .before .before .before .before .before .before .before .before .before .before .before .before .before .before .before .before .before .before .before .before .before .before .before .before .before in (
       untouched-on (untouched-wider (c .before .before .before .before .before .before .before .before .before .before .normal-eqn-init .ensures .frame) (omega arith)) (c .before .before .before .before .before .before .before .loop .inv .1),
       run-spent (e .args .m) (e .args .n) (e .args .s) (e .args .off .now) (e .args .cols .now) (e .args .vals .now) (e .args .b .now) (e .args .c .now) (e .args .tol .now) (e .args .limit) (c .before .before .before .before .before .before .before .loop .k) (c .before .before .before .before .before .before .before .loop .work) (c .before .before .before .before .before .test-at .result) (c .before .before .before .before .before .before .before .loop .inv .0) (c .before .before .before .before .before .test-at .ensures .says) (c .before .before .before .before .lowest-spoilt .result) (c .before .before .lowest-undone .result)
           (c .before .before .before .before .lowest-spoilt .ensures) (c .before .before .lowest-undone .ensures) (λ h. omega (arith, c .before .before .before .if1 .left)) (c .before .if2 .left) (c .if3 .taken),
     )
 
 step-at-requires : tie.Need-step-at-requires Inv-loop μ-loop
-step-at-requires c κs = 
+step-at-requires c κs =
     let e = c .before .before .before .before .before .before .before .before .before .before .before .before .before .before .before .before .before .before .before .before .before .before .before .before .before .before .before .before .before .before .before .before .before .before .before .before in
     (e .pre .0, e .pre .1, c .before .before .before .before .before .before .before .before .loop .inv .2, c .before .before .before .before .before .before .test-at .ensures .says, not-spoilt (c .before .before .before .before .before .before .test-at .result) (c .before .before .before .before .before .lowest-spoilt .result) (c .before .before .before .before .before .lowest-spoilt .ensures) (λ h. omega (arith, c .before .before .before .before .if1 .left)))
 
@@ -90,10 +86,9 @@ loop-less : tie.Need-loop-less Inv-loop μ-loop
 loop-less c = let g = c .before .before .before .before .before .before .before .before .before .before .before .loop .inv .0 .under in omega (arith, g)
 
 loop-again : tie.Need-loop-again Inv-loop μ-loop
-loop-again c = 
+loop-again c =
     let e = c .before .before .before .before .before .before .before .before .before .before .before .before .before .before .before .before .before .before .before .before .before .before .before .before .before .before .before .before .before .before .before .before .before .before .before .before .before .before .before in
-    let f = c .before .before .step-at .ensures .0 in
-    (
+    let f = c .before .before .step-at .ensures .0 in (
       steps-on (callOf (e .args .m) (e .args .n) (e .args .s) (e .args .off .now) (e .args .cols .now) (e .args .vals .now) (e .args .b .now) (e .args .c .now) (e .args .tol .now)) (e .args .limit) (c .before .before .before .before .before .before .before .before .before .before .before .loop .k) _ (c .before .before .before .before .before .before .before .before .before .test-at .result) (c .before .before .before .before .before .before .before .before .before .before .before .loop .inv .0) (c .before .before .before .before .before .before .before .before .before .test-at .ensures .says) (c .before .before .before .before .before .before .before .before .lowest-spoilt .result) (c .before .before .before .before .before .before .lowest-undone .result)
           (c .before .before .before .before .before .before .before .before .lowest-spoilt .ensures) (c .before .before .before .before .before .before .lowest-undone .ensures) (λ h. omega (arith, c .before .before .before .before .before .before .before .if1 .left)) (c .before .before .before .before .before .if2 .left) _ (c .before .before .before .before .if3 .left) (c .before .before .step-at .ensures .1),
       untouched-on (c .before .before .before .before .before .before .before .before .before .before .before .loop .inv .1) f,

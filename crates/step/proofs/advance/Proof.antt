@@ -49,7 +49,7 @@ same-length : tie.Need-same-length
 same-length c = search needs
 
 returns : tie.Need-returns
-returns c = 
+returns c =
     advanced _ _ _ _ (c .before .before .before .before .before .before .before .before .before .before .before .before .before .before .before .before .before .step-length4 .ensures) (c .before .before .before .before .before .before .before .before .before .before .before .before .before .before .before .before .pick4 .ensures) (c .before .before .before .before .before .before .before .before .before .before .before .before .before .before .vector-update .ensures) (c .before .before .before .before .before .before .before .before .before .before .vector-update2 .ensures) (c .before .before .before .before .before .before .vector-update3 .ensures) (c .before .before .vector-update4 .ensures)
 
 pub advance-spec : {M : Type 1} → statement M

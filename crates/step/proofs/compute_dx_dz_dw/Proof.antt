@@ -30,25 +30,25 @@ add-dw : tie.Need-add-dw
 add-dw c = search needs
 
 compute-dx-requires : tie.Need-compute-dx-requires
-compute-dx-requires c κs = 
+compute-dx-requires c κs =
     let e = c .before .before .before .before .before .before .before .before .before .before .before in
     (e .pre .0 .ranges, omega (arith, e .pre .1 .c-long), before (omega arith), before (omega arith), after (omega arith), after (omega arith), omega (arith, e .pre .2), omega (arith, e .pre .2), omega (arith, e .pre .2), omega (arith, e .pre .2), omega (arith, e .pre .2))
 
 compute-complement-requires : tie.Need-compute-complement-requires
-compute-complement-requires c κs = 
+compute-complement-requires c κs =
     let e = c .before .before .before .before .before .before .before .before .before .before .before .before .before .before .before in
     let z = c .before .before .before .compute-dx .ensures .kept .size in
     (before (omega arith), before (omega arith), before (omega arith), omega (arith, e .pre .2, z), omega (arith, e .pre .2, z), omega (arith, e .pre .2, z), omega (arith, e .pre .2, z))
 
 compute-complement-requires-2 : tie.Need-compute-complement-requires-2
-compute-complement-requires-2 c κs = 
+compute-complement-requires-2 c κs =
     let e = c .before .before .before .before .before .before .before .before .before .before .before .before .before .before .before .before .before .before .before in
     let z = c .before .before .before .before .before .before .before .compute-dx .ensures .kept .size in
     let y = c .before .before .before .compute-complement .ensures .kept .size in
     (before (omega arith), before (omega (arith, e .pre .1 .slack)), before (omega (arith, e .pre .1 .slack)), omega (arith, e .pre .2, e .pre .1 .slack, y, z), omega (arith, e .pre .2, e .pre .1 .slack, y, z), omega (arith, e .pre .2, e .pre .1 .slack, y, z), omega (arith, e .pre .2, e .pre .1 .slack, y, z))
 
 theta-of-requires : tie.Need-theta-of-requires
-theta-of-requires c κs = 
+theta-of-requires c κs =
     let e = c .before .before .before .before .before .before .before .before .before .before .before .before .before .before .before .before .before .before .before .before .before .before .before in
     let z = c .before .before .before .before .before .before .before .before .before .before .before .compute-dx .ensures .kept .size in
     let y = c .before .before .before .before .before .before .before .compute-complement .ensures .kept .size in
@@ -56,7 +56,7 @@ theta-of-requires c κs =
     (omega (arith, e .pre .2, x, y, z), omega (arith, e .pre .2, x, y, z), omega (arith, e .pre .2, x, y, z), omega (arith, e .pre .2, x, y, z))
 
 theta-of-requires-2 : tie.Need-theta-of-requires-2
-theta-of-requires-2 c κs = 
+theta-of-requires-2 c κs =
     let e = c .before .before .before .before .before .before .before .before .before .before .before .before .before .before .before .before .before .before .before .before .before .before .before .before .before in
     let z = c .before .before .before .before .before .before .before .before .before .before .before .before .before .compute-dx .ensures .kept .size in
     let y = c .before .before .before .before .before .before .before .before .before .compute-complement .ensures .kept .size in
@@ -70,7 +70,7 @@ same-length : tie.Need-same-length
 same-length c = search needs
 
 returns : tie.Need-returns
-returns c = 
+returns c =
     let e = c .before .before .before .before .before .before .before .before .before .before .before .before .before .before .before .before .before .before .before .before .before .before .before .before .before .before .before in
     changed _ _ (laneData (callOf (e .args .m) (e .args .n) (e .args .s) (e .args .off .now) (e .args .cols .now) (e .args .vals .now) (e .args .b .now) (e .args .c .now) (e .args .tol .now))) _ _ _ _ (e .pre .0) (e .pre .1 .slack) (c .before .before .before .before .before .before .before .before .before .before .before .before .before .before .before .compute-dx .ensures) (c .before .before .before .before .before .before .before .before .before .before .before .compute-complement .ensures) (c .before .before .before .before .before .before .before .compute-complement2 .ensures)
     (c .before .before .before .theta-of .ensures) (c .before .theta-of2 .ensures) (c .larger4 .ensures)

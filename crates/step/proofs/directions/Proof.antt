@@ -33,7 +33,7 @@ normal-eqn-rhs-requires : tie.Need-normal-eqn-rhs-requires
 normal-eqn-rhs-requires c κs = let e = c .before .before .before .before .before .before .before .before .before .before .before .before .before .before .before .before .before .before .before .before .before .before .before .before in (rows-for (e .pre .0), cols-for (e .pre .0), e .pre .1, omega (arith, e .pre .2))
 
 normal-matrix-cholesky-decomposition-requires : tie.Need-normal-matrix-cholesky-decomposition-requires
-normal-matrix-cholesky-decomposition-requires c κs = 
+normal-matrix-cholesky-decomposition-requires c κs =
     let e = c .before .before .before .before .before .before .before .before .before .before .before .before .before .before .before .before .before .before .before .before .before .before .before .before .before .before .before .before in
     let p = e .pre .0 in
     let z = c .before .before .before .normal-eqn-rhs .ensures .still .frame .size in
@@ -56,11 +56,10 @@ normal-matrix-cholesky-decomposition-requires c κs =
     }
 
 cholesky-solve-requires : tie.Need-cholesky-solve-requires
-cholesky-solve-requires c κs = 
+cholesky-solve-requires c κs =
     let e = c .before .before .before .before .before .before .before .before .before .before .before .before .before .before .before .before .before .before .before .before .before .before .before .before .before .before .before .before .before .before .before .before in
     let z = c .before .before .before .before .before .before .before .normal-eqn-rhs .ensures .still .frame .size in
-    let y = c .before .before .before .normal-matrix-cholesky-decomposition .ensures .kept .size in
-    (
+    let y = c .before .before .before .normal-matrix-cholesky-decomposition .ensures .kept .size in (
       (low-for (e .pre .0) .ranges, omega arith, high-for (e .pre .0) .ranges),
       (
         (after (omega arith), after (omega arith)),
@@ -69,7 +68,7 @@ cholesky-solve-requires c κs =
     )
 
 compute-dx-dz-dw-requires : tie.Need-compute-dx-dz-dw-requires
-compute-dx-dz-dw-requires c κs = 
+compute-dx-dz-dw-requires c κs =
     let e = c .before .before .before .before .before .before .before .before .before .before .before .before .before .before .before .before .before .before .before .before .before .before .before .before .before .before .before .before .before .before .before .before .before .before .before .before in
     let z = c .before .before .before .before .before .before .before .before .before .before .before .normal-eqn-rhs .ensures .still .frame .size in
     let y = c .before .before .before .before .before .before .before .normal-matrix-cholesky-decomposition .ensures .kept .size in
@@ -80,7 +79,7 @@ same-length : tie.Need-same-length
 same-length c = search needs
 
 returns : tie.Need-returns
-returns c = 
+returns c =
     let e = c .before .before .before .before .before .before .before .before .before .before .before .before .before .before .before .before .before .before .before .before .before .before .before .before .before .before .before .before .before .before .before .before .before .before .before .before .before .before .before in
     let p = e .pre .0 in
     let f = c .before .before .before .before .before .before .before .before .before .before .normal-matrix-cholesky-decomposition .ensures in

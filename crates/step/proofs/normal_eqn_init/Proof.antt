@@ -40,7 +40,7 @@ same-length : tie.Need-same-length
 same-length c = search needs
 
 returns : tie.Need-returns
-returns c = 
+returns c =
     fresh _ _ _ (c .before .before .before .before .before .before .before .before .before .before .before .before .before .before .before .before .splat .ensures ∙ ap (λ (v : Float). lanes (λ t. v)) thousand-bits) (c .before .before .before .before .before .before .before .before .before .before .before .before .before .before .vector-set .ensures) (c .before .before .before .before .before .before .before .before .before .before .vector-set2 .ensures) (c .before .before .before .before .before .before .vector-set3 .ensures) (c .before .before .vector-set4 .ensures)
 
 pub normal-eqn-init-spec : {M : Type 1} → statement M

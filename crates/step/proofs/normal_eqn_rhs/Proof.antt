@@ -21,12 +21,12 @@ add-rhs-2 : tie.Need-add-rhs-2
 add-rhs-2 c = search needs
 
 rhs-u-requires : tie.Need-rhs-u-requires
-rhs-u-requires c κs = 
+rhs-u-requires c κs =
     let e = c .before .before .before .before .before .before .before .before .before .before .before in
     (e .pre .1 .ranges, omega (arith, e .pre .2 .c-long), before (omega arith), before (omega arith), after (omega arith), omega (arith, e .pre .3), omega (arith, e .pre .3), omega (arith, e .pre .3), omega (arith, e .pre .3))
 
 rhs-f-requires : tie.Need-rhs-f-requires
-rhs-f-requires c κs = 
+rhs-f-requires c κs =
     let e = c .before .before .before .before .before .before .before .before .before .before .before .before .before .before .before in
     let z = c .before .before .before .rhs-u .ensures .kept .size in
     (e .pre .0 .ranges, omega (arith, e .pre .2 .b-long), before (omega arith), before (omega arith), before (omega arith), omega (arith, e .pre .3, z), omega (arith, e .pre .3, z), omega (arith, e .pre .3, z), omega (arith, e .pre .3, z))
@@ -35,7 +35,7 @@ same-length : tie.Need-same-length
 same-length c = search needs
 
 returns : tie.Need-returns
-returns c = 
+returns c =
     let e = c .before .before .before .before .before .before .before .before .before .before .before .before .before .before .before .before .before .before in
     right-side _ _ (laneData (callOf (e .args .m) (e .args .n) (e .args .s) (e .args .off .now) (e .args .cols .now) (e .args .vals .now) (e .args .b .now) (e .args .c .now) (e .args .tol .now))) _ _ _ _ (e .pre .0) (e .pre .1) (c .before .before .before .before .before .before .rhs-u .ensures) (c .before .before .rhs-f .ensures)
 

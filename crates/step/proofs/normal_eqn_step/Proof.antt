@@ -17,7 +17,7 @@ same-length : tie.Need-same-length
 same-length c = search needs
 
 returns : tie.Need-returns
-returns c = 
+returns c =
     let e = c .before .before .before .before .before .before .before .before .before .before .before .before .before .before .before .before .before .before .before .before .before .before .before .before .before .before .before .before .before .before .before in
     took _ (laneData (callOf (e .args .m) (e .args .n) (e .args .s) (e .args .off .now) (e .args .cols .now) (e .args .vals .now) (e .args .b .now) (e .args .c .now) (e .args .tol .now))) _ _ (c .before .before .before .before .before .before .directions .ensures) (c .before .before .advance .ensures) (omega arith)
 

@@ -24,7 +24,7 @@ same-length : tie.Need-same-length
 same-length c = search needs
 
 returns : tie.Need-returns
-returns c = 
+returns c =
     let e = c .before .before .before .before .before .before .before .before .before .before .before .before .before .before .before .before .before .before .before .before .before .before .before .before .before .before .before .before .before .before .before in
     let d = laneData (callOf (e .args .m) (e .args .n) (e .args .s) (e .args .off .now) (e .args .cols .now) (e .args .vals .now) (e .args .b .now) (e .args .c .now) (e .args .tol .now)) in
     by-statuses _ _ d (e .args .statuses) (c .before .before .normal-eqn-step .ensures) (mu-lanes _ d _ (e .pre .0 .slack) (c .before .before .before .before .before .before .gamma .ensures) (c .before .before .before .before .before .mu-in .ensures)) (c .before .before .before .before .lanes-done .ensures) (e .pre .3) (e .pre .4)
