@@ -1,19 +1,18 @@
--- A loop over the places from `from` on: one more. Assumes nothing.
-use mathlib.Core.Path.{_≡_, refl, sym, ap, ap₂, _∙_, subst}
+-- The two sums of an entry, turn by turn; where an entry starts, and how it is finished. Assumes nothing.
+use mathlib.Core.Path.{_≡_, refl, ap, ap₂, _∙_, subst}
 use mathlib.Core.Bool.{Bool, true, false, cond, _&&_}
-use mathlib.Core.List.{List, [], _∷_}
-use Prim.Native.Nat.{ℕ, zero, suc, _+_, _-_, _*_, _<_, _≤_}
+use mathlib.Core.List.{List}
+use Prim.Native.Nat.{ℕ, suc, _+_, _-_, _<_, _≤_}
 use native.Mathlib.Omega.{arith}
 use mathlib.Core.Logic.{_⊎_, inl, inr}
 use borrow.Author.Tests.{eq-eqb, ne-eqb, lt-ltb, le-ltb}
 use lib.Dec.{eqb, ltb}
-use lib.ListN.{length, getD}
+use lib.ListN.{getD}
 use lib.Ieee.{Float, nan, binary64, add, sub, mul, div, ofBits}
-use Rattle.lanes.specs.Lists.{at}
-use Rattle.lanes.specs.Lanes.{lanes, each2, quad, cell as here}
-use Rattle.lanes.proofs.Quads.{lanes-ext, lanes-at}
-use Rattle.lanes.specs.Lists.{fold}
-use Rattle.lanes.specs.Arithmetic.{null}
+use Rattle.lanes.specs.Lists.{at, fold}
+use Rattle.lanes.specs.Lanes.{lanes, each1, each2, quad, cell as here}
+use Rattle.lanes.proofs.Quads.{lanes-at}
+use Rattle.lanes.specs.Arithmetic.{√, magnitude, null}
 use Rattle.lanes.proofs.Consts.{null-bits}
 use Rattle.ranks.specs.Factoring.{Summed, normalStep, productStep, NormalIn, ProductIn}
 
@@ -99,6 +98,9 @@ start-on i j s F z e h = rw (eq-eqb i j e, lt-ltb i s h) refl
 pub start-off : (i j s : ℕ) (F : ℕ → Float) → ((i ≡ j → ⊥) ⊎ (s ≤ i)) → lanes (λ l. ofBits binary64 0) ≡ lanes (λ l. cond (eqb i j && ltb i s) (F l) null)
 start-off i j s F (inl n) = rw (and-false-l (eqb i j) (ltb i s) (ne-eqb i j n)) (rw null-bits refl)
 start-off i j s F (inr h) = rw (and-false-r (eqb i j) (ltb i s) (le-ltb i s h)) (rw null-bits refl)
+
+pub root-value : (v : List Float) {a r : List Float} → a ≡ each1 magnitude v → r ≡ each1 √ a → r ≡ lanes (λ l. √ (magnitude (at v l)))
+root-value v ea er = rw (er, ea)
 
 pub finish-on : (i j : ℕ) (F G : ℕ → Float) → i ≡ j → lanes F ≡ lanes (λ l. cond (eqb i j) (F l) (G l))
 finish-on i j F G e = rw (eq-eqb i j e) refl

@@ -1,9 +1,9 @@
 -- Demand 3 from what a solve's contract says. Assumes nothing.
 use mathlib.Core.Path.{_≡_, refl, sym, ap, _∙_, subst}
 use mathlib.Core.Logic.{_⊎_, inl, inr, _↔_, _≢_}
-use mathlib.Core.Bool.{Bool, true, false, cond, true≢false, false≢true}
-use mathlib.Core.List.{List, [], _∷_, _++_}
-use Prim.Native.Nat.{ℕ, zero, suc, _+_, _-_, _*_, _≤_, _<_}
+use mathlib.Core.Bool.{Bool, true, cond}
+use mathlib.Core.List.{List, _++_}
+use Prim.Native.Nat.{ℕ, _+_, _-_, _*_, _≤_, _<_}
 use native.Mathlib.Nat.{eq-or-lt-of-le}
 use native.Mathlib.Omega.{arith}
 use lib.Ieee.{Float}
@@ -11,12 +11,12 @@ use lib.ListN.{length, drop, replicate, getD}
 use Rattle.csr.specs.Pattern.{neighbours, stored}
 use Rattle.csr.specs.Chain.{Chain, factor-stored, stored↔chain, neighbours-sym}
 use Rattle.lanes.specs.Lists.{at}
-use Rattle.machine.specs.Machine.{Problem, Status, spoilt, Machine, live, lost, status, next, yields, machine, left, start, inFactor}
+use Rattle.machine.specs.Machine.{Problem, Status, spoilt, live, status, next, yields, machine, left, start, inFactor}
 use Rattle.lanes.specs.Arithmetic.{null}
-use Rattle.machine.specs.Outcome.{Outcome, accepted, noAt11, noAt12, largestLimit, testsMade, outcome, Call, laneData, laneMachine, laneStatus, solved, xOf, xAt}
+use Rattle.machine.specs.Outcome.{Outcome, accepted, noAt11, noAt12, largestLimit, testsMade, Call, laneData, laneMachine, laneStatus, solved}
 use Rattle.machine.specs.Ends.{Ends}
 use Rattle.machine.specs.Demand3.{Memory, Buffers, isLost, Has, numbers, fresh, Moved, AtTest, Made, once, again, outputAfter, leaves, Demand3}
-use Rattle.machine.specs.Work.{Says, Stepped, stepOf, stepBy, Ran}
+use Rattle.machine.specs.Work.{Says}
 use Rattle.machine.proofs.Ends.{ends, ends-once, larger}
 use Rattle.machine.proofs.Output.{no-nan}
 use Rattle.machine.proofs.Machines.{others, output-at, fresh-has, moved-has, said-of, lane-next}

@@ -1,13 +1,12 @@
 -- `outcome` ends as document 01 says, and a larger limit keeps an acceptance and a no at 11. Assumes nothing.
 use mathlib.Core.Path.{_≡_, refl, sym, ap, _∙_, subst}
-use mathlib.Core.Logic.{_⊎_, inl, inr, _↔_, _≢_}
+use mathlib.Core.Logic.{_≢_}
 use mathlib.Core.Bool.{Bool, true, false, cond, not, _||_, true≢false, false≢true}
 use Prim.Native.Nat.{ℕ, zero, suc, _+_, _≤_, _<_}
-use native.Mathlib.Nat.{eq-or-lt-of-le}
-use native.Mathlib.Decide.{ℕ-discrete, decLt}
+use native.Mathlib.Decide.{decLt}
 use native.Mathlib.Omega.{arith}
-use lib.Dec.{eqb, ltb}
-use borrow.Author.Tests.{ne-eqb, eq-eqb, eqb-true, lt-ltb, le-ltb, ltb-true}
+use lib.Dec.{eqb}
+use borrow.Author.Tests.{ne-eqb, eq-eqb, eqb-true, lt-ltb, ltb-true}
 use Rattle.lanes.specs.Lists.{first}
 use Rattle.machine.specs.Machine.{Status, spoilt, done, steps}
 use Rattle.machine.specs.Outcome.{Outcome, accepted, noAt11, noAt12, isSpoilt, isDone, lowestSpoilt, lowestUndone, someSpoilt, allDone, outcome, testsMade}

@@ -1,16 +1,13 @@
 -- The entries of a row, for a program that goes through the stored lists from one offset to the next. Assumes nothing.
 use mathlib.Core.Path.{_≡_, refl, sym, ap, _∙_, subst}
-use mathlib.Core.Logic.{_⊎_, inl, inr}
-use mathlib.Core.Bool.{Bool, true, false, cond, true≢false, false≢true}
-use mathlib.Core.List.{List, [], _∷_, _++_}
+use mathlib.Core.Bool.{Bool, cond}
+use mathlib.Core.List.{List, [], _∷_}
 use Prim.Native.Nat.{ℕ, zero, suc, _+_, _-_, _≤_, _<_}
-use native.Mathlib.Nat.{eq-or-lt-of-le}
 use native.Mathlib.Omega.{arith}
 use borrow.Author.Tests.{ne-eqb, eq-eqb}
-use lib.Dec.{eqb}
-use lib.ListN.{getD, length, take, drop, length-take, length-drop}
+use lib.ListN.{getD, length, take, drop, length-drop}
 use lib.Seq.{take-suc, take-length, getD-take, getD-drop, length-take-le}
-use lib.Ieee.{Float, nan}
+use lib.Ieee.{Float}
 use Rattle.csr.specs.Pattern.{has, row}
 use Rattle.lanes.specs.Lists.{at, fold, each, Between}
 use Rattle.machine.specs.Machine.{Problem, place, holds, entry}

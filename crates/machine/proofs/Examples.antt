@@ -1,9 +1,9 @@
 -- The rows of specs/Examples.antt hold, by computing. Assumes nothing.
-use mathlib.Core.Path.{_≡_, refl}
+use mathlib.Core.Path.{refl}
 use mathlib.Core.List.{List, [], _∷_, _++_}
 use lib.Ieee.{toBits, ofBits, add, sub, mul, div, neg, lt, ofInt, round, isNan}
 use Rattle.machine.specs.Outcome.{solved, xAt}
-use Rattle.machine.specs.Examples.{Row, Answers, Writes, All, firstTest, later, rows, paper-accepted, paper-strict, divisors, strict-R, strict-Q, strict-G, layout, spent, empty-done, empty-spent, paper-nan, lowest, waiting, lost-lane, chained}
+use Rattle.machine.specs.Examples.{Row, Answers, Writes, All, firstTest, later, rows, paper-accepted, paper-strict, divisors, strict-R, strict-G, layout, spent, empty-done, empty-spent, paper-nan, chained}
 
 paper-accepted-answers : Answers paper-accepted
 unfolding solved xAt toBits ofBits add sub mul div neg lt ofInt round isNan
@@ -36,14 +36,6 @@ strict-R-answers = refl
 strict-R-writes : Writes strict-R
 unfolding solved xAt toBits ofBits add sub mul div neg lt ofInt round isNan
 strict-R-writes = refl
-
-strict-Q-answers : Answers strict-Q
-unfolding solved xAt toBits ofBits add sub mul div neg lt ofInt round isNan
-strict-Q-answers = refl
-
-strict-Q-writes : Writes strict-Q
-unfolding solved xAt toBits ofBits add sub mul div neg lt ofInt round isNan
-strict-Q-writes = refl
 
 strict-G-answers : Answers strict-G
 unfolding solved xAt toBits ofBits add sub mul div neg lt ofInt round isNan
@@ -93,30 +85,6 @@ paper-nan-writes : Writes paper-nan
 unfolding solved xAt toBits ofBits add sub mul div neg lt ofInt round isNan
 paper-nan-writes = refl
 
-lowest-answers : Answers lowest
-unfolding solved xAt toBits ofBits add sub mul div neg lt ofInt round isNan
-lowest-answers = refl
-
-lowest-writes : Writes lowest
-unfolding solved xAt toBits ofBits add sub mul div neg lt ofInt round isNan
-lowest-writes = refl
-
-waiting-answers : Answers waiting
-unfolding solved xAt toBits ofBits add sub mul div neg lt ofInt round isNan
-waiting-answers = refl
-
-waiting-writes : Writes waiting
-unfolding solved xAt toBits ofBits add sub mul div neg lt ofInt round isNan
-waiting-writes = refl
-
-lost-lane-answers : Answers lost-lane
-unfolding solved xAt toBits ofBits add sub mul div neg lt ofInt round isNan
-lost-lane-answers = refl
-
-lost-lane-writes : Writes lost-lane
-unfolding solved xAt toBits ofBits add sub mul div neg lt ofInt round isNan
-lost-lane-writes = refl
-
 chained-answers : Answers chained
 unfolding solved xAt toBits ofBits add sub mul div neg lt ofInt round isNan
 chained-answers = refl
@@ -126,10 +94,10 @@ unfolding solved xAt toBits ofBits add sub mul div neg lt ofInt round isNan
 chained-writes = refl
 
 first-test-holds : All firstTest
-first-test-holds = (paper-accepted-answers, paper-accepted-writes, (paper-strict-answers, paper-strict-writes, (divisors-answers, divisors-writes, (strict-R-answers, strict-R-writes, (strict-Q-answers, strict-Q-writes, (strict-G-answers, strict-G-writes, (layout-answers, layout-writes, (spent-answers, spent-writes, (empty-done-answers, empty-done-writes, (empty-spent-answers, empty-spent-writes, tt))))))))))
+first-test-holds = (paper-accepted-answers, paper-accepted-writes, (paper-strict-answers, paper-strict-writes, (divisors-answers, divisors-writes, (strict-R-answers, strict-R-writes, (strict-G-answers, strict-G-writes, (layout-answers, layout-writes, (spent-answers, spent-writes, (empty-done-answers, empty-done-writes, (empty-spent-answers, empty-spent-writes, tt)))))))))
 
 later-holds : All later
-later-holds = (paper-nan-answers, paper-nan-writes, (lowest-answers, lowest-writes, (waiting-answers, waiting-writes, (lost-lane-answers, lost-lane-writes, (chained-answers, chained-writes, tt)))))
+later-holds = (paper-nan-answers, paper-nan-writes, (chained-answers, chained-writes, tt))
 
 both : (rs ts : List Row) → All rs → All ts → All (rs ++ ts)
 both [] ts h g = g

@@ -1,21 +1,19 @@
 -- A value that an f64 holds rounds to itself, whatever fraction it is written as. Assumes nothing.
 use mathlib.Core.Path.{_≡_, refl, sym, ap, _∙_, subst}
-use mathlib.Core.Logic.{_⊎_, inl, inr, _≢_}
-use mathlib.Core.Bool.{Bool, true, false, not, cond, _&&_, Bool·beq, true≢false, false≢true}
-use Prim.Native.Nat.{ℕ, zero, suc, _+_, _-_, _*_, _/_, _%_, _^_, _≤_, _<_, compare, Ordering}
-use native.Mathlib.Nat.{mul-one, one-mul, zero-mul, add-zero, mul-assoc, mul-comm, mul-left-comm, mul-right-comm, mul-pos, eq-of-mul-eq-mul-right, lt-of-mul-lt-mul-right, mul-lt-mul-of-pos-right, le-trans, le-of-lt, lt-irrefl, zero-lt-suc, le-div-iff-mul-le, div-div-eq-div-mul, mul-le-mul-right, mul-le-mul-left, sub-zero, not-le-of-lt, mul-sub, suc-mul, add-mul, le-add-right}
-use native.Mathlib.Decide.{decLe, decLt}
+use mathlib.Core.Bool.{Bool, cond, _&&_}
+use Prim.Native.Nat.{ℕ, zero, suc, _+_, _-_, _*_, _/_, _%_, _^_, _≤_, _<_}
+use native.Mathlib.Nat.{mul-one, one-mul, zero-mul, mul-assoc, mul-comm, mul-right-comm, mul-pos, eq-of-mul-eq-mul-right, lt-of-mul-lt-mul-right, mul-lt-mul-of-pos-right, not-le-of-lt}
+use native.Mathlib.Decide.{decLe}
 use native.Mathlib.Omega.{arith}
-use borrow.Author.Tests.{lt-ltb, le-ltb, ltb-true}
 use lib.IntN.{ℤ, pos, negsuc}
 use lib.Dec.{T, leb, ltb, eqb, leb→le, ltb→lt, eqb→eq}
 use lib.Pow.{pow-add, pow-pos, pow-lt}
-use lib.Ieee.{Float, nan, inf, fin, Format, binary64, prec, emax, low, up, down, size, nearest, odd, units, round, add, sum, mul, lt, ofInt, toBits, ofBits, fits, hid, top, unlike}
-use lib.Ieee.Exact.{HasValue, round-exact, odd-sign}
-use lib.Ieee.Fits.{and-l, and-r, up-pos, down-pos, round-is, core, round-fits, mul-fits, two}
+use lib.Ieee.{Float, nan, inf, fin, Format, prec, emax, low, up, down, size, round, toBits, ofBits, fits, hid, top}
+use lib.Ieee.Exact.{HasValue, round-exact}
+use lib.Ieee.Fits.{and-l, and-r, down-pos, round-fits}
 use lib.Ieee.Bits.{ofBits-toBits}
-use lib.Ieee.Nearest.{div-same, nearest-ge}
-use lib.Ieee.Digits.{size-lt, size-reaches, odd-val, back}
+use lib.Ieee.Nearest.{div-same}
+use lib.Ieee.Digits.{back}
 
 -- ---- two values that fit and have one size and one sign are the same
 

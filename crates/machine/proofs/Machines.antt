@@ -1,19 +1,19 @@
 -- The machine from test to test, and the lanes of a memory. Assumes nothing.
 use mathlib.Core.Path.{_≡_, refl, sym, ap, _∙_, subst}
-use mathlib.Core.Logic.{_⊎_, inl, inr, _↔_, _≢_}
-use mathlib.Core.Bool.{Bool, true, false, cond, true≢false, false≢true}
-use mathlib.Core.List.{List, [], _∷_, _++_}
+use mathlib.Core.Logic.{_≢_}
+use mathlib.Core.Bool.{Bool, true, false, cond}
+use mathlib.Core.List.{List}
 use Prim.Native.Nat.{ℕ, zero, suc, _+_, _-_, _*_, _/_, _%_, _≤_, _<_}
 use native.Mathlib.Nat.{mul-suc, mul-le-mul-left, mul-add-div, mul-add-mod-self-left, mod-eq-of-lt, div-eq-of-lt, add-zero}
 use native.Mathlib.Omega.{arith}
-use lib.ListN.{getD, length, replicate, getD-replicate}
+use lib.ListN.{replicate, getD-replicate}
 use lib.Ieee.{Float, nan}
 use Rattle.lanes.specs.Lists.{at, lane, vec}
-use Rattle.machine.specs.Machine.{Problem, LaneData, Settings, State, Machine, live, lost, Status, spoilt, done, steps, status, mu, direction, allFinite, after, next, left, machine, yields, start}
+use Rattle.machine.specs.Machine.{Problem, LaneData, Settings, State, Machine, live, lost, Status, spoilt, done, status, mu, direction, allFinite, after, next, left, machine, yields, start}
 use Rattle.lanes.specs.Constants.{startValue}
 use Rattle.machine.specs.Outcome.{Call, laneData, laneMachine, laneStatus, xOf, xAt}
 use Rattle.machine.specs.Demand3.{Memory, isLost, Has, numbers, fresh, Moved, AtTest}
-use Rattle.lanes.proofs.Lists.{vec-length, vec-at, vec-same, lane-at}
+use Rattle.lanes.proofs.Lists.{vec-at, vec-same}
 
 pub slot : (K n k l : ℕ) → l < K → k < n → K * k + l < K * n
 slot K n k l h b = omega (arith, mul-suc K k, mul-le-mul-left K b)

@@ -1,11 +1,9 @@
 -- An accepted output has no NaN, so that 'bit for bit' says all. Assumes nothing.
-use mathlib.Core.Path.{_≡_, refl, sym, ap, _∙_, subst}
-use mathlib.Core.Bool.{Bool, true, false, cond, true≢false}
+use mathlib.Core.Path.{_≡_, refl}
 use Prim.Native.Nat.{ℕ, _<_}
 use native.Mathlib.Omega.{arith}
-use lib.Ieee.{Float, nan, isNan}
-use Rattle.lanes.specs.Lists.{at}
-use Rattle.machine.specs.Machine.{Problem, LaneData, Settings, State, Machine, live, lost, Status, spoilt, done, steps, G, status, yields}
+use lib.Ieee.{nan}
+use Rattle.machine.specs.Machine.{Machine, live, lost, Status, spoilt, done, yields}
 use Rattle.machine.specs.Outcome.{Call, laneData, laneMachine, laneStatus, xOf}
 use Rattle.machine.proofs.Wait.{nan-x, G-spoilt}
 

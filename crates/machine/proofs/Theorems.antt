@@ -1,14 +1,13 @@
 -- The theorems of specs/Theorems.antt, each under its name in lower case. Assumes nothing.
 use mathlib.Core.Path.{_≡_, refl, sym, ap, _∙_, subst}
-use mathlib.Core.Logic.{_⊎_, inl, inr, _≢_}
+use mathlib.Core.Logic.{_⊎_, inl, inr}
 use mathlib.Core.Bool.{Bool, true, not}
-use Prim.Native.Nat.{ℕ, _+_, _-_, _≤_}
+use Prim.Native.Nat.{ℕ, _+_, _-_}
 use native.Mathlib.Decide.{ℕ-discrete}
 use native.Mathlib.Omega.{arith}
-use borrow.Author.Tests.{eq-eqb}
 use lib.Dec.{T}
-use lib.Ieee.{Float, nan}
-use Rattle.csr.specs.Pattern.{neighbours, stored}
+use lib.Ieee.{nan}
+use Rattle.csr.specs.Pattern.{neighbours}
 use Rattle.csr.specs.Chain.{Chain, factor-stored, stored-diag}
 use Rattle.machine.specs.Machine.{Problem, LaneData, Settings, State, Status, status, machine, next, yields, G, inFactor}
 use Rattle.machine.specs.Outcome.{Call}
@@ -16,7 +15,7 @@ use Rattle.machine.specs.Theorems as theorems
 use Rattle.machine.specs.Theorems.{HasNan, in-x, in-z, in-y, in-w}
 use Rattle.machine.proofs.Floats.{unmoved, unmoved-nan, null-mul-nan}
 use Rattle.machine.proofs.Wait.{SoundMachine, left-sound, nan-x, nan-z, nan-y, nan-w, G-spoilt, rust-next}
-use Rattle.machine.proofs.Machines.{waits, wait-lost, machine-next, lost-next, spoilt-on}
+use Rattle.machine.proofs.Machines.{waits, wait-lost, machine-next, spoilt-on}
 use Rattle.machine.proofs.Factor.{factor-is}
 use Rattle.machine.proofs.Ends as ending
 use Rattle.machine.proofs.Demand3 as demand

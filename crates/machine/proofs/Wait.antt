@@ -3,15 +3,14 @@
 use mathlib.Core.Path.{_≡_, refl, sym, ap, _∙_, subst}
 use mathlib.Core.Logic.{_⊎_, inl, inr, ⊎-elim, _≢_}
 use mathlib.Core.Bool.{Bool, true, false, not, cond, _&&_, true≢false, false≢true}
-use mathlib.Core.List.{List, [], _∷_, _++_}
-use Prim.Native.Nat.{ℕ, zero, suc, _+_, _-_, _*_, _≤_, _<_}
+use mathlib.Core.List.{List}
+use Prim.Native.Nat.{ℕ, zero, suc, _-_, _<_}
 use native.Mathlib.Nat.{eq-or-lt-of-le}
 use native.Mathlib.Omega.{arith}
 use lib.Dec.{T}
 use lib.IntN.{pos}
-use lib.ListN.{length}
 use lib.Seq.{ext-getD}
-use lib.Ieee.{Float, nan, inf, fin, binary64, add, mul, div, ofInt, isNan, fits}
+use lib.Ieee.{Float, nan, inf, fin, binary64, add, mul, div, ofInt, isNan}
 use lib.Ieee.Scale.{finite}
 use Rattle.root.specs.Root.{root}
 use Rattle.lanes.specs.Lists.{at, vec, fold}
@@ -20,7 +19,7 @@ use Rattle.lanes.specs.Arithmetic.{null, one, Σ, norm}
 use Rattle.lanes.specs.Constants.{startValue}
 use Rattle.machine.specs.Demand3.{Has}
 use Rattle.machine.specs.Work.{stepOf, stepBy}
-use Rattle.machine.specs.Theorems.{minusZero, Sound, SoundList, SoundState}
+use Rattle.machine.specs.Theorems.{Sound, SoundList, SoundState}
 use Rattle.lanes.proofs.Lists.{vec-length, vec-at}
 use Rattle.machine.proofs.Floats.{moved-sound, unmoved, unmoved-nan, add-nan}
 

@@ -36,6 +36,9 @@ fraction a b = round binary64 false a b
 abbrev four : Float → List Float
 four v = replicate 4 v
 
+abbrev two : Float → List Float
+two v = replicate 2 v
+
 abbrev lanes : Float → Float → Float → Float → List Float
 lanes p q r s = p ∷ q ∷ r ∷ s ∷ []
 
@@ -46,34 +49,22 @@ large = whole 1000000000
 abbrev small : Float
 small = fraction 1 100000000
 
--- large tolerances but for lane 3
+-- two lanes' tolerances, large but for lane 1
 abbrev last : Float → List Float
-last v = lanes large large large v
+last v = large ∷ v ∷ []
 
 -- 1000.0
 abbrev thousand : ℕ
 thousand = 0x408f400000000000
 
--- row {0} with one value, and s
-abbrev oneRow : Float → ℕ → Problem
-oneRow a s = record { m = 1; n = 1; s = s; off = 0 ∷ 1 ∷ []; cols = 0 ∷ []; vals = a ∷ [] }
+-- row {0} with value 1 and s 1
+abbrev oneRow : Problem
+oneRow = record { m = 1; n = 1; s = 1; off = 0 ∷ 1 ∷ []; cols = 0 ∷ []; vals = one ∷ [] }
 
--- row {0} with value 1 and s 1; b and c, the primal, dual and optimality tolerances
-abbrev single : List Float → Float → List Float → List Float → List Float → Call
-single b c primal dual gap =
-    record { K = 4; problem = oneRow one 1; settings = standard; b = b; c = four c; tolerances = primal ++ (dual ++ gap) }
-
--- two lanes of it, the second with a smaller optimality tolerance
-abbrev pair : Call
-pair =
-    record {
-      K = 2;
-      problem = oneRow one 1;
-      settings = standard;
-      b = replicate 2 one;
-      c = replicate 2 one;
-      tolerances = replicate 5 large ++ (whole 900 ∷ []);
-    }
+-- K lanes of it: b and c, the primal, dual and optimality tolerances
+abbrev single : ℕ → List Float → Float → List Float → List Float → List Float → Call
+single K b c primal dual gap =
+    record { K = K; problem = oneRow; settings = standard; b = b; c = replicate K c; tolerances = primal ++ (dual ++ gap) }
 
 -- rows {0}, {1}, two lanes
 abbrev twoRows : Call
@@ -84,7 +75,7 @@ twoRows =
       settings = standard;
       b = lanes (whole 2000) null (whole 2000) null;
       c = lanes null (whole 5) null (whole 5);
-      tolerances = lanes small large small large ++ replicate 2 large;
+      tolerances = lanes small large small large ++ two large;
     }
 
 -- no rows, no columns
@@ -98,11 +89,6 @@ empty t =
       c = [];
       tolerances = replicate 12 t;
     }
-
--- a stored 0.0 in an equality row; lane 0 is done at test 1, the others step
-abbrev storedZero : Call
-storedZero =
-    record { K = 4; problem = oneRow null 0; settings = standard; b = four one; c = four one; tolerances = replicate 9 large ++ replicate 3 null }
 
 -- rows {0,1}, {0}, {1}, the last an equality: the factor has (2, 1) by the chain 2-0-1
 abbrev star : Call
@@ -128,25 +114,22 @@ star =
 
 -- 'Row {0} with value, b, c all 1, s 1, N 1, tolerances 1e9'
 abbrev pub paper-accepted : Row
-paper-accepted = record { call = single (four one) one (four large) (four large) (four large); limit = 1; answer = accepted 1; bits = replicate 4 thousand }
+paper-accepted = record { call = single 4 (four one) one (four large) (four large) (four large); limit = 1; answer = accepted 1; bits = replicate 4 thousand }
 
 -- 'The same with c 0 and dual tolerances 0: refused 12 1 0, since 0 isn't below 0.'
 abbrev pub paper-strict : Row
-paper-strict = record { call = single (four one) null (four large) (four null) (four large); limit = 1; answer = noAt12 1; bits = [] }
+paper-strict = record { call = single 4 (four one) null (four large) (four null) (four large); limit = 1; answer = noAt12 1; bits = [] }
 
 -- R is 1999/1001 and Q 1/1001; divided by max(‖b‖, 1) and max(‖c‖, 1) they would be 1999 and 1
 abbrev pub divisors : Row
-divisors = record { call = single (four one) one (four (whole 2)) (four (fraction 1 2)) (four large); limit = 1; answer = accepted 1; bits = replicate 4 thousand }
+divisors = record { call = single 1 (one ∷ []) one (whole 2 ∷ []) (fraction 1 2 ∷ []) (large ∷ []); limit = 1; answer = accepted 1; bits = thousand ∷ [] }
 
--- R is 0 and not below lane 3's tolerance 0; so with Q, and with G, which is 2000000/2001
+-- R is 0 and not below lane 1's tolerance 0; so with G, which is 2000000/2001
 abbrev pub strict-R : Row
-strict-R = record { call = single (four (whole 2000)) one (last null) (four large) (four large); limit = 1; answer = noAt12 1; bits = [] }
-
-abbrev pub strict-Q : Row
-strict-Q = record { call = single (four one) null (four large) (last null) (four large); limit = 1; answer = noAt12 1; bits = [] }
+strict-R = record { call = single 2 (two (whole 2000)) one (last null) (two large) (two large); limit = 1; answer = noAt12 1; bits = [] }
 
 abbrev pub strict-G : Row
-strict-G = record { call = single (four one) one (four large) (four large) (last (whole 2000000 ⊘ whole 2001)); limit = 1; answer = noAt12 1; bits = [] }
+strict-G = record { call = single 2 (two one) one (two large) (two large) (last (whole 2000000 ⊘ whole 2001)); limit = 1; answer = noAt12 1; bits = [] }
 
 -- lane 0 has b 2000 and c 0, so that R and Q are 0, lane 1 has b 0 and c 5: lane l of entry k is at 2k + l
 abbrev pub layout : Row
@@ -154,7 +137,7 @@ layout = record { call = twoRows; limit = 1; answer = accepted 1; bits = replica
 
 -- lane 0 is done, lane 1 has to step: with the limit 1 there is no test after that step
 abbrev pub spent : Row
-spent = record { call = pair; limit = 1; answer = noAt12 1; bits = [] }
+spent = record { call = single 2 (two one) one (two large) (two large) (last (whole 900)); limit = 1; answer = noAt12 1; bits = [] }
 
 -- sizes of 0
 abbrev pub empty-done : Row
@@ -164,32 +147,20 @@ abbrev pub empty-spent : Row
 empty-spent = record { call = empty null; limit = 2; answer = noAt12 2; bits = [] }
 
 abbrev pub firstTest : List Row
-firstTest = paper-accepted ∷ paper-strict ∷ divisors ∷ strict-R ∷ strict-Q ∷ strict-G ∷ layout ∷ spent ∷ empty-done ∷ empty-spent ∷ []
+firstTest = paper-accepted ∷ paper-strict ∷ divisors ∷ strict-R ∷ strict-G ∷ layout ∷ spent ∷ empty-done ∷ empty-spent ∷ []
 
 -- ---- rows with steps
 
 -- 'The first with b NaN in lane 2 and N 2, tolerances 1e-8: refused 11 2 2.'
 abbrev pub paper-nan : Row
-paper-nan = record { call = single (lanes one one nan one) one (four small) (four small) (four small); limit = 2; answer = noAt11 2 2; bits = [] }
-
--- NaN in lanes 1 and 3: the lowest is named
-abbrev pub lowest : Row
-lowest = record { call = single (lanes one nan one nan) one (four small) (four small) (four small); limit = 3; answer = noAt11 2 1; bits = [] }
-
--- lane 0 waits with its numbers while lane 1 steps once
-abbrev pub waiting : Row
-waiting = record { call = pair; limit = 2; answer = accepted 2; bits = thousand ∷ 0x3ff7fdf3b645a000 ∷ [] }
-
--- lane 0 is done and its step is not finite, so that it is spoilt at test 2
-abbrev pub lost-lane : Row
-lost-lane = record { call = storedZero; limit = 3; answer = noAt11 2 0; bits = [] }
+paper-nan = record { call = single 4 (lanes one one nan one) one (four small) (four small) (four small); limit = 2; answer = noAt11 2 2; bits = [] }
 
 -- two steps, the tolerances being the least floats above R, Q and G of test 3
 abbrev pub chained : Row
 chained = record { call = star; limit = 3; answer = accepted 3; bits = 0x40318bbcfab550d0 ∷ 0x403438ca154eeaf8 ∷ [] }
 
 abbrev pub later : List Row
-later = paper-nan ∷ lowest ∷ waiting ∷ lost-lane ∷ chained ∷ []
+later = paper-nan ∷ chained ∷ []
 
 abbrev pub rows : List Row
 rows = firstTest ++ later

@@ -7,7 +7,7 @@ use lib.Ieee.{Float, nan}
 pub use Rattle.machine.specs.declared.Outcome.{Outcome}
 pub use Rattle.machine.specs.declared.Outcome.the-variants.{Accepted as accepted, NoAt11 as noAt11, NoAt12 as noAt12}
 use Rattle.lanes.specs.Lists.{at, vec, first, lane}
-use Rattle.machine.specs.Machine.{Problem, LaneData, Settings, State, Machine, live, lost, Status, spoilt, done, steps, machine, yields}
+use Rattle.machine.specs.Machine.{Problem, LaneData, Settings, Machine, live, lost, Status, spoilt, done, steps, machine, yields}
 
 abbrev pub isSpoilt : Status → Bool
 isSpoilt spoilt = true

@@ -12,8 +12,8 @@ use Rattle.csr.specs.Pattern.{neighbours, stored}
 use Rattle.csr.specs.Chain.{Chain}
 use Rattle.lanes.specs.Arithmetic.{_⊕_, _⊗_, null, one}
 use Rattle.lanes.specs.Lists.{at}
-use Rattle.machine.specs.Machine.{Problem, LaneData, Settings, State, Machine, live, lost, Status, spoilt, done, status, mu, direction, allFinite, after, G, machine, yields, inFactor, cell, factor, factorEntry}
-use Rattle.machine.specs.Outcome.{Outcome, noAt12, largestLimit, outcome, Call, laneData, laneStatus}
+use Rattle.machine.specs.Machine.{Problem, LaneData, Settings, State, live, Status, spoilt, done, status, mu, direction, allFinite, after, G, machine, yields, inFactor, cell, factor, factorEntry}
+use Rattle.machine.specs.Outcome.{Outcome, noAt12, largestLimit, outcome, Call}
 use Rattle.machine.specs.Ends.{Ends}
 use Rattle.machine.specs.Demand3.{Memory, Buffers, Has, AtTest, Made, Demand3}
 use Rattle.machine.specs.Work.{stepOf}

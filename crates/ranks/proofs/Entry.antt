@@ -1,6 +1,6 @@
 -- An entry of the factor, as the code works it out from the plan's lists. Assumes nothing.
-use mathlib.Core.Path.{_≡_, refl, sym, ap, ap₂, _∙_, subst}
-use mathlib.Core.Bool.{Bool, true, false, cond, _&&_}
+use mathlib.Core.Path.{_≡_, refl, ap, ap₂, _∙_}
+use mathlib.Core.Bool.{cond, _&&_}
 use mathlib.Core.List.{List}
 use Prim.Native.Nat.{ℕ, suc, _+_, _-_, _*_, _<_, _≤_}
 use native.Mathlib.Omega.{arith}
@@ -8,16 +8,15 @@ use lib.Dec.{eqb, ltb}
 use lib.ListN.{length, getD}
 use lib.Ieee.{Float, binary64, div}
 use Rattle.lists.specs.Lists.{Shape, shape, lplace, before, weight, listOf}
-use Rattle.lists.specs.declared.Which.the-variants.{AnormIndptr, AnormIndptrI, AnormIndptrJ, AnormIndices, LdecompIndptr, LdecompIndptrI, LdecompIndptrJ, Lindptr, LdiagIndptr, Lindices}
-use Rattle.root.specs.Root.{root}
+use Rattle.lists.specs.declared.Which.the-variants.{AnormIndptr, AnormIndptrI, AnormIndptrJ, AnormIndices, LdecompIndptr}
 use Rattle.lanes.specs.Lists.{at}
 use Rattle.lanes.specs.Lanes.{lanes, cell as here}
 use Rattle.lanes.proofs.Quads.{lanes-ext, lane-of}
 use Rattle.lanes.specs.Lists.{fold}
-use Rattle.machine.specs.Machine.{Problem, State, reduced, factorEntry}
+use Rattle.machine.specs.Machine.{reduced, factorEntry}
 use Rattle.lanes.specs.Arithmetic.{null, √, magnitude}
 use Rattle.machine.specs.Work.{problemOf}
-use Rattle.ranks.specs.Factoring.{normalStep, productStep, NormalIn, ProductIn, Summed, Planned, Regions, Given, Stands, stateOf, entries}
+use Rattle.ranks.specs.Factoring.{normalStep, productStep, NormalIn, ProductIn, Summed, Given, Stands, stateOf}
 use Rattle.ranks.proofs.Turn.{anorm-from, anorm-to, ldecomp-from, ldecomp-to, anorm-room, ldecomp-room, diag-is, diag-room, diag-entry, normal-ready, product-ready, rest-is, first}
 
 module _ {off cols : List ℕ} {vals work : List Float} {m n s : ℕ} {aends aleft aright acols dends dleft dright lends ldiag lcols : List ℕ} {x z y w lo : ℕ}

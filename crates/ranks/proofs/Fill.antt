@@ -1,6 +1,6 @@
 -- The memory while the factor is filled: its first e entries are the machine's on the memory's own numbers, and nothing but the factor has changed. Assumes nothing.
 use mathlib.Core.Path.{_≡_, refl, sym, ap, _∙_, subst}
-use mathlib.Core.Logic.{_⊎_, inl}
+use mathlib.Core.Logic.{inl}
 use mathlib.Core.Bool.{true}
 use mathlib.Core.List.{List}
 use Prim.Native.Nat.{ℕ, suc, _+_, _*_, _<_, _≤_}
@@ -15,9 +15,9 @@ use Rattle.lists.specs.declared.Which.the-variants.{Lindptr, Lindices}
 use Rattle.lanes.specs.Lists.{at}
 use Rattle.lanes.specs.Lanes.{lanes, put, cell as here}
 use Rattle.lanes.specs.Region.{reg, Kept}
-use Rattle.lanes.proofs.Regions.{reg-at, kept-none, kept-put, kept-apart, cell-put-same, getD-put-other, places-lt}
+use Rattle.lanes.proofs.Regions.{reg-at, kept-none, kept-put, kept-apart, cell-put-same, getD-put-other}
 use Rattle.lanes.proofs.Quads.{lane-of}
-use Rattle.machine.specs.Machine.{Problem, State, inFactor, factorEntry, factor, cell}
+use Rattle.machine.specs.Machine.{State, inFactor, factorEntry, factor, cell}
 use Rattle.machine.specs.Work.{problemOf}
 use Rattle.ranks.specs.Factoring.{Given, Stands, Factored, stateOf, entries}
 use Rattle.ranks.proofs.Ranks.{lplace-lt}

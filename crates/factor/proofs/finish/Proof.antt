@@ -1,3 +1,4 @@
+use mathlib.Core.Path.{_∙_}
 use Prim.Native.Nat.{_+_}
 use native.Mathlib.Omega.{arith}
 use lib.ListN.{getD}
@@ -5,7 +6,7 @@ use lib.Ieee.{binary64, div}
 use Rattle.lanes.specs.Lists.{at}
 use Rattle.lanes.specs.Lanes.{cell}
 use Rattle.lanes.specs.Arithmetic.{√, magnitude}
-use Rattle.factor.proofs.Sums.{finish-on, finish-off}
+use Rattle.factor.proofs.Sums.{root-value, finish-on, finish-off}
 use Rattle.factor.proofs.finish.Statement.{statement}
 use Rattle.factor.proofs.finish.Tie as tie
 
@@ -18,8 +19,8 @@ root4-requires c κs = tt
 returns : tie.Need-returns
 returns c =
     let s = c .before .before .before .before .before in
-    rw (c .root4 .ensures, c .before .abs4 .ensures)
-    (finish-on (s .args .i) (s .args .j) (λ l. √ (magnitude (at (s .args .v) l))) (λ l. div binary64 (at (s .args .v) l) (cell 4 (s .args .work .now) (s .args .lo + getD (s .args .diag .now) (s .args .j) 0) l)) (c .before .before .if1 .taken))
+    root-value (s .args .v) (c .before .abs4 .ensures) (c .root4 .ensures)
+    ∙ finish-on (s .args .i) (s .args .j) (λ l. √ (magnitude (at (s .args .v) l))) (λ l. div binary64 (at (s .args .v) l) (cell 4 (s .args .work .now) (s .args .lo + getD (s .args .diag .now) (s .args .j) 0) l)) (c .before .before .if1 .taken)
 
 at-requires : tie.Need-at-requires
 at-requires c κs = c .before .before .before .pre .0
