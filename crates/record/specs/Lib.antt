@@ -1,0 +1,4 @@
+pub mod Little
+pub mod Record
+pub mod Text
+pub mod Examples
