@@ -35,13 +35,17 @@ is-within-requires : tie.Need-is-within-requires
 is-within-requires c κs = search needs
 
 returns-4 : tie.Need-returns-4
-returns-4 c = wrong-sizes _ _ _ _ (c .before .before .before .before .le162 .ensures .0) (c .before .before .before .le163 .ensures .0) (c .before .before .le164 .ensures .0) _ (c .before .is-within .ensures) (not-true _ (c .if4 .taken))
+returns-4 c =
+    wrong-sizes _ _ _ _ (c .before .before .before .before .le162 .ensures .0) (c .before .before .before .le163 .ensures .0) (c .before .before .le164 .ensures .0) _ (c .before .is-within .ensures)
+    (not-true _ (c .if4 .taken))
 
 record-bytes-requires : tie.Need-record-bytes-requires
 record-bytes-requires c κs = search needs
 
 returns-5 : tie.Need-returns-5
-returns-5 c = wrong-end _ _ _ _ (c .before .before .before .before .before .before .le162 .ensures .0) (c .before .before .before .before .before .le163 .ensures .0) (c .before .before .before .before .le164 .ensures .0) _ (c .before .record-bytes .ensures) (c .if5 .taken)
+returns-5 c =
+    wrong-end _ _ _ _ (c .before .before .before .before .before .before .le162 .ensures .0) (c .before .before .before .before .before .le163 .ensures .0) (c .before .before .before .before .le164 .ensures .0) _
+    (c .before .record-bytes .ensures) (c .if5 .taken)
 
 le16-requires-5 : tie.Need-le16-requires-5
 le16-requires-5 c κs = search needs
@@ -50,7 +54,13 @@ le16-requires-6 : tie.Need-le16-requires-6
 le16-requires-6 c κs = search needs
 
 returns-6 : tie.Need-returns-6
-returns-6 c = right _ _ _ _ (c .before .before .before .before .before .before .before .before .le162 .ensures .0) (c .before .before .before .before .before .before .before .le163 .ensures .0) (c .before .before .before .before .before .before .le164 .ensures .0) _ _ _ _ _ _ (c .before .before .before .before .before .before .before .before .before .before .before .before .le32 .ensures .0) (c .before .before .before .before .before .before .before .before .before .before .le16 .ensures .0) (c .before .le165 .ensures .0) (c .le166 .ensures .0) (c .before .before .before .before .before .before .before .before .before .before .before .if2 .left) (c .before .before .before .before .before .before .before .before .before .if3 .left) (c .before .before .before .before .before .is-within .ensures) (not-false _ (c .before .before .before .before .if4 .left)) (c .before .before .before .record-bytes .ensures) (c .before .before .if5 .left)
+returns-6 c =
+    let checked = c .before .before in
+    let sized = c .before .before .before .before .before .before in
+    right _ _ _ _ (sized .before .before .le162 .ensures .0) (sized .before .le163 .ensures .0) (sized .le164 .ensures .0) _ _ _ _ _ _
+    (c .before .before .before .before .before .before .before .before .before .before .before .before .le32 .ensures .0) (c .before .before .before .before .before .before .before .before .before .before .le16 .ensures .0) (c .before .le165 .ensures .0) (c .le166 .ensures .0)
+    (c .before .before .before .before .before .before .before .before .before .before .before .if2 .left) (c .before .before .before .before .before .before .before .before .before .if3 .left)
+    (checked .before .before .before .is-within .ensures) (not-false _ (checked .before .before .if4 .left)) (checked .before .record-bytes .ensures) (checked .if5 .left)
 
 pub read-header-spec : {M : Type 1} → statement M
 read-header-spec =

@@ -21,7 +21,9 @@ same-length c = search needs
 
 returns : tie.Need-returns
 unfolding acceptedText ascii
-returns c = wrote-join _ _ _ _ _ _ _ _ (c .before .before .before .before .before .before .before .before .before .before .put .ensures) (wrote-join _ _ _ _ _ _ _ _ (c .before .before .before .before .before .before .put-whole .ensures .0) (c .before .before .put-lines .ensures))
+returns c =
+    wrote-join _ _ _ _ _ _ _ _ (c .before .before .before .before .before .before .before .before .before .before .put .ensures)
+    (wrote-join _ _ _ _ _ _ _ _ (c .before .before .before .before .before .before .put-whole .ensures .0) (c .before .before .put-lines .ensures))
 
 pub put-accepted-spec : {M : Type 1} → statement M
 put-accepted-spec =

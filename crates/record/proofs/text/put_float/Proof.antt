@@ -19,17 +19,30 @@ slice-aggregate-put : tie.Need-slice-aggregate-put
 slice-aggregate-put c = search needs
 
 put-requires : tie.Need-put-requires
-put-requires c κs = omega (arith, c .before .before .hex .ensures .0 .1, hex-places _ _ (c .before .before .before .before .bits-of .ok) (c .before .before .hex .ensures .1 .0))
+put-requires c κs =
+    let made = c .before .before .hex .ensures in
+    omega (arith, made .0 .1, hex-places _ _ (c .before .before .before .before .bits-of .ok) (made .1 .0))
 
 put-byte-requires : tie.Need-put-byte-requires
-put-byte-requires c κs = omega (arith, c .before .before .before .put .ensures .next, c .before .before .before .put .kept .0, c .before .before .before .before .before .before .hex .ensures .0 .1, hex-places _ _ (c .before .before .before .before .before .before .before .before .bits-of .ok) (c .before .before .before .before .before .before .hex .ensures .1 .0))
+put-byte-requires c κs =
+    let made = c .before .before .before .before .before .before .hex .ensures in
+    let put = c .before .before .before .put in
+    omega (arith, put .ensures .next, put .kept .0, made .0 .1, hex-places _ _ (c .before .before .before .before .before .before .before .before .bits-of .ok) (made .1 .0))
 
 same-length : tie.Need-same-length
 same-length c = search needs
 
 returns : tie.Need-returns
 unfolding floatText
-returns c = (then-byte (c .before .before .before .before .before .before .before .before .before .hex .ensures .1 .1 ∙ hex-is _ _ (hex-places _ _ (c .before .before .before .before .before .before .before .before .before .before .before .bits-of .ok) (c .before .before .before .before .before .before .before .before .before .hex .ensures .1 .0)) (c .before .before .before .before .before .before .before .before .before .hex .ensures .1 .0) ∙ ap hexText (c .before .before .before .before .before .before .before .before .before .before .before .bits-of .ensures)) (c .before .before .before .before .before .before .put .ensures) (c .before .before .put-byte .ensures), omega (arith, c .before .before .put-byte .ensures .next, c .before .before .before .before .before .before .put .ensures .next, c .before .before .before .before .before .before .before .before .before .hex .ensures .0 .1, hex-places _ _ (c .before .before .before .before .before .before .before .before .before .before .before .bits-of .ok) (c .before .before .before .before .before .before .before .before .before .hex .ensures .1 .0), c .before .before .before .before .before .before .before .before .before .hex .ensures .1 .0 .0))
+returns c =
+    let made = c .before .before .before .before .before .before .before .before .before .hex .ensures in
+    let pattern = c .before .before .before .before .before .before .before .before .before .before .before .bits-of in
+    let few = hex-places _ _ (pattern .ok) (made .1 .0) in
+    let put = c .before .before .before .before .before .before .put .ensures in
+    let last = c .before .before .put-byte .ensures in (
+      then-byte (made .1 .1 ∙ hex-is _ _ few (made .1 .0) ∙ ap hexText (pattern .ensures)) put last,
+      omega (arith, last .next, put .next, made .0 .1, few, made .1 .0 .0),
+    )
 
 pub put-float-spec : {M : Type 1} → statement M
 put-float-spec =

@@ -58,7 +58,14 @@ same-length c = search needs
 
 returns : tie.Need-returns
 unfolding lineText
-returns c = (wrote-join _ _ _ _ _ _ _ _ (c .before .before .before .before .before .before .before .before .before .before .before .before .before .before .before .before .before .put-float .ensures .0) (wrote-join _ _ _ _ _ _ _ _ (c .before .before .before .before .before .before .before .before .before .before .before .before .put-float2 .ensures .0) (wrote-join _ _ _ _ _ _ _ _ (c .before .before .before .before .before .before .before .put-float3 .ensures .0) (c .before .before .put-float4 .ensures .0))), omega (arith, c .before .before .before .before .before .before .before .before .before .before .before .before .before .before .before .before .before .put-float .ensures .1, c .before .before .before .before .before .before .before .before .before .before .before .before .put-float2 .ensures .1, c .before .before .before .before .before .before .before .put-float3 .ensures .1, c .before .before .put-float4 .ensures .1))
+returns c =
+    let first = c .before .before .before .before .before .before .before .before .before .before .before .before .before .before .before .before .before .put-float .ensures in
+    let second = c .before .before .before .before .before .before .before .before .before .before .before .before .put-float2 .ensures in
+    let third = c .before .before .before .before .before .before .before .put-float3 .ensures in
+    let fourth = c .before .before .put-float4 .ensures in (
+      wrote-join _ _ _ _ _ _ _ _ (first .0) (wrote-join _ _ _ _ _ _ _ _ (second .0) (wrote-join _ _ _ _ _ _ _ _ (third .0) (fourth .0))),
+      omega (arith, first .1, second .1, third .1, fourth .1),
+    )
 
 pub put-line-spec : {M : Type 1} → statement M
 put-line-spec =

@@ -24,7 +24,10 @@ same-length c = search needs
 
 returns : tie.Need-returns
 unfolding refusedText ascii
-returns c = wrote-join _ _ _ _ _ _ _ _ (c .before .before .before .before .before .before .before .before .before .before .before .before .before .before .put .ensures) (wrote-join _ _ _ _ _ _ _ _ (c .before .before .before .before .before .before .before .before .before .before .put-whole .ensures .0) (wrote-join _ _ _ _ _ _ _ _ (c .before .before .before .before .before .before .put-whole2 .ensures .0) (c .before .before .put-whole3 .ensures .0)))
+returns c =
+    wrote-join _ _ _ _ _ _ _ _ (c .before .before .before .before .before .before .before .before .before .before .before .before .before .before .put .ensures)
+    (wrote-join _ _ _ _ _ _ _ _ (c .before .before .before .before .before .before .before .before .before .before .put-whole .ensures .0)
+    (wrote-join _ _ _ _ _ _ _ _ (c .before .before .before .before .before .before .put-whole2 .ensures .0) (c .before .before .put-whole3 .ensures .0)))
 
 pub put-refused-spec : {M : Type 1} → statement M
 put-refused-spec =

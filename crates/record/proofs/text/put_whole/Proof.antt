@@ -16,17 +16,27 @@ slice-aggregate-put : tie.Need-slice-aggregate-put
 slice-aggregate-put c = search needs
 
 put-requires : tie.Need-put-requires
-put-requires c κs = omega (arith, c .before .before .decimal .ensures .0 .1, decimal-places _ _ (c .before .before .before .before .before .fits .x .fits) (c .before .before .decimal .ensures .1 .0))
+put-requires c κs =
+    let made = c .before .before .decimal .ensures in
+    omega (arith, made .0 .1, decimal-places _ _ (c .before .before .before .before .before .fits .x .fits) (made .1 .0))
 
 put-byte-requires : tie.Need-put-byte-requires
-put-byte-requires c κs = omega (arith, c .before .before .before .put .ensures .next, c .before .before .before .put .kept .0, c .before .before .before .before .before .before .decimal .ensures .0 .1, decimal-places _ _ (c .before .before .before .before .before .before .before .before .before .fits .x .fits) (c .before .before .before .before .before .before .decimal .ensures .1 .0))
+put-byte-requires c κs =
+    let made = c .before .before .before .before .before .before .decimal .ensures in
+    let put = c .before .before .before .put in
+    omega (arith, put .ensures .next, put .kept .0, made .0 .1, decimal-places _ _ (c .before .before .before .before .before .before .before .before .before .fits .x .fits) (made .1 .0))
 
 same-length : tie.Need-same-length
 same-length c = search needs
 
 returns : tie.Need-returns
 unfolding wholeText decimalText
-returns c = (then-byte (c .before .before .before .before .before .before .before .before .before .decimal .ensures .1 .1 ∙ decimal-is 20 _ _ (decimal-places _ _ (c .before .before .before .before .before .before .before .before .before .before .before .before .fits .x .fits) (c .before .before .before .before .before .before .before .before .before .decimal .ensures .1 .0)) (c .before .before .before .before .before .before .before .before .before .decimal .ensures .1 .0)) (c .before .before .before .before .before .before .put .ensures) (c .before .before .put-byte .ensures), omega (arith, c .before .before .put-byte .ensures .next, c .before .before .before .before .before .before .put .ensures .next, c .before .before .before .before .before .before .before .before .before .decimal .ensures .0 .1, decimal-places _ _ (c .before .before .before .before .before .before .before .before .before .before .before .before .fits .x .fits) (c .before .before .before .before .before .before .before .before .before .decimal .ensures .1 .0)))
+returns c =
+    let made = c .before .before .before .before .before .before .before .before .before .decimal .ensures in
+    let few = decimal-places _ _ (c .before .before .before .before .before .before .before .before .before .before .before .before .fits .x .fits) (made .1 .0) in
+    let put = c .before .before .before .before .before .before .put .ensures in
+    let last = c .before .before .put-byte .ensures in
+    (then-byte (made .1 .1 ∙ decimal-is 20 _ _ few (made .1 .0)) put last, omega (arith, last .next, put .next, made .0 .1, few))
 
 pub put-whole-spec : {M : Type 1} → statement M
 put-whole-spec =
