@@ -1,10 +1,10 @@
 -- CSR lists that are well formed. Assumes nothing.
-use mathlib.Core.Path.{_≡_, refl}
-use mathlib.Core.Bool.{Bool, true, false, _&&_, _||_}
+use mathlib.Core.Path.{_≡_}
 use mathlib.Core.List.{List, [], _∷_}
-use Prim.Native.Nat.{ℕ, zero, suc, _+_, _*_, _<_, _≤_}
+use Prim.Native.Nat.{ℕ, _+_, _<_, _≤_}
 use lib.ListN.{getD, length}
 use Rattle.csr.specs.Pattern.{row}
+use Rattle.csr.specs.Chain.{Below}
 
 -- each number is below all that follow it
 abbrev pub Under : ℕ → List ℕ → Type 0
@@ -22,3 +22,22 @@ pub record Csr (off cols : List ℕ) (m : ℕ) : Type 0 where
   pub ends : (i : ℕ) → i ≤ m → getD off i 0 ≤ length cols
   pub rising : (i : ℕ) → i < m → Rising (row off cols i)
   pub nnz : length cols ≤ 16384
+
+-- what a yes at question 3 says of the offsets of m rows with t entries
+pub record Offsets (m : ℕ) (off : List ℕ) (t : ℕ) : Type 0 where
+  pub count : length off ≡ m + 1
+  pub first : getD off 0 0 ≡ 0
+  pub rises : (i : ℕ) → i < m → getD off i 0 ≤ getD off (i + 1) 0
+  pub last : getD off m 0 ≡ t
+  pub few : t ≤ 16384
+
+-- questions 1 to 5 got a yes
+pub record Accepted (off cols : List ℕ) (m n : ℕ) : Type 0 where
+  pub csr : Csr off cols m
+  pub first : getD off 0 0 ≡ 0
+  pub last : getD off m 0 ≡ length cols
+  pub wide : n ≤ 1024
+  pub within : (i : ℕ) → i < m → Below n (row off cols i)
+  pub rows : 1 ≤ m
+  pub columns : 1 ≤ n
+  pub filled : (i : ℕ) → i < m → getD off i 0 < getD off (i + 1) 0

@@ -1,12 +1,11 @@
 -- The columns of the rows as lists are the factor's. Assumes nothing.
-use mathlib.Core.Path.{_≡_, refl, sym, ap, ap₂, _∙_, subst}
-use mathlib.Core.Bool.{Bool, true, false, _&&_, _||_}
+use mathlib.Core.Path.{_≡_, refl, sym, ap, ap₂, _∙_}
+use mathlib.Core.Bool.{Bool, true, false, _&&_}
 use mathlib.Core.List.{List, [], _∷_, _++_}
-use Prim.Native.Nat.{ℕ, zero, suc, _+_, _-_, _*_, _<_, _≤_}
+use Prim.Native.Nat.{ℕ, zero, suc, _+_, _-_, _<_, _≤_}
 use native.Mathlib.Omega.{arith}
-use native.Mathlib.Decide.{ℕ-discrete, decLt}
+use native.Mathlib.Decide.{decLt}
 use native.Mathlib.Numerals.{add-one}
-use lib.Dec.{eqb, leb}
 use borrow.Author.Tests.{lt-leb}
 use lib.ListN.{length, getD, length-append}
 use Rattle.csr.specs.Pattern.{has, row}
@@ -14,17 +13,17 @@ use Rattle.csr.specs.Counts.{sum, one, isStored}
 use Rattle.pattern.specs.Word.{bit}
 use Rattle.pattern.proofs.Digits.{sum-ext}
 use Rattle.lists.specs.Cat.{cat, pick}
-use Rattle.lists.specs.Lists.{Shape, shape, find, place, lplace, before, holds, placed, entry, inColumn, column, columns, columnEnds, endsOf, columnsOf, sideOf}
+use Rattle.lists.specs.Lists.{shape, find, place, lplace, before, holds, entry, inColumn, column, columns, columnEnds, endsOf, columnsOf, sideOf}
 use Rattle.lists.specs.Ready.{Ready}
 use Rattle.lists.specs.declared.What.{What}
 use Rattle.lists.specs.declared.What.the-variants.{Numbers, Places}
 use Rattle.lists.specs.declared.Side.the-variants.{Factor, Matrix}
 use Rattle.lists.proofs.Write.{cat-ext}
-use Rattle.lists.proofs.Counts.{bit-held, before-start, before-row, lplace-from}
+use Rattle.lists.proofs.Counts.{bit-held, before-row, lplace-from}
 use Rattle.lists.proofs.Whole.{side-is}
-use Rattle.transpose.specs.Bins.{Grid, sideIn}
+use Rattle.transpose.specs.Bins.{sideIn}
 use Rattle.ipm_common.specs.Kept.{kept, keptRows, Rows}
-use Rattle.ipm_common.proofs.Lists.{kept-has, kept-none, kept-find, kept-long, all-next, rows-up}
+use Rattle.ipm_common.proofs.Lists.{kept-has, kept-none, kept-find, kept-long}
 
 module _ (off cols : List ℕ) (m : ℕ) (p : List ℕ) (ready : Ready off cols m p) where
   -- the places of the rows' first entries

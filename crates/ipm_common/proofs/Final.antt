@@ -1,9 +1,9 @@
 -- The sixteen lists together. Assumes nothing.
-use mathlib.Core.Path.{_≡_, refl, sym, ap, ap₂, _∙_, subst}
-use mathlib.Core.List.{List, [], _∷_, _++_}
-use Prim.Native.Nat.{ℕ, _+_, _<_, _≤_}
+use mathlib.Core.Path.{_≡_, sym, ap, _∙_}
+use mathlib.Core.List.{List}
+use Prim.Native.Nat.{ℕ, _+_}
 use native.Mathlib.Omega.{arith}
-use lib.ListN.{length, getD}
+use lib.ListN.{length}
 use Rattle.pattern.specs.Word.{bit}
 use Rattle.lists.specs.Cat.{Wrote}
 use Rattle.lists.specs.Lists.{shape, tenOf, sideOf, planOf, plan-parts}

@@ -1,15 +1,14 @@
 -- Laws of the rows as lists. Assumes nothing.
 use mathlib.Core.Path.{_≡_, refl, sym, ap, ap₂, _∙_, subst}
-use mathlib.Core.Bool.{Bool, true, false, _&&_, _||_}
+use mathlib.Core.Bool.{Bool, true, false, _||_}
 use mathlib.Core.List.{List, [], _∷_, _++_, append-assoc, append-nil}
-use Prim.Native.Nat.{ℕ, zero, suc, _+_, _-_, _*_, _<_, _≤_}
+use Prim.Native.Nat.{ℕ, zero, suc, _+_, _-_, _<_, _≤_}
 use native.Mathlib.Omega.{arith}
-use native.Mathlib.Decide.{ℕ-discrete, decLt}
-use native.Mathlib.Numerals.{add-one}
+use native.Mathlib.Decide.{ℕ-discrete}
 use lib.Dec.{eqb}
 use borrow.Author.Tests.{eq-eqb, ne-eqb}
-use lib.ListN.{length, getD, set, take, drop, length-append, length-set, List·getD-append}
-use lib.Seq.{sets, sets-eq, take-append-le, take-at, drop-at, getD-append-add, getD-append-seam, take-all, getD-set-same, getD-set-other}
+use lib.ListN.{length, getD, set, take, drop, length-append}
+use lib.Seq.{sets, sets-eq, take-at, drop-at, getD-set-same, getD-set-other}
 use Rattle.csr.specs.Pattern.{has, row}
 use Rattle.csr.specs.Chain.{Below}
 use Rattle.csr.specs.Csr.{Under, Rising}
@@ -17,7 +16,7 @@ use Rattle.csr.specs.Counts.{sum, one}
 use Rattle.pattern.proofs.Digits.{sum-ext}
 use Rattle.lists.specs.Cat.{cat, pick, Wrote}
 use Rattle.lists.specs.Lists.{find, zeroIf}
-use Rattle.lists.proofs.Write.{length-cat, cat-next, cat-room, length-pick, wrote-join, wrote-as}
+use Rattle.lists.proofs.Write.{length-cat, cat-next, length-pick, wrote-join, wrote-as}
 use Rattle.transpose.specs.Bins.{Grid}
 use Rattle.ipm_common.specs.Kept.{kept, keptRows, Rows}
 

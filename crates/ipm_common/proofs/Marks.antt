@@ -1,8 +1,8 @@
 -- A walk through one row over the marks of another. Assumes nothing.
 use mathlib.Core.Path.{_≡_, refl, sym, ap, ap₂, _∙_, subst}
-use mathlib.Core.Bool.{Bool, true, false, _&&_, _||_}
+use mathlib.Core.Bool.{Bool, true, false, _||_}
 use mathlib.Core.List.{List, [], _∷_, _++_, append-assoc, append-nil, map}
-use Prim.Native.Nat.{ℕ, zero, suc, _+_, _-_, _*_, _<_, _≤_}
+use Prim.Native.Nat.{ℕ, zero, suc, _+_, _-_, _<_, _≤_}
 use native.Mathlib.Omega.{arith}
 use native.Mathlib.Decide.{ℕ-discrete, decLt}
 use native.Mathlib.Numerals.{add-one}
@@ -19,7 +19,7 @@ use Rattle.transpose.specs.Bins.{Grid}
 use Rattle.lists.specs.declared.Take.{Take}
 use Rattle.lists.proofs.Merge.{both-eq, both-lt, both-gt, both-nil, find-at}
 use Rattle.lists.proofs.Pieces.{map-join, map-pick}
-use Rattle.transpose.proofs.Fill.{below-at, has-snoc, has-at}
+use Rattle.transpose.proofs.Fill.{below-at, has-snoc}
 use Rattle.ipm_common.specs.Kept.{alongOf, Marked, hit}
 
 -- ---- along a list

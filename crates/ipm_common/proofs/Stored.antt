@@ -1,29 +1,28 @@
 -- What each list adds at a stored pair. Assumes nothing.
-use mathlib.Core.Path.{_≡_, refl, sym, ap, ap₂, _∙_, subst}
-use mathlib.Core.Bool.{Bool, true, false, _&&_, _||_}
+use mathlib.Core.Path.{_≡_, refl, sym, ap, ap₂, _∙_}
+use mathlib.Core.Bool.{Bool, true, false}
 use mathlib.Core.List.{List, [], _∷_, _++_}
-use Prim.Native.Nat.{ℕ, zero, suc, _+_, _-_, _*_, _<_, _≤_}
+use Prim.Native.Nat.{ℕ, suc, _+_, _-_, _<_, _≤_}
 use native.Mathlib.Omega.{arith}
 use native.Mathlib.Decide.{ℕ-discrete}
 use native.Mathlib.Numerals.{add-one}
 use lib.Dec.{eqb}
-use borrow.Author.Tests.{eq-eqb, ne-eqb}
-use lib.ListN.{length, getD, take, length-append, length-take, length-map}
+use borrow.Author.Tests.{ne-eqb}
+use lib.ListN.{length, getD, length-append, length-take, length-map}
 use lib.Seq.{getD-append-seam}
 use Rattle.csr.specs.Pattern.{neighbours}
 use Rattle.csr.specs.Chain.{stored-diag}
-use Rattle.csr.specs.Counts.{sum, one}
+use Rattle.csr.specs.Counts.{one}
 use Rattle.pattern.specs.Word.{bit}
 use Rattle.pattern.proofs.Digits.{sum-ext}
-use Rattle.lists.specs.Cat.{cat, pick}
-use Rattle.lists.specs.Lists.{Shape, shape, weight, lplace, before, piece, shared, sharedOf, chosen, place, walkOf}
+use Rattle.lists.specs.Cat.{pick}
+use Rattle.lists.specs.Lists.{shape, weight, lplace, before, piece, shared, sharedOf, chosen, place, walkOf}
 use Rattle.lists.specs.Ready.{Ready}
 use Rattle.lists.specs.declared.Take.{Take}
-use Rattle.lists.specs.declared.Take.the-variants.{Left, Right, Column}
-use Rattle.lists.specs.declared.Which.the-variants.{AnormIndptr, AnormIndptrI, AnormIndptrJ, AnormIndices, LdecompIndptr, LdecompIndptrI, LdecompIndptrJ, Lindptr, LdiagIndptr, Lindices}
+use Rattle.lists.specs.declared.Which.the-variants.{AnormIndptr, LdecompIndptr, LdecompIndptrI, LdecompIndptrJ, Lindptr, LdiagIndptr, Lindices}
 use Rattle.lists.proofs.Pieces as old
 use Rattle.lists.proofs.Counts.{bit-held, held-stored, lplace-from}
-use Rattle.ipm_common.specs.Kept.{kept, keptRows, Rows}
+use Rattle.ipm_common.specs.Kept.{kept, Rows}
 use Rattle.ipm_common.proofs.Lists.{kept-next, kept-long, rows-up}
 use Rattle.ipm_common.proofs.Through.{q-in, t-in, entry-is, entry-below, entry-holds, part-kept}
 use Rattle.ipm_common.proofs.Factor.{start-is}

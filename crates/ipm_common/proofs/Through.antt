@@ -1,33 +1,29 @@
 -- A loop over a row as a list is the loop over all columns. Assumes nothing.
 use mathlib.Core.Path.{_≡_, refl, sym, ap, ap₂, _∙_, subst}
-use mathlib.Core.Logic.{_⊎_, inl, inr}
+use mathlib.Core.Logic.{inl, inr}
 use mathlib.Core.Bool.{Bool, true, false, _&&_, _||_}
 use mathlib.Core.List.{List, [], _∷_, _++_, append-assoc, append-nil, map}
-use Prim.Native.Nat.{ℕ, zero, suc, _+_, _-_, _*_, _<_, _≤_}
+use Prim.Native.Nat.{ℕ, zero, suc, _+_, _-_, _<_, _≤_}
 use native.Mathlib.Omega.{arith}
-use native.Mathlib.Decide.{ℕ-discrete, decLt}
+use native.Mathlib.Decide.{decLt}
 use native.Mathlib.Numerals.{add-one}
-use lib.Dec.{eqb, leb}
-use borrow.Author.Tests.{eq-eqb, ne-eqb, le-leb}
-use lib.ListN.{length, getD, take, drop, length-append, length-take, length-drop, List·getD-append}
-use lib.Seq.{take-append-le, take-at, take-suc, take-all, getD-append-seam, getD-take, getD-drop}
+use lib.Dec.{eqb}
+use borrow.Author.Tests.{ne-eqb}
+use lib.ListN.{length, getD, take, drop, length-append, length-take, List·getD-append}
+use lib.Seq.{take-append-le, take-at, take-suc, getD-append-seam, getD-take, getD-drop}
 use Rattle.csr.specs.Pattern.{has, row, shares, stored, neighbours}
-use Rattle.csr.specs.Chain.{stored-rule, stored-diag, Meets}
-use Rattle.csr.specs.Counts.{sum, one, common}
+use Rattle.csr.specs.Chain.{stored-rule, stored-diag}
+use Rattle.csr.specs.Counts.{sum, one}
 use Rattle.pattern.specs.Word.{bit}
-use Rattle.pattern.proofs.Digits.{sum-ext}
 use Rattle.lists.specs.Cat.{cat, pick, Wrote}
-use Rattle.lists.specs.Lists.{Shape, shape, both, shared, products, weight, piece, before, place, lplace, walkOf}
-use Rattle.lists.specs.Ready.{Ready}
+use Rattle.lists.specs.Lists.{shape, both, shared, products, weight, piece, before, place, lplace, walkOf}
 use Rattle.lists.specs.declared.Which.{Which}
 use Rattle.lists.specs.declared.Which.the-variants.{AnormIndptr, AnormIndptrI, AnormIndptrJ, AnormIndices, LdecompIndptr, LdecompIndptrI, LdecompIndptrJ, Lindptr, LdiagIndptr, Lindices}
-use Rattle.lists.proofs.Write.{cat-next, cat-room, length-pick, wrote-join, wrote-as}
-use Rattle.lists.proofs.Walk.{sum-next}
 use Rattle.lists.proofs.Merge.{length-both}
-use Rattle.lists.proofs.Counts.{bit-held, held-stored}
-use Rattle.ipm_common.specs.Kept.{kept, keptRows, Rows, placesOf}
+use Rattle.lists.proofs.Counts.{held-stored}
+use Rattle.ipm_common.specs.Kept.{kept, Rows, placesOf}
 use Rattle.csr.specs.Chain.{Below}
-use Rattle.ipm_common.proofs.Lists.{kept-next, kept-long, kept-short, kept-in, rows-up, rows-fit}
+use Rattle.ipm_common.proofs.Lists.{kept-long, kept-in, rows-up, rows-fit}
 
 -- ---- over a list
 unfoldable pub over : List ℕ → (ℕ → List ℕ) → List ℕ

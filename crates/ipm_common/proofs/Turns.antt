@@ -1,11 +1,11 @@
 -- The turns of a row's loop over its stored pairs. Assumes nothing.
 use mathlib.Core.Path.{_≡_, refl, sym, ap, ap₂, _∙_, subst}
-use mathlib.Core.Bool.{Bool, true, false}
+use mathlib.Core.Bool.{Bool, false}
 use mathlib.Core.List.{List, [], _∷_, _++_}
-use Prim.Native.Nat.{ℕ, zero, suc, _+_, _-_, _*_, _<_, _≤_}
+use Prim.Native.Nat.{ℕ, suc, _+_, _-_, _*_, _<_, _≤_}
 use native.Mathlib.Omega.{arith}
 use native.Mathlib.Numerals.{add-one}
-use lib.ListN.{length, getD, take, length-append, length-take}
+use lib.ListN.{length, getD, take, length-append}
 use lib.Seq.{take-suc, take-all}
 use Rattle.csr.specs.Counts.{sum}
 use Rattle.pattern.specs.Word.{bit}
@@ -13,10 +13,9 @@ use Rattle.lists.specs.Cat.{cat, pick, pairs, Wrote}
 use Rattle.lists.specs.Lists.{Shape, shape, weight, piece, before, listOf, begins}
 use Rattle.lists.specs.Ready.{Ready}
 use Rattle.lists.specs.declared.Which.{Which}
-use Rattle.lists.proofs.Write.{cat-next, cat-room, wrote-join, wrote-as, pairs-next}
-use Rattle.lists.proofs.Walk.{sum-next}
+use Rattle.lists.proofs.Write.{cat-room, wrote-join, wrote-as, pairs-next}
 use Rattle.lists.proofs.Counts.{bit-held, before-next, before-row}
-use Rattle.ipm_common.specs.Kept.{kept, keptRows, Rows}
+use Rattle.ipm_common.specs.Kept.{kept, Rows}
 use Rattle.ipm_common.proofs.Lists.{rows-up, kept-short}
 use Rattle.ipm_common.proofs.Through.{over, total, over-snoc, total-snoc, over-kept, total-kept, q-in, entry-is, entry-below, part-kept, silent, weightless}
 

@@ -10,8 +10,11 @@ ghost use Rattle.csr.specs.Chain.{Below};
 ghost use Rattle.lists.specs.Lists.{shape, planOf, planWords, walkOf, piece, weight, before, listOf, tenOf, begins, chosen, sharedOf};
 ghost use Rattle.lists.specs.Ready.{Ready, Accepted};
 ghost use Rattle.ipm_common.specs.Kept.{kept, Rows, placesOf, alongOf, Marked, hit};
+ghost use Rattle.ipm_common.specs.Plan.{told, roomVerdict, planVerdict, left, planIndex};
 ghost use Rattle.transpose.specs.Bins.{Grid};
 ghost use Rattle.csr.specs.Pattern.{row};
+use csr::Asked;
+use csr::Refusal;
 use lists::Take;
 use lists::Which;
 
@@ -424,4 +427,49 @@ pub fn write_plan(off: &[u32], cols: &[u32], m: usize, n: usize, index: &mut [u3
     let mut li = [0u32; 32896];
     list_rows(&p, m, &mut lp, &mut li);
     put_plan(off, cols, m, n, &p, &lp, &li, index)
+}
+
+// W, from E, S and D.
+fn words(m: usize, n: usize, offsets: &[u32], columns: &[u32]) -> usize
+    requires { ⌜ Accepted (now offsets) (now columns) m n ⌝ }
+    ensures { λ r. ⌜ r ≡ sizeW (now (offsets .entry)) (now (columns .entry)) m n ⌝ }
+{
+    let t = pattern::sizes(offsets, columns, m);
+    5 * (t.e as usize) + 3 * t.s + 2 * (t.d as usize) + 3 * m + n + 2 * columns.len() + 5
+}
+
+// The answer of plan: its words, or the first no.
+pub enum PlanAnswer {
+    Planned(usize),
+    Refused(Refusal),
+}
+
+// Question 6, and the plan of a matrix that is accepted.
+fn plan_accepted(
+    m: usize,
+    n: usize,
+    offsets: &[u32],
+    columns: &[u32],
+    index: &mut [u32],
+) -> PlanAnswer
+    requires { ⌜ Accepted (now offsets) (now columns) m n ⌝ }
+    ensures { λ r. ⌜ (told r ≡ roomVerdict m n (now (offsets .entry)) (now (columns .entry)) (length (now (index .entry)))) × (now (index .exit) ≡ left (told r) (planWords (now (offsets .entry)) (now (columns .entry)) m n ++ drop (sizeW (now (offsets .entry)) (now (columns .entry)) m n) (now (index .entry))) (now (index .entry))) ⌝ }
+{
+    let w = words(m, n, offsets, columns);
+    if index.len() < w {
+        return PlanAnswer::Refused(Refusal::new(Refusal::INDEX_MEMORY, 0, 0));
+    }
+    write_plan(offsets, columns, m, n, index);
+    PlanAnswer::Planned(w)
+}
+
+// Questions 1 to 6, and after six yeses the plan.
+pub fn plan(m: usize, n: usize, offsets: &[u32], columns: &[u32], index: &mut [u32]) -> PlanAnswer
+    ensures answer { λ r. ⌜ told r ≡ planVerdict m n (now (offsets .entry)) (now (columns .entry)) (length (now (index .entry))) ⌝ }
+    ensures words { λ r. ⌜ now (index .exit) ≡ planIndex m n (now (offsets .entry)) (now (columns .entry)) (now (index .entry)) ⌝ }
+{
+    match csr::ask(m, n, offsets, columns, columns.len()) {
+        Asked::Good => plan_accepted(m, n, offsets, columns, index),
+        Asked::Refused(r) => PlanAnswer::Refused(r),
+    }
 }

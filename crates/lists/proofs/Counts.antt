@@ -1,22 +1,19 @@
 -- Laws of what the pattern holds and of its counts. Assumes nothing.
-use mathlib.Core.Path.{_≡_, refl, sym, ap, ap₂, _∙_, subst}
-use mathlib.Core.Bool.{Bool, true, false, _&&_, _||_}
-use mathlib.Core.List.{List, [], _∷_, _++_, map}
-use Prim.Native.Nat.{ℕ, zero, suc, _+_, _-_, _*_, _<_, _≤_}
+use mathlib.Core.Path.{_≡_, refl, sym, ap, ap₂, _∙_}
+use mathlib.Core.Bool.{Bool, _&&_}
+use mathlib.Core.List.{List}
+use Prim.Native.Nat.{ℕ, suc, _+_, _-_, _<_, _≤_}
 use native.Mathlib.Omega.{arith}
 use native.Mathlib.Numerals.{add-one}
-use lib.Dec.{leb, eqb}
-use lib.ListN.{length, getD}
-use borrow.Author.Tests.{le-leb, lt-leb}
-use Rattle.csr.specs.Pattern.{stored, neighbours, row}
-use Rattle.csr.specs.Counts.{sum, one, common, isStored, countE, countS, countD}
-use Rattle.pattern.specs.Word.{bit, Done, rowOnes}
+use borrow.Author.Tests.{le-leb}
+use Rattle.csr.specs.Pattern.{stored, neighbours}
+use Rattle.csr.specs.Counts.{sum, one, isStored}
+use Rattle.pattern.specs.Word.{bit}
 use Rattle.pattern.proofs.Digits.{sum-ext}
-use Rattle.pattern.proofs.Whole.{row-count, both-count}
-use Rattle.lists.specs.Cat.{cat, pick, pairs}
+use Rattle.pattern.proofs.Whole.{both-count}
 use Rattle.lists.specs.Lists.{Shape, shape, weight, lplace, before}
 use Rattle.lists.specs.Ready.{Ready}
-use Rattle.lists.specs.declared.Which.the-variants.{AnormIndptr, LdecompIndptr}
+use Rattle.lists.specs.declared.Which.the-variants.{LdecompIndptr}
 
 -- what is held at and below the diagonal
 pub held-stored : (off cols : List ℕ) (i j : ℕ) → j ≤ i → (shape off cols) .held i j ≡ stored (neighbours off cols) i j
@@ -38,12 +35,6 @@ module _ (off cols : List ℕ) (m : ℕ) (p : List ℕ) (ready : Ready off cols 
       (sum-ext j (λ k. one (stored (neighbours off cols) i k && stored (neighbours off cols) j k)) (λ k. one ((shape off cols) .held i k && (shape off cols) .held j k))
       (λ k n. sym (ap₂ (λ (s t : Bool). one (s && t)) (held-stored off cols i k (omega arith)) (held-stored off cols j k (omega arith)))))
       (ap one (sym (bit-held i j h (omega (arith, ready .csr .few)) ∙ held-stored off cols i j l)))
-
-  -- the ones of row i: what E counts there
-  pub row-held : (i : ℕ) → i < m → rowOnes p i ≡ sum (suc i) (λ j. one ((shape off cols) .held i j))
-  row-held i h =
-      row-count (neighbours off cols) p i (omega (arith, ready .csr .few)) (ready .rows i h)
-      ∙ sum-ext (suc i) (λ j. one (stored (neighbours off cols) i j)) (λ j. one ((shape off cols) .held i j)) (λ j n. sym (ap one (held-stored off cols i j (omega arith))))
 
 -- ---- what is counted before a pair
 pub before-start : (w : ℕ → ℕ → ℕ) → before w 0 0 ≡ 0

@@ -1,24 +1,19 @@
 -- What each kind of list adds at a pair is what the code writes there. Assumes nothing.
-use mathlib.Core.Path.{_≡_, refl, sym, ap, ap₂, _∙_, subst}
-use mathlib.Core.Bool.{Bool, true, false, _&&_, _||_}
+use mathlib.Core.Path.{_≡_, refl, sym, ap, ap₂, _∙_}
+use mathlib.Core.Bool.{Bool, true, false, _&&_}
 use mathlib.Core.List.{List, [], _∷_, _++_, map}
-use Prim.Native.Nat.{ℕ, zero, suc, _+_, _-_, _*_, _<_, _≤_}
+use Prim.Native.Nat.{ℕ, zero, suc, _+_, _-_, _<_, _≤_}
 use native.Mathlib.Omega.{arith}
-use native.Mathlib.Numerals.{add-one}
-use lib.Dec.{leb, eqb}
-use lib.ListN.{length, getD}
-use Rattle.csr.specs.Pattern.{stored, neighbours}
-use Rattle.csr.specs.Chain.{stored-diag}
 use Rattle.csr.specs.Counts.{sum, one}
-use Rattle.pattern.specs.Word.{bit, rowOnes}
+use Rattle.pattern.specs.Word.{bit}
 use Rattle.pattern.proofs.Digits.{sum-ext}
 use Rattle.lists.specs.Cat.{cat, pick}
-use Rattle.lists.specs.Lists.{Shape, shape, weight, lplace, before, piece, shared, sharedOf, products, place, chosen, walkOf}
+use Rattle.lists.specs.Lists.{shape, weight, lplace, before, piece, shared, sharedOf, products, walkOf}
 use Rattle.lists.specs.Ready.{Ready}
-use Rattle.lists.specs.declared.Which.the-variants.{AnormIndptr, AnormIndptrI, AnormIndptrJ, AnormIndices, LdecompIndptr, LdecompIndptrI, LdecompIndptrJ, Lindptr, LdiagIndptr, Lindices}
+use Rattle.lists.specs.declared.Which.the-variants.{AnormIndptr, AnormIndptrI, AnormIndptrJ, AnormIndices, LdecompIndptr, LdecompIndptrI, LdecompIndptrJ}
 use Rattle.lists.specs.declared.Take.the-variants.{Left, Right, Column}
 use Rattle.lists.proofs.Write.{cat-ext}
-use Rattle.lists.proofs.Counts.{bit-held, held-stored, row-held, before-row, lplace-from}
+use Rattle.lists.proofs.Counts.{bit-held, lplace-from}
 
 pub map-join : (h : ℕ → ℕ) (xs ys : List ℕ) → map h (xs ++ ys) ≡ map h xs ++ map h ys
 map-join h [] ys = refl
@@ -98,35 +93,3 @@ module _ (off cols : List ℕ) (m : ℕ) (p : List ℕ) (ready : Ready off cols 
     of-LdecompIndptrJ f g =
         walk-map (λ k. (shape off cols) .held i k && (shape off cols) .held j k) j i j f (omega arith) hi (omega (arith, small)) g
         (λ k l. both-bits k l ∙ and-comm (bit p i k) (bit p j k))
-
-    -- the place after row i
-    pub after-row : (e : ℕ) → e ≡ lplace (shape off cols) i 0 → lplace (shape off cols) (suc i) 0 ≡ e + rowOnes p i
-    unfolding lplace
-    after-row e g =
-        ap (λ (k : ℕ). lplace (shape off cols) k 0) (sym (add-one i))
-        ∙ row-next
-        ∙ lplace-from (shape off cols) i (i + 1)
-        ∙ ap₂ _+_ (sym g) (ap (λ (k : ℕ). sum k (λ b. one ((shape off cols) .held i b))) (add-one i) ∙ sym (row-held off cols m p ready i hi))
-      where
-        row-next : lplace (shape off cols) (i + 1) 0 ≡ lplace (shape off cols) i (i + 1)
-        row-next = before-row (λ a b. one ((shape off cols) .held a b)) i
-
-    pub of-Lindptr : (e x : ℕ) → e ≡ lplace (shape off cols) i 0 → x ≡ rowOnes p i → piece (shape off cols) Lindptr i j ≡ pick (eqb j i) (e + x)
-    unfolding piece
-    of-Lindptr e x g q = ap (pick (eqb j i)) (after-row e g ∙ ap (λ (k : ℕ). e + k) (sym q))
-
-    -- the diagonal is the last of its row
-    diag-last : rowOnes p i ≡ sum i (λ b. one ((shape off cols) .held i b)) + 1
-    unfolding sum
-    diag-last = row-held off cols m p ready i hi ∙ ap (λ (t : Bool). sum i (λ b. one ((shape off cols) .held i b)) + one t) (held-stored off cols i i (omega arith) ∙ stored-diag (neighbours off cols) i i refl)
-
-    pub row-some : (x : ℕ) → x ≡ rowOnes p i → 1 ≤ x
-    row-some x e = omega (arith, diag-last)
-
-    pub of-LdiagIndptr : (e x : ℕ) → e ≡ lplace (shape off cols) i 0 → x ≡ rowOnes p i → piece (shape off cols) LdiagIndptr i j ≡ pick (eqb j i) (e + x - 1)
-    unfolding piece
-    of-LdiagIndptr e x g q = ap (pick (eqb j i)) (omega (arith, lplace-from (shape off cols) i i, diag-last))
-
-    pub of-Lindices : (t : Bool) → t ≡ bit p i j → piece (shape off cols) Lindices i j ≡ pick t j
-    unfolding piece
-    of-Lindices t e = ap (λ (s : Bool). pick s j) (held-is t e)

@@ -1,23 +1,23 @@
 -- How long the sixteen lists are: W words in all. Assumes nothing.
-use mathlib.Core.Path.{_≡_, refl, sym, ap, ap₂, _∙_, subst}
+use mathlib.Core.Path.{_≡_, refl, sym, ap, ap₂, _∙_}
 use mathlib.Core.Bool.{Bool, true, false, _&&_, _||_}
-use mathlib.Core.List.{List, [], _∷_, _++_, map}
+use mathlib.Core.List.{List, [], _∷_, map}
 use Prim.Native.Nat.{ℕ, zero, suc, _+_, _-_, _*_, _<_, _≤_}
 use native.Mathlib.Omega.{arith}
 use native.Mathlib.Numerals.{add-one}
 use native.Mathlib.Decide.{ℕ-discrete}
 use lib.Dec.{eqb, leb}
-use lib.ListN.{length, getD, length-append, length-map}
+use lib.ListN.{length, getD, length-map}
 use borrow.Author.Tests.{eq-eqb, ne-eqb, lt-leb}
 use Rattle.csr.specs.Pattern.{has, row}
 use Rattle.csr.specs.Chain.{Below}
-use Rattle.csr.specs.Csr.{Csr, Under, Rising}
+use Rattle.csr.specs.Csr.{Under, Rising}
 use Rattle.csr.specs.Counts.{sum, one, common, isStored, countE, countS, countD, sizeW}
 use Rattle.pattern.proofs.Digits.{sum-ext, sum-add}
 use Rattle.pattern.proofs.Seed.{row-is}
 use Rattle.lists.specs.Cat.{cat, pick, pairs}
 use Rattle.lists.specs.Ready.{Accepted}
-use Rattle.lists.specs.Lists.{Shape, shape, weight, lplace, place, before, piece, listOf, begins, shared, products, holds, entry, inColumn, column, columnEnds, columns, endsOf, columnsOf, sideOf, tenOf, planOf, field, plan-parts}
+use Rattle.lists.specs.Lists.{shape, weight, lplace, place, before, piece, listOf, shared, products, holds, entry, inColumn, column, columnEnds, columns, endsOf, columnsOf, sideOf, tenOf, planOf, field, plan-parts}
 use Rattle.lists.specs.declared.Which.{Which}
 use Rattle.lists.specs.declared.Which.the-variants.{AnormIndptr, AnormIndptrI, AnormIndptrJ, AnormIndices, LdecompIndptr, LdecompIndptrI, LdecompIndptrJ, Lindptr, LdiagIndptr, Lindices}
 use Rattle.lists.specs.declared.Side.{Side}
@@ -26,7 +26,7 @@ use Rattle.lists.specs.declared.What.{What}
 use Rattle.lists.specs.declared.What.the-variants.{Numbers, Places}
 use Rattle.lists.proofs.Write.{length-cat, length-pick}
 use Rattle.lists.proofs.Merge.{length-both}
-use Rattle.lists.proofs.Spans.{Span, span}
+use Rattle.lists.proofs.Spans.{span}
 use Rattle.lists.proofs.Whole.{three-length, side-is}
 
 -- ---- sums

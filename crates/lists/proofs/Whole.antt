@@ -1,15 +1,13 @@
 -- Laws of the sixteen lists together. Assumes nothing.
-use mathlib.Core.Path.{_≡_, refl, sym, ap, ap₂, _∙_, subst}
-use mathlib.Core.List.{List, [], _∷_, _++_}
-use Prim.Native.Nat.{ℕ, zero, suc, _+_, _*_, _<_, _≤_}
+use mathlib.Core.Path.{_≡_, refl, sym, ap, _∙_}
+use mathlib.Core.List.{List, _++_}
+use Prim.Native.Nat.{ℕ, zero, suc, _+_, _<_, _≤_}
 use native.Mathlib.Omega.{arith}
-use native.Mathlib.Numerals.{add-one}
-use lib.ListN.{length, length-append, take, drop}
-use lib.Seq.{sets, sets-eq}
-use Rattle.lists.specs.Cat.{cat, Wrote}
-use Rattle.lists.specs.Lists.{Shape, shape, listOf, field, sideOf, tenOf, planOf, endsOf, columnsOf, plan-parts}
+use lib.ListN.{length, length-append, drop}
+use lib.Seq.{sets-eq}
+use Rattle.lists.specs.Cat.{Wrote}
+use Rattle.lists.specs.Lists.{Shape, listOf, field, sideOf, tenOf, endsOf, columnsOf}
 use Rattle.lists.specs.declared.Side.{Side}
-use Rattle.lists.specs.declared.Side.the-variants.{Factor, Matrix}
 use Rattle.lists.specs.declared.What.the-variants.{Numbers, Places}
 use Rattle.lists.specs.declared.Which.{Which}
 use Rattle.lists.specs.declared.Which.the-variants.{Lindices}

@@ -1,14 +1,16 @@
 -- Laws of lists joined and written. Assumes nothing.
 use mathlib.Core.Path.{_≡_, refl, sym, ap, ap₂, _∙_, subst}
 use mathlib.Core.Bool.{Bool, true, false}
-use mathlib.Core.List.{List, [], _∷_, _++_, append-assoc, append-nil, map}
+use mathlib.Core.List.{List, [], _∷_, _++_, append-assoc, append-nil}
 use Prim.Native.Nat.{ℕ, zero, suc, _+_, _≤_, _<_}
 use native.Mathlib.Omega.{arith}
 use native.Mathlib.Numerals.{add-one}
 use native.Mathlib.Decide.{ℕ-discrete}
-use lib.ListN.{length, length-append, set, length-set}
+use lib.ListN.{length, length-append, set}
 use lib.Seq.{sets, length-sets}
 use Rattle.csr.specs.Counts.{sum, one}
+use Rattle.lists.specs.Lists.{Shape, piece, listOf, begins}
+use Rattle.lists.specs.declared.Which.{Which}
 use Rattle.lists.specs.Cat.{cat, pick, pairs, Wrote}
 
 -- ---- a list written in two parts
@@ -87,3 +89,8 @@ pairs-room m i j f h l = omega (arith, cat-room m i (λ a. cat (suc a) (λ b. f 
 -- what holds of the values of an arm holds of the joined values
 pub joined : (P : List ℕ → ℕ → ℕ → Type 0) {x y : List ℕ} {s t : ℕ} {n k : ℕ} → x ≡ y → s ≡ t → n ≡ k → P y t k → P x s n
 joined P {x} {y} {s} {t} {n} {k} e f g h = subst (λ (z : List ℕ). P z s n) (sym e) (subst (λ (z : ℕ). P y z n) (sym f) (subst (λ (z : ℕ). P y t z) (sym g) h))
+
+-- the 0 in front has room where the list has
+pub head-room : (g : Shape) (w : Which) (m start l : ℕ) → start + length (listOf g w m) ≤ l → start + length (pick (begins w) 0) ≤ l
+unfolding listOf
+head-room g w m start l h = omega (arith, length-append (pick (begins w) 0) (pairs m (piece g w)))

@@ -1,19 +1,18 @@
 -- Laws of a word's digits, and of sums. Assumes nothing.
 use mathlib.Core.Path.{_≡_, refl, sym, ap, ap₂, _∙_, subst}
-use mathlib.Core.Logic.{_⊎_, inl, inr, ⊎-elim, _↔_}
-use mathlib.Core.Bool.{Bool, true, false, _&&_, _||_, not, true≢false, false≢true}
-use mathlib.Core.List.{List, [], _∷_}
-use Prim.Native.Nat.{ℕ, zero, suc, _+_, _-_, _*_, _/_, _%_, _^_, _<_, _≤_, min, max}
+use mathlib.Core.Logic.{_⊎_, inl, inr}
+use mathlib.Core.Bool.{true, false, _&&_, _||_}
+use Prim.Native.Nat.{ℕ, zero, suc, _+_, _-_, _*_, _/_, _%_, _^_, _<_, min, max}
 use native.Mathlib.Omega.{arith}
 use native.Mathlib.Decide.{ℕ-discrete, decLt}
 use native.Mathlib.Numerals.{add-one}
-use native.Mathlib.Nat.{mod-lt, div-eq-of-lt, zero-lt-suc, div-add-mod', mod-eq-of-lt, mul-assoc, one-mul, div-one, add-zero, add-suc}
+use native.Mathlib.Nat.{mod-lt, div-eq-of-lt, zero-lt-suc, mul-assoc, one-mul, div-one, add-zero, add-suc}
 use lib.Dec.{eqb, lit<}
-use lib.Bits.{bitAnd, bitOr, and-shr, or-shr, and-step, or-step, shifted-even, and-le-l, and-le-r, or-add-and}
+use lib.Bits.{bitAnd, bitOr, and-shr, or-shr, and-step, or-step, shifted-even}
 use lib.Pow.{pow-pos, pow-add, shl-shr, shl-exact, shr-shr, shr-lt, pow-lt}
 use lib.Arith.{digits-mod, lt-one}
 use lib.Count.{ones, ones-step}
-use borrow.Author.Tests.{ne-eqb, eq-eqb, eqb-true, eqb-false}
+use borrow.Author.Tests.{ne-eqb, eq-eqb}
 use Rattle.csr.specs.Counts.{sum, one}
 use Rattle.pattern.specs.Word.{digit}
 

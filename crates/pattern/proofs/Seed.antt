@@ -1,9 +1,9 @@
 -- Laws of the rows of the matrix and of a row seeded. Assumes nothing.
-use mathlib.Core.Path.{_≡_, refl, sym, ap, ap₂, _∙_, subst}
+use mathlib.Core.Path.{_≡_, refl, sym, ap, ap₂, _∙_}
 use mathlib.Core.Logic.{_≢_}
 use mathlib.Core.Bool.{Bool, true, false, _&&_, _||_}
 use mathlib.Core.List.{List, [], _∷_}
-use Prim.Native.Nat.{ℕ, zero, suc, _+_, _-_, _<_, _≤_}
+use Prim.Native.Nat.{ℕ, _+_, _-_, _<_, _≤_}
 use native.Mathlib.Omega.{arith}
 use native.Mathlib.Decide.{ℕ-discrete, decLt}
 use lib.Dec.{eqb, ltb}
@@ -11,7 +11,7 @@ use lib.ListN.{length, getD, take, drop, length-take, length-drop}
 use borrow.Author.Tests.{ne-eqb, eq-eqb, lt-ltb, le-ltb}
 use Rattle.csr.specs.Pattern.{has, shares, row, neighbours}
 use Rattle.csr.specs.Counts.{one, common}
-use Rattle.pattern.specs.Word.{bit, Put, Seeded, OtherRows}
+use Rattle.pattern.specs.Word.{bit, Put, Seeded}
 use Rattle.pattern.specs.Word.{Clear}
 
 -- the part that the code lends is the row

@@ -1,22 +1,20 @@
 -- Laws of the whole pattern and of its counts. Assumes nothing.
 use mathlib.Core.Path.{_≡_, refl, sym, ap, ap₂, _∙_, subst}
-use mathlib.Core.Bool.{Bool, true, false, _&&_, _||_}
-use mathlib.Core.List.{List, [], _∷_}
+use mathlib.Core.Bool.{Bool, true, false, _&&_}
+use mathlib.Core.List.{List}
 use Prim.Native.Nat.{ℕ, zero, suc, _+_, _-_, _*_, _/_, _%_, _<_, _≤_}
 use native.Mathlib.Omega.{arith}
 use native.Mathlib.Decide.{ℕ-discrete}
 use native.Mathlib.Nat.{add-zero}
 use native.Mathlib.Numerals.{add-one}
 use lib.ListN.{getD, replicate}
-use lib.Dec.{leb}
 use borrow.Author.Tests.{le-leb, lt-leb}
 use Rattle.csr.specs.Pattern.{stored, neighbours, row}
 use Rattle.csr.specs.Chain.{stored-diag}
-use Rattle.csr.specs.Counts.{sum, one, common, isStored, countE, countS, countD}
-use Rattle.pattern.specs.Word.{bit, digit, Done, Seeded, OtherRows, rowOnes}
+use Rattle.csr.specs.Counts.{sum, one, common, isStored, countE, countD}
+use Rattle.pattern.specs.Word.{bit, digit, Done, OtherRows, rowOnes}
 use Rattle.pattern.specs.Word.{Clear}
 use Rattle.pattern.proofs.Digits.{sum-ext, sum-add, digit-zero}
-use Rattle.pattern.proofs.Rows.{done-other}
 
 -- ---- one more row
 

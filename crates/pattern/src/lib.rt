@@ -172,7 +172,7 @@ pub struct Tally {
 // E, S and D.
 pub fn sizes(off: &[u32], cols: &[u32], m: usize) -> Tally
     requires { ⌜ Csr (now off) (now cols) m ⌝ }
-    ensures { λ r. ⌜ (r .e ≡ countE (now (off .entry)) (now (cols .entry)) m) × (r .s ≡ countS (now (off .entry)) (now (cols .entry)) m) × (r .d ≡ countD (now (off .entry)) (now (cols .entry)) m) ⌝ }
+    ensures { λ r. ⌜ (r .e ≡ countE (now (off .entry)) (now (cols .entry)) m) × (r .s ≡ countS (now (off .entry)) (now (cols .entry)) m) × (r .d ≡ countD (now (off .entry)) (now (cols .entry)) m) × (r .s ≤ 1073741824) ⌝ }
 {
     let mut p = [0u64; 1024];
     pattern(off, cols, m, &mut p);

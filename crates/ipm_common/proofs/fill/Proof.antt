@@ -1,32 +1,18 @@
-use Prim.Native.Nat.{ℕ, suc, _≤_, _<_, _+_, _*_, _-_}
-use mathlib.Core.Path.{_≡_, refl, sym, ap, ap₂, _∙_, subst}
-use mathlib.Core.List.{List, [], _∷_, _++_}
-use lib.ListN.{length-append}
-use Rattle.transpose.proofs.Fill.{below-at}
+-- `ipm_common::fill` meets its contract. Assumes nothing.
+use Prim.Native.Nat.{ℕ, _≤_, _<_, _+_, _*_, _-_}
+use mathlib.Core.Path.{_≡_, refl, sym, ap, _∙_}
 use native.Mathlib.Omega.{arith}
-use lib.ListN.{length, getD, set, length-set}
-use Rattle.pattern.specs.Word.{bit}
-use Rattle.lists.specs.Cat.{Wrote, cat, pick}
-use Rattle.ipm_common.specs.Kept.{kept, keptRows, Rows, placesOf}
-use Rattle.ipm_common.proofs.Lists as law
-use Rattle.ipm_common.proofs.Through as thru
-use Rattle.lists.proofs.Write.{wrote-join, wrote-as, wrote-length}
-use mathlib.Core.Bool.{Bool, true, false}
-use lib.ListN.{take, drop}
-use lib.Seq.{take-all}
+use lib.ListN.{length, getD}
+use Rattle.lists.specs.Cat.{Wrote, pick}
+use Rattle.ipm_common.specs.Kept.{kept}
+use mathlib.Core.Bool.{Bool}
 use Rattle.ipm_common.proofs.Turns as turns
-use Rattle.lists.proofs.Pairs.{head-room}
+use Rattle.lists.proofs.Write.{head-room}
 use Rattle.lists.proofs.Counts.{before-start}
 use Rattle.lists.specs.Cat.{pairs}
-use Rattle.lists.specs.Lists.{weight, shape, piece, before, listOf, begins}
+use Rattle.lists.specs.Lists.{weight, shape, piece, before}
 use Rattle.ipm_common.proofs.fill.Statement.{statement}
 use Rattle.ipm_common.proofs.fill.Tie as tie
-use Rattle.ipm_common.proofs.fill.Reads as reads
-use Rattle.ipm_common.proofs.fill.Lts as lts
-use Rattle.ipm_common.proofs.fill_row.Reads as fill-row-reads
-use Rattle.ipm_common.proofs.mark_row.Reads as mark-row-reads
-use Rattle.lists.proofs.has_head.Reads as has-head-reads
-use Rattle.lists.proofs.keep.Reads as keep-reads
 
 abbrev Inv-loop : tie.InvT-loop
 Inv-loop which off cols m p lp li wide mark₀ index₀ start at₀ n₀ i₀ mark index at n i =
@@ -35,32 +21,27 @@ Inv-loop which off cols m p lp li wide mark₀ index₀ start at₀ n₀ i₀ ma
 abbrev μ-loop : tie.MeasureT-loop
 μ-loop which off cols m p lp li wide mark₀ index₀ start at₀ n₀ i₀ mark index at n i = m - i
 
--- src/lib.rt:293:43
 has-head-requires : tie.Need-has-head-requires Inv-loop μ-loop
 has-head-requires c κs = tt
 
--- src/lib.rt:293:9
 keep-requires : tie.Need-keep-requires Inv-loop μ-loop
 keep-requires c κs =
     let s = c .before .before .before .before .before .before .before .before .before in
     let a = s .args in
     omega (arith, head-room (shape (a .off .now) (a .cols .now)) (a .which) (a .m) (a .start) (length (a .index .now)) (s .pre .2), ap (λ (t : Bool). length (pick t 0)) (c .has-head .ensures))
 
--- src/lib.rt:296:5
 loop-holds : tie.Need-loop-holds Inv-loop μ-loop
 loop-holds c =
     let s = c .before .before .before .before .before .before .before .before .before .before .before .before in
     let a = s .args in
     (omega arith, refl, sym (before-start (weight (shape (a .off .now) (a .cols .now)) (a .which))), omega arith, turns.rows-start (shape (a .off .now) (a .cols .now)) (a .which) (c .before .before .keep .last .0) (c .before .before .keep .result), refl, s .pre .5)
 
--- src/lib.rt:297:9
 mark-row-requires : tie.Need-mark-row-requires Inv-loop μ-loop
 mark-row-requires c κs =
     let s = c .before .before .before .before .before .before .before .before .before .before .before .before .before .before .before in
     let l = c .before .before .loop in
     (s .pre .3, c .before .loop-test .taken, omega (arith, s .pre .4, l .inv .5), l .inv .6)
 
--- src/lib.rt:298:13
 fill-row-requires : tie.Need-fill-row-requires Inv-loop μ-loop
 fill-row-requires c κs =
     let s = c .before .before .before .before .before .before .before .before .before .before .before .before .before .before .before .before .before .before .before .before in
@@ -80,15 +61,12 @@ fill-row-requires c κs =
       r .ensures .0,
     )
 
--- src/lib.rt:301:9
 add-i : tie.Need-add-i Inv-loop μ-loop
 add-i c = omega (arith, c .before .before .before .before .before .before .before .before .before .before .before .before .before .before .before .before .before .before .before .before .before .before .before .pre .1 .few, c .before .before .before .before .before .before .before .before .before .loop-test .taken)
 
--- src/lib.rt:296:5
 loop-less : tie.Need-loop-less Inv-loop μ-loop
 loop-less c = omega (arith, c .before .before .before .before .before .before .before .before .before .loop-test .taken)
 
--- src/lib.rt:296:5
 loop-again : tie.Need-loop-again Inv-loop μ-loop
 loop-again c =
     let s = c .before .before .before .before .before .before .before .before .before .before .before .before .before .before .before .before .before .before .before .before .before .before .before in
@@ -99,15 +77,12 @@ loop-again c =
     let q = c .before .before .fill-row in
     (omega (arith, c .before .before .before .before .before .before .before .before .before .loop-test .taken), q .kept .1 .1 .1 .1 .1 .1 .1 .1 .1 .1 .1 .0 ∙ l .inv .1, q .ensures .1, q .ensures .2, turns.rows-next (shape (a .off .now) (a .cols .now)) (a .which) (k .last .0) (l .index) (q .last .1 .1 .1 .1 .1 .1 .1 .1 .1 .1 .1 .0) (k .result) (l .at) (q .result .at) (l .i) (l .inv .4) (q .ensures .0), r .kept .1 .1 .1 .1 .1 .0 ∙ l .inv .5, r .ensures .1)
 
--- src/lib.rt:277:1
 same-length : tie.Need-same-length Inv-loop μ-loop
 same-length c = c .before .loop .inv .5
 
--- src/lib.rt:277:1
 same-length-2 : tie.Need-same-length-2 Inv-loop μ-loop
 same-length-2 c = c .before .loop .inv .1 ∙ c .before .before .before .before .keep .kept .0
 
--- src/lib.rt:277:1
 returns : tie.Need-returns Inv-loop μ-loop
 returns c =
     let s = c .before .before .before .before .before .before .before .before .before .before .before .before .before .before in

@@ -1,29 +1,17 @@
-use Prim.Native.Nat.{ℕ, suc, _≤_, _<_, _+_, _*_, _-_}
-use mathlib.Core.Path.{_≡_, refl, sym, ap, ap₂, _∙_, subst}
-use mathlib.Core.List.{List, [], _∷_, _++_}
-use lib.ListN.{length-append}
-use Rattle.transpose.proofs.Fill.{below-at}
+-- `ipm_common::fill_row` meets its contract. Assumes nothing.
+use Prim.Native.Nat.{_≤_, _<_, _+_, _-_}
+use mathlib.Core.Path.{_≡_, refl, _∙_}
 use native.Mathlib.Omega.{arith}
-use lib.ListN.{length, getD, set, length-set}
+use lib.ListN.{length, getD}
 use Rattle.pattern.specs.Word.{bit}
-use Rattle.lists.specs.Cat.{Wrote, cat, pick}
-use Rattle.ipm_common.specs.Kept.{kept, keptRows, Rows, placesOf}
+use Rattle.ipm_common.specs.Kept.{kept}
 use Rattle.ipm_common.proofs.Lists as law
 use Rattle.ipm_common.proofs.Through as thru
-use Rattle.lists.proofs.Write.{wrote-join, wrote-as, wrote-length}
-use mathlib.Core.Bool.{Bool, true, false}
-use lib.ListN.{take, drop}
-use lib.Seq.{take-all}
 use Rattle.ipm_common.proofs.Stored as st
 use Rattle.ipm_common.proofs.Turns as turns
-use Rattle.lists.specs.Lists.{weight, shape, piece, before}
+use Rattle.lists.specs.Lists.{before}
 use Rattle.ipm_common.proofs.fill_row.Statement.{statement}
 use Rattle.ipm_common.proofs.fill_row.Tie as tie
-use Rattle.ipm_common.proofs.fill_row.Reads as reads
-use Rattle.ipm_common.proofs.fill_row.Lts as lts
-use Rattle.ipm_common.proofs.put_piece.Reads as put-piece-reads
-use Rattle.ipm_common.proofs.word_at.Reads as word-at-reads
-use Rattle.lists.proofs.weigh.Reads as weigh-reads
 
 abbrev Inv-loop : tie.InvT-loop
 Inv-loop which off cols m p lp li wide mark i count index₀ start b at₀ n₀ t₀ index at n t =
@@ -32,19 +20,15 @@ Inv-loop which off cols m p lp li wide mark i count index₀ start b at₀ n₀ 
 abbrev μ-loop : tie.MeasureT-loop
 μ-loop which off cols m p lp li wide mark i count index₀ start b at₀ n₀ t₀ index at n t = b - t
 
--- src/lib.rt:165:25
 add-word-at : tie.Need-add-word-at Inv-loop μ-loop
 add-word-at c = let s = c .before .before .before .before .before .before .before in omega (arith, s .pre .2, s .pre .1 .few)
 
--- src/lib.rt:165:9
 word-at-requires : tie.Need-word-at-requires Inv-loop μ-loop
 word-at-requires c κs = let s = c .before .before .before .before .before .before .before in omega (arith, s .pre .2, s .pre .1 .offsets)
 
--- src/lib.rt:168:9
 word-at-requires-2 : tie.Need-word-at-requires-2 Inv-loop μ-loop
 word-at-requires-2 c κs = let s = c .before .before .before .before .before .before .before .before in omega (arith, s .pre .2, s .pre .1 .offsets)
 
--- src/lib.rt:169:5
 loop-holds : tie.Need-loop-holds Inv-loop μ-loop
 loop-holds c =
     let s = c .before .before .before .before .before .before .before .before .before in
@@ -56,7 +40,6 @@ loop-holds c =
       turns.turned-start (a .off .now) (a .cols .now) (a .m) (a .p .now) (s .pre .0) (a .lp .now) (a .li .now) (s .pre .1) (a .which) (a .i) (s .pre .2) (a .index .now) (a .start) (a .count) (w .result - getD (a .lp .now) (a .i) 0) (omega (arith, w .ensures)),
     )
 
--- src/lib.rt:170:13
 word-at-requires-3 : tie.Need-word-at-requires-3 Inv-loop μ-loop
 word-at-requires-3 c κs =
     let s = c .before .before .before .before .before .before .before .before .before .before .before in
@@ -64,7 +47,6 @@ word-at-requires-3 c κs =
     let l = c .before .loop in
     thru.t-in (bit (a .p .now)) (a .lp .now) (a .li .now) (a .m) (s .pre .1) (a .i) (l .t) (s .pre .2) (l .inv .0) (omega (arith, c .loop-test .taken, c .before .before .before .word-at .ensures))
 
--- src/lib.rt:171:14
 weigh-requires : tie.Need-weigh-requires Inv-loop μ-loop
 weigh-requires c κs =
     let s = c .before .before .before .before .before .before .before .before .before .before .before .before in
@@ -72,7 +54,6 @@ weigh-requires c κs =
     let l = c .before .before .loop in
     (s .pre .0, s .pre .2, st.le (a .off .now) (a .cols .now) (a .m) (a .p .now) (s .pre .0) (a .lp .now) (a .li .now) (s .pre .1) (a .i) (c .word-at3 .result) (l .t) (s .pre .2) (l .inv .0) (omega (arith, c .before .loop-test .taken, c .before .before .before .before .word-at .ensures)) (c .word-at3 .ensures))
 
--- src/lib.rt:171:9
 add-n : tie.Need-add-n Inv-loop μ-loop
 add-n c =
     let s = c .before .before .before .before .before .before .before .before .before .before .before .before .before in
@@ -81,7 +62,6 @@ add-n c =
     let few = turns.turn-few (a .off .now) (a .cols .now) (a .m) (a .p .now) (s .pre .0) (a .lp .now) (a .li .now) (s .pre .1) (a .which) (a .i) (s .pre .2) (l .t) (c .before .word-at3 .result) (l .inv .0) (omega (arith, c .before .before .loop-test .taken, c .before .before .before .before .before .word-at .ensures)) (c .before .word-at3 .ensures) (a .index .now) (l .index) (a .start) (l .at) (a .count) (l .n) (l .inv .3) (omega (arith, s .pre .2, s .pre .1 .few)) in
     omega (arith, few, l .inv .3 .small, s .pre .4, s .pre .2, s .pre .1 .few, c .weigh .ensures .1)
 
--- src/lib.rt:172:9
 put-piece-requires : tie.Need-put-piece-requires Inv-loop μ-loop
 put-piece-requires c κs =
     let s = c .before .before .before .before .before .before .before .before .before .before .before .before .before .before in
@@ -102,7 +82,6 @@ put-piece-requires c κs =
       s .pre .8,
     )
 
--- src/lib.rt:173:9
 add-t : tie.Need-add-t Inv-loop μ-loop
 add-t c =
     let s = c .before .before .before .before .before .before .before .before .before .before .before .before .before .before .before .before .before in
@@ -110,11 +89,9 @@ add-t c =
     let l = c .before .before .before .before .before .before .before .loop in
     omega (arith, c .before .before .before .before .before .before .loop-test .taken, c .before .before .before .before .before .before .before .before .before .word-at .ensures, law.rows-fit (bit (a .p .now)) (a .lp .now) (a .li .now) (a .m) (s .pre .1) (a .i + 1) (omega (arith, s .pre .2)), s .pre .1 .short)
 
--- src/lib.rt:169:5
 loop-less : tie.Need-loop-less Inv-loop μ-loop
 loop-less c = omega (arith, c .before .before .before .before .before .before .loop-test .taken)
 
--- src/lib.rt:169:5
 loop-again : tie.Need-loop-again Inv-loop μ-loop
 loop-again c =
     let s = c .before .before .before .before .before .before .before .before .before .before .before .before .before .before .before .before .before in
@@ -129,11 +106,9 @@ loop-again c =
       turns.turn-next (a .off .now) (a .cols .now) (a .m) (a .p .now) (s .pre .0) (a .lp .now) (a .li .now) (s .pre .1) (a .which) (a .i) (s .pre .2) (l .t) (j .result) (l .inv .0) up (j .ensures) (a .index .now) (l .index) (a .start) (l .at) (a .count) (l .n) (l .inv .3) (q .last .1 .1 .1 .1 .1 .1 .1 .1 .1 .1 .1 .1 .1 .0) (c .before .before .before .before .weigh .result) (q .result) (c .before .before .before .before .weigh .ensures .0) (c .before .before .before .before .weigh .ensures .1) (q .ensures),
     )
 
--- src/lib.rt:149:1
 same-length : tie.Need-same-length Inv-loop μ-loop
 same-length c = c .before .loop .inv .2
 
--- src/lib.rt:149:1
 returns : tie.Need-returns Inv-loop μ-loop
 returns c =
     let s = c .before .before .before .before .before .before .before .before .before .before .before in

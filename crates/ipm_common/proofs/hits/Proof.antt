@@ -1,33 +1,20 @@
-use Prim.Native.Nat.{ℕ, suc, _≤_, _<_, _+_, _*_, _-_}
-use mathlib.Core.Path.{_≡_, refl, sym, ap, ap₂, _∙_, subst}
-use mathlib.Core.List.{List, [], _∷_, _++_}
+-- `ipm_common::hits` meets its contract. Assumes nothing.
+use Prim.Native.Nat.{ℕ, _≤_, _<_, _+_, _-_}
+use mathlib.Core.Path.{_≡_, refl, sym, ap, _∙_}
+use mathlib.Core.List.{List}
 use lib.ListN.{length-append}
 use Rattle.transpose.proofs.Fill.{below-at}
 use native.Mathlib.Omega.{arith}
-use lib.ListN.{length, getD, set, length-set}
-use Rattle.pattern.specs.Word.{bit}
-use Rattle.lists.specs.Cat.{Wrote, cat, pick}
-use Rattle.ipm_common.specs.Kept.{kept, keptRows, Rows, placesOf}
-use Rattle.ipm_common.proofs.Lists as law
-use Rattle.ipm_common.proofs.Through as thru
-use Rattle.lists.proofs.Write.{wrote-join, wrote-as, wrote-length}
-use mathlib.Core.Bool.{Bool, true, false}
-use lib.ListN.{take, drop}
+use lib.ListN.{length, getD}
+use Rattle.lists.specs.Cat.{Wrote}
+use Rattle.ipm_common.specs.Kept.{kept}
+use Rattle.lists.proofs.Write.{wrote-join, wrote-as}
+use lib.ListN.{take}
 use lib.Seq.{take-all}
 use Rattle.ipm_common.proofs.Marks as marks
-use Rattle.ipm_common.specs.Kept.{alongOf, Marked, hit}
-use Rattle.csr.specs.Pattern.{row}
-use Rattle.transpose.specs.Bins.{Grid}
-use Rattle.transpose.proofs.Row as rowlaw
-use lib.Dec.{ltb}
-use borrow.Author.Tests.{lt-ltb, le-ltb}
-use Rattle.lists.specs.Lists.{chosen}
-use Rattle.lists.specs.declared.What.the-variants.{Numbers}
+use Rattle.ipm_common.specs.Kept.{alongOf, hit}
 use Rattle.ipm_common.proofs.hits.Statement.{statement}
 use Rattle.ipm_common.proofs.hits.Tie as tie
-use Rattle.ipm_common.proofs.hits.Reads as reads
-use Rattle.ipm_common.proofs.hits.Lts as lts
-use Rattle.ipm_common.proofs.hit_one.Reads as hit-one-reads
 
 abbrev part : ℕ → List ℕ → List ℕ
 part q b = take q b
@@ -38,29 +25,23 @@ Inv-loop take mark lo y b index₀ start at₀ q₀ index at q = (q ≤ length b
 abbrev μ-loop : tie.MeasureT-loop
 μ-loop take mark lo y b index₀ start at₀ q₀ index at q = length b - q
 
--- src/lib.rt:308:5
 loop-holds : tie.Need-loop-holds Inv-loop μ-loop
 loop-holds c =
     let a = c .before .before .before .args in
     (omega arith, refl, marks.along-start (hit (a .take) (a .mark .now) (a .lo)) (a .index .now) (a .b .now) (a .start) (a .y))
 
--- src/lib.rt:309:17
 mul-v : tie.Need-mul-v Inv-loop μ-loop
 mul-v c = let s = c .before .before .before .before .before in omega (arith, s .pre .1, c .loop-test .taken)
 
--- src/lib.rt:309:17
 shared-slice-read-v : tie.Need-shared-slice-read-v Inv-loop μ-loop
 shared-slice-read-v c = c .before .loop-test .taken
 
--- src/lib.rt:310:43
 cast-hit-one : tie.Need-cast-hit-one Inv-loop μ-loop
 cast-hit-one c = let s = c .before .before .before .before .before .before in omega (arith, s .pre .1, c .before .loop-test .taken)
 
--- src/lib.rt:310:38
 add-hit-one : tie.Need-add-hit-one Inv-loop μ-loop
 add-hit-one c = let s = c .before .before .before .before .before .before in omega (arith, s .pre .1, c .before .loop-test .taken)
 
--- src/lib.rt:310:9
 hit-one-requires : tie.Need-hit-one-requires Inv-loop μ-loop
 hit-one-requires c κs =
     let s = c .before .before .before .before .before .before .before in
@@ -71,15 +52,12 @@ hit-one-requires c κs =
       omega (arith, s .pre .2, l .inv .1, l .inv .2 .next, marks.along-room (hit (a .take) (a .mark .now) (a .lo)) (a .b .now) (a .y) (l .q + 1), ap length (marks.along-next (hit (a .take) (a .mark .now) (a .lo)) (a .b .now) (l .q) (a .y) lt), length-append (alongOf (hit (a .take) (a .mark .now) (a .lo)) (a .y) (take (l .q) (a .b .now))) (hit (a .take) (a .mark .now) (a .lo) (a .y + l .q) (getD (a .b .now) (l .q) 0))),
     )
 
--- src/lib.rt:311:9
 add-q : tie.Need-add-q Inv-loop μ-loop
 add-q c = let s = c .before .before .before .before .before .before .before .before .before .before in omega (arith, s .pre .1, c .before .before .before .before .before .loop-test .taken)
 
--- src/lib.rt:308:5
 loop-less : tie.Need-loop-less Inv-loop μ-loop
 loop-less c = omega (arith, c .before .before .before .before .before .loop-test .taken)
 
--- src/lib.rt:308:5
 loop-again : tie.Need-loop-again Inv-loop μ-loop
 loop-again c =
     let s = c .before .before .before .before .before .before .before .before .before .before in
@@ -92,11 +70,9 @@ loop-again c =
       wrote-as (a .index .now) (k .last .1 .1 .1 .1 .1 .0) (a .start) (k .result) _ _ (sym (marks.along-next (hit (a .take) (a .mark .now) (a .lo)) (a .b .now) (l .q) (a .y) lt)) (wrote-join (a .index .now) (l .index) (k .last .1 .1 .1 .1 .1 .0) (a .start) (l .at) (k .result) _ _ (l .inv .2) (k .ensures)),
     )
 
--- src/lib.rt:294:1
 same-length : tie.Need-same-length Inv-loop μ-loop
 same-length c = c .before .loop .inv .1
 
--- src/lib.rt:294:1
 returns : tie.Need-returns Inv-loop μ-loop
 returns c =
     let a = c .before .before .before .before .before .args in

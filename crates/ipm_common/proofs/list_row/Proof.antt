@@ -1,18 +1,14 @@
-use Prim.Native.Nat.{ℕ, suc, _≤_, _<_, _+_, _*_, _-_}
-use mathlib.Core.Path.{_≡_, refl, sym, ap, ap₂, _∙_, subst}
-use mathlib.Core.List.{List, [], _∷_}
+-- `ipm_common::list_row` meets its contract. Assumes nothing.
+use Prim.Native.Nat.{ℕ, _≤_, _+_, _-_}
+use mathlib.Core.Path.{_≡_, refl, _∙_, subst}
 use native.Mathlib.Omega.{arith}
-use lib.ListN.{length, getD, set, length-set}
+use lib.ListN.{length}
 use Rattle.pattern.specs.Word.{bit}
-use Rattle.lists.specs.Cat.{Wrote, cat, pick}
-use Rattle.ipm_common.specs.Kept.{kept, keptRows, Rows}
+use Rattle.lists.specs.Cat.{Wrote}
+use Rattle.ipm_common.specs.Kept.{kept}
 use Rattle.ipm_common.proofs.Lists as law
 use Rattle.ipm_common.proofs.list_row.Statement.{statement}
 use Rattle.ipm_common.proofs.list_row.Tie as tie
-use Rattle.ipm_common.proofs.list_row.Reads as reads
-use Rattle.ipm_common.proofs.list_row.Lts as lts
-use Rattle.pattern.proofs.test.Reads as test-reads
-use Rattle.lists.proofs.keep.Reads as keep-reads
 
 abbrev Inv-loop : tie.InvT-loop
 Inv-loop p i li₀ start at₀ k₀ li at k = (k ≤ i + 1) × (length li ≡ length li₀) × Wrote li₀ li start (kept (bit p i) k) at
@@ -20,21 +16,17 @@ Inv-loop p i li₀ start at₀ k₀ li at k = (k ≤ i + 1) × (length li ≡ le
 abbrev μ-loop : tie.MeasureT-loop
 μ-loop p i li₀ start at₀ k₀ li at k = i + 1 - k
 
--- src/lib.rt:19:5
 loop-holds : tie.Need-loop-holds Inv-loop μ-loop
 loop-holds c =
     let a = c .before .before .args in
     (omega arith, refl, law.row-start (bit (a .p .now) (a .i)) (a .li .now) (a .start))
 
--- src/lib.rt:20:33
 test-requires : tie.Need-test-requires Inv-loop μ-loop
 test-requires c κs = let s = c .before .before .before .before .before in (s .pre .0, s .pre .1, omega (arith, s .pre .1, c .before .loop-test .taken))
 
--- src/lib.rt:20:55
 cast-keep : tie.Need-cast-keep Inv-loop μ-loop
 cast-keep c = let s = c .before .before .before .before .before .before in omega (arith, s .pre .1, c .before .before .loop-test .taken)
 
--- src/lib.rt:20:9
 keep-requires : tie.Need-keep-requires Inv-loop μ-loop
 keep-requires c κs =
     let s = c .before .before .before .before .before .before in
@@ -42,15 +34,12 @@ keep-requires c κs =
     let l = c .before .before .before .loop in
     law.row-room (bit (a .p .now) (a .i)) (a .start) (length (l .li)) (l .at) (l .k) (a .i + 1) (l .k) (c .test .result) (l .inv .2 .next) (omega (arith, c .before .before .loop-test .taken)) (omega (arith, s .pre .2, l .inv .1))
 
--- src/lib.rt:21:9
 add-k : tie.Need-add-k Inv-loop μ-loop
 add-k c = let s = c .before .before .before .before .before .before .before .before .before in omega (arith, s .pre .1, c .before .before .before .before .before .loop-test .taken)
 
--- src/lib.rt:19:5
 loop-less : tie.Need-loop-less Inv-loop μ-loop
 loop-less c = omega (arith, c .before .before .before .before .before .loop-test .taken)
 
--- src/lib.rt:19:5
 loop-again : tie.Need-loop-again Inv-loop μ-loop
 loop-again c =
     let s = c .before .before .before .before .before .before .before .before .before in
@@ -59,11 +48,9 @@ loop-again c =
     let q = c .before .before .keep in
     (omega (arith, c .before .before .before .before .before .loop-test .taken), q .kept .0 ∙ l .inv .1, law.row-next (bit (a .p .now) (a .i)) (a .li .now) (l .li) (q .last .0) (a .start) (l .at) (q .result) (l .k) (c .before .before .before .test .result) (l .inv .2) (c .before .before .before .test .ensures) (q .ensures))
 
--- src/lib.rt:13:1
 same-length : tie.Need-same-length Inv-loop μ-loop
 same-length c = c .before .loop .inv .1
 
--- src/lib.rt:13:1
 returns : tie.Need-returns Inv-loop μ-loop
 returns c =
     let a = c .before .before .before .before .args in

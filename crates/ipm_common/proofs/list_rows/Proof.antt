@@ -1,18 +1,13 @@
-use Prim.Native.Nat.{ℕ, suc, _≤_, _<_, _+_, _*_, _-_}
-use mathlib.Core.Path.{_≡_, refl, sym, ap, ap₂, _∙_, subst}
-use mathlib.Core.List.{List, [], _∷_}
+-- `ipm_common::list_rows` meets its contract. Assumes nothing.
+use Prim.Native.Nat.{_≤_, _<_, _+_, _-_}
+use mathlib.Core.Path.{_≡_, refl, _∙_}
 use native.Mathlib.Omega.{arith}
-use lib.ListN.{length, getD, set, length-set}
+use lib.ListN.{length}
 use Rattle.pattern.specs.Word.{bit}
-use Rattle.lists.specs.Cat.{Wrote, cat, pick}
-use Rattle.ipm_common.specs.Kept.{kept, keptRows, Rows}
+use Rattle.ipm_common.specs.Kept.{kept}
 use Rattle.ipm_common.proofs.Lists as law
 use Rattle.ipm_common.proofs.list_rows.Statement.{statement}
 use Rattle.ipm_common.proofs.list_rows.Tie as tie
-use Rattle.ipm_common.proofs.list_rows.Reads as reads
-use Rattle.ipm_common.proofs.list_rows.Lts as lts
-use Rattle.ipm_common.proofs.list_row.Reads as list-row-reads
-use Rattle.ipm_common.proofs.store.Reads as store-reads
 
 abbrev Inv-loop : tie.InvT-loop
 Inv-loop p m lp₀ li₀ at₀ i₀ lp li at i = (i ≤ m) × (length lp ≡ length lp₀) × (length li ≡ length li₀) × law.Listing (bit p) li₀ li lp at i
@@ -20,18 +15,15 @@ Inv-loop p m lp₀ li₀ at₀ i₀ lp li at i = (i ≤ m) × (length lp ≡ len
 abbrev μ-loop : tie.MeasureT-loop
 μ-loop p m lp₀ li₀ at₀ i₀ lp li at i = m - i
 
--- src/lib.rt:38:5
 store-requires : tie.Need-store-requires Inv-loop μ-loop
 store-requires c κs = let s = c .before .before .before .before in omega (arith, s .pre .2)
 
--- src/lib.rt:41:5
 loop-holds : tie.Need-loop-holds Inv-loop μ-loop
 loop-holds c =
     let s = c .before .before .before .before .before .before .before in
     let a = s .args in
     (omega arith, refl, refl, law.listing-start (bit (a .p .now)) (a .li .now) (a .lp .now) (c .before .before .store .last .0) (omega (arith, s .pre .2)) (c .before .before .store .ensures))
 
--- src/lib.rt:42:9
 list-row-requires : tie.Need-list-row-requires Inv-loop μ-loop
 list-row-requires c κs =
     let s = c .before .before .before .before .before .before .before .before .before .before in
@@ -40,11 +32,9 @@ list-row-requires c κs =
     let q : l .i < a .m = c .before .loop-test .taken in
     (s .pre .0, omega (arith, s .pre .1), law.listing-room (bit (a .p .now)) (a .li .now) (l .li) (l .lp) (l .at) (l .i) (l .inv .3) (length (l .li)) (omega (arith, s .pre .1)) (omega (arith, s .pre .3, l .inv .2)))
 
--- src/lib.rt:43:9
 add-i : tie.Need-add-i Inv-loop μ-loop
 add-i c = let s = c .before .before .before .before .before .before .before .before .before .before .before .before .before in omega (arith, s .pre .1, c .before .before .before .before .loop-test .taken)
 
--- src/lib.rt:44:22
 cast-store : tie.Need-cast-store Inv-loop μ-loop
 cast-store c =
     let s = c .before .before .before .before .before .before .before .before .before .before .before .before .before .before in
@@ -53,15 +43,12 @@ cast-store c =
     let q : l .i < a .m = c .before .before .before .before .before .loop-test .taken in
     omega (arith, c .before .before .before .list-row .ensures .next, law.kept-short (bit (a .p .now) (l .i)) (l .i + 1), law.listing-small (bit (a .p .now)) (a .li .now) (l .li) (l .lp) (l .at) (l .i) (l .inv .3) (omega (arith, s .pre .1)), s .pre .1)
 
--- src/lib.rt:44:9
 store-requires-2 : tie.Need-store-requires-2 Inv-loop μ-loop
 store-requires-2 c κs = let s = c .before .before .before .before .before .before .before .before .before .before .before .before .before .before in omega (arith, s .pre .2, c .before .before .before .before .before .before .loop .inv .1, c .before .before .before .before .before .before .before .before .before .store .kept .0, c .before .before .before .before .before .loop-test .taken)
 
--- src/lib.rt:41:5
 loop-less : tie.Need-loop-less Inv-loop μ-loop
 loop-less c = omega (arith, c .before .before .before .before .before .before .before .before .loop-test .taken)
 
--- src/lib.rt:41:5
 loop-again : tie.Need-loop-again Inv-loop μ-loop
 loop-again c =
     let s = c .before .before .before .before .before .before .before .before .before .before .before .before .before .before .before .before .before in
@@ -76,15 +63,12 @@ loop-again c =
       law.listing-next (bit (a .p .now)) (a .li .now) (l .li) (l .lp) (l .at) (l .i) (l .inv .3) (q .last .1 .1 .0) (k .last .0) (q .result) (q .result) (omega (arith, s .pre .2, l .inv .1, c .before .before .before .before .before .before .before .before .before .before .before .before .store .kept .0, lt)) (q .ensures) refl (k .ensures),
     )
 
--- src/lib.rt:34:1
 same-length : tie.Need-same-length Inv-loop μ-loop
 same-length c = c .before .loop .inv .1 ∙ c .before .before .before .before .store .kept .0
 
--- src/lib.rt:34:1
 same-length-2 : tie.Need-same-length-2 Inv-loop μ-loop
 same-length-2 c = c .before .loop .inv .2
 
--- src/lib.rt:34:1
 returns : tie.Need-returns Inv-loop μ-loop
 returns c =
     let s = c .before .before .before .before .before .before .before .before .before in

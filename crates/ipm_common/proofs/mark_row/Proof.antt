@@ -1,34 +1,16 @@
-use Prim.Native.Nat.{ℕ, suc, _≤_, _<_, _+_, _*_, _-_}
-use mathlib.Core.Path.{_≡_, refl, sym, ap, ap₂, _∙_, subst}
-use mathlib.Core.List.{List, [], _∷_, _++_}
-use lib.ListN.{length-append}
-use Rattle.transpose.proofs.Fill.{below-at}
+-- `ipm_common::mark_row` meets its contract. Assumes nothing.
+use Prim.Native.Nat.{ℕ, _≤_, _<_, _+_, _-_}
+use mathlib.Core.Path.{_≡_, refl, sym, _∙_, subst}
+use mathlib.Core.List.{List}
 use native.Mathlib.Omega.{arith}
-use lib.ListN.{length, getD, set, length-set}
-use Rattle.pattern.specs.Word.{bit}
-use Rattle.lists.specs.Cat.{Wrote, cat, pick}
-use Rattle.ipm_common.specs.Kept.{kept, keptRows, Rows, placesOf}
-use Rattle.ipm_common.proofs.Lists as law
-use Rattle.ipm_common.proofs.Through as thru
-use Rattle.lists.proofs.Write.{wrote-join, wrote-as, wrote-length}
-use mathlib.Core.Bool.{Bool, true, false}
-use lib.ListN.{take, drop}
-use lib.Seq.{take-all}
+use lib.ListN.{length, getD, set}
+use Rattle.ipm_common.specs.Kept.{kept}
 use Rattle.ipm_common.proofs.Marks as marks
-use Rattle.ipm_common.specs.Kept.{alongOf, Marked, hit}
 use Rattle.csr.specs.Pattern.{row}
-use Rattle.transpose.specs.Bins.{Grid}
 use Rattle.transpose.proofs.Row as rowlaw
-use lib.Dec.{ltb}
-use borrow.Author.Tests.{lt-ltb, le-ltb}
-use Rattle.lists.specs.Lists.{chosen}
 use Rattle.lists.specs.declared.What.the-variants.{Numbers}
 use Rattle.ipm_common.proofs.mark_row.Statement.{statement}
 use Rattle.ipm_common.proofs.mark_row.Tie as tie
-use Rattle.ipm_common.proofs.mark_row.Reads as reads
-use Rattle.ipm_common.proofs.mark_row.Lts as lts
-use Rattle.ipm_common.proofs.store.Reads as store-reads
-use Rattle.ipm_common.proofs.word_at.Reads as word-at-reads
 
 abbrev Inv-loop : tie.InvT-loop
 Inv-loop off cols m n i mark₀ a b k₀ mark k = (getD off i 0 ≤ k) × (k ≤ getD off (i + 1) 0) × (length mark ≡ length mark₀) × marks.Marking mark (getD off i 0) (row off cols i) n (k - getD off i 0)
@@ -36,44 +18,36 @@ Inv-loop off cols m n i mark₀ a b k₀ mark k = (getD off i 0 ≤ k) × (k ≤
 abbrev μ-loop : tie.MeasureT-loop
 μ-loop off cols m n i mark₀ a b k₀ mark k = b - k
 
--- src/lib.rt:322:9
 word-at-requires : tie.Need-word-at-requires Inv-loop μ-loop
 word-at-requires c κs = let s = c .before .before .before in omega (arith, s .pre .0 .offsets, s .pre .1)
 
--- src/lib.rt:323:26
 add-word-at : tie.Need-add-word-at Inv-loop μ-loop
 add-word-at c = let s = c .before .before .before .before in omega (arith, s .pre .0 .few, s .pre .1)
 
--- src/lib.rt:323:9
 word-at-requires-2 : tie.Need-word-at-requires-2 Inv-loop μ-loop
 word-at-requires-2 c κs = let s = c .before .before .before .before in omega (arith, s .pre .0 .offsets, s .pre .1)
 
--- src/lib.rt:325:5
 loop-holds : tie.Need-loop-holds Inv-loop μ-loop
 loop-holds c =
     let s = c .before .before .before .before .before in
     let a = s .args in
     (omega (arith, c .before .word-at .ensures), omega (arith, c .before .word-at .ensures, s .pre .0 .order (a .i) (s .pre .1)), refl, marks.marking-start (a .mark .now) (getD (a .off .now) (a .i) 0) (row (a .off .now) (a .cols .now) (a .i)) (a .n) (c .before .word-at .result - getD (a .off .now) (a .i) 0) (omega (arith, c .before .word-at .ensures)) (s .pre .3))
 
--- src/lib.rt:326:13
 word-at-requires-3 : tie.Need-word-at-requires-3 Inv-loop μ-loop
 word-at-requires-3 c κs =
     let s = c .before .before .before .before .before .before .before in
     omega (arith, c .loop-test .taken, c .before .before .word-at2 .ensures, s .pre .0 .ends (s .args .i + 1) (omega (arith, s .pre .1)))
 
--- src/lib.rt:327:25
 cast-store : tie.Need-cast-store Inv-loop μ-loop
 cast-store c =
     let s = c .before .before .before .before .before .before .before .before .before in
     omega (arith, c .before .before .loop-test .taken, c .before .before .before .before .word-at2 .ensures, s .pre .0 .ends (s .args .i + 1) (omega (arith, s .pre .1)), s .pre .0 .nnz)
 
--- src/lib.rt:327:24
 add-store : tie.Need-add-store Inv-loop μ-loop
 add-store c =
     let s = c .before .before .before .before .before .before .before .before .before in
     omega (arith, c .before .before .loop-test .taken, c .before .before .before .before .word-at2 .ensures, s .pre .0 .ends (s .args .i + 1) (omega (arith, s .pre .1)), s .pre .0 .nnz)
 
--- src/lib.rt:327:9
 store-requires : tie.Need-store-requires Inv-loop μ-loop
 store-requires c κs =
     let s = c .before .before .before .before .before .before .before .before .before in
@@ -81,17 +55,14 @@ store-requires c κs =
     let l = c .before .before .before .loop in
     omega (arith, s .pre .2, l .inv .2, rowlaw.e-below (a .off .now) (a .cols .now) (a .m) (a .n) (a .i) (s .pre .0) (s .pre .1) Numbers (l .k) (c .before .word-at3 .result) (a .i) (l .inv .0) (omega (arith, c .before .before .loop-test .taken, c .before .before .before .before .word-at2 .ensures)) (c .before .word-at3 .ensures) refl)
 
--- src/lib.rt:328:9
 add-k : tie.Need-add-k Inv-loop μ-loop
 add-k c =
     let s = c .before .before .before .before .before .before .before .before .before .before .before .before in
     omega (arith, c .before .before .before .before .before .loop-test .taken, c .before .before .before .before .before .before .before .word-at2 .ensures, s .pre .0 .ends (s .args .i + 1) (omega (arith, s .pre .1)), s .pre .0 .nnz)
 
--- src/lib.rt:325:5
 loop-less : tie.Need-loop-less Inv-loop μ-loop
 loop-less c = omega (arith, c .before .before .before .before .before .loop-test .taken)
 
--- src/lib.rt:325:5
 loop-again : tie.Need-loop-again Inv-loop μ-loop
 loop-again c =
     let s = c .before .before .before .before .before .before .before .before .before .before .before .before in
@@ -109,11 +80,9 @@ loop-again c =
           (marks.marking-next (l .mark) (getD (a .off .now) (a .i) 0) (row (a .off .now) (a .cols .now) (a .i)) (a .n) (l .k - getD (a .off .now) (a .i) 0) (w .result) (l .k + 1) (s .pre .0 .rising (a .i) (s .pre .1)) (rowlaw.in-q (a .off .now) (a .cols .now) (a .m) (a .n) (a .i) (s .pre .0) (s .pre .1) Numbers (l .k) (w .result) (a .i) (l .inv .0) lt (w .ensures) refl) (rowlaw.e-at (a .off .now) (a .cols .now) (a .m) (a .n) (a .i) (s .pre .0) (s .pre .1) Numbers (l .k) (w .result) (a .i) (l .inv .0) lt (w .ensures) refl) (omega (arith, l .inv .0)) (omega (arith, s .pre .2, l .inv .2, rowlaw.e-below (a .off .now) (a .cols .now) (a .m) (a .n) (a .i) (s .pre .0) (s .pre .1) Numbers (l .k) (w .result) (a .i) (l .inv .0) lt (w .ensures) refl)) (l .inv .3))),
     )
 
--- src/lib.rt:317:1
 same-length : tie.Need-same-length Inv-loop μ-loop
 same-length c = c .before .loop .inv .2
 
--- src/lib.rt:317:1
 returns : tie.Need-returns Inv-loop μ-loop
 returns c =
     let s = c .before .before .before .before .before .before .before in

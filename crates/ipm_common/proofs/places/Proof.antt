@@ -1,26 +1,21 @@
-use Prim.Native.Nat.{ℕ, suc, _≤_, _<_, _+_, _*_, _-_}
-use mathlib.Core.Path.{_≡_, refl, sym, ap, ap₂, _∙_, subst}
-use mathlib.Core.List.{List, [], _∷_, _++_}
+-- `ipm_common::places` meets its contract. Assumes nothing.
+use Prim.Native.Nat.{ℕ, _≤_, _<_, _+_, _-_}
+use mathlib.Core.Path.{_≡_, refl, sym, ap, _∙_, subst}
+use mathlib.Core.List.{_++_}
 use lib.ListN.{length-append}
 use Rattle.transpose.proofs.Fill.{below-at}
 use native.Mathlib.Omega.{arith}
-use lib.ListN.{length, getD, set, length-set}
+use lib.ListN.{length, getD}
 use Rattle.pattern.specs.Word.{bit}
-use Rattle.lists.specs.Cat.{Wrote, cat, pick}
-use Rattle.ipm_common.specs.Kept.{kept, keptRows, Rows, placesOf}
-use Rattle.ipm_common.proofs.Lists as law
+use Rattle.lists.specs.Cat.{Wrote, pick}
+use Rattle.ipm_common.specs.Kept.{kept, placesOf}
 use Rattle.ipm_common.proofs.Through as thru
-use Rattle.lists.proofs.Write.{wrote-join, wrote-as, wrote-length}
-use mathlib.Core.Bool.{Bool, true, false}
-use lib.ListN.{take, drop}
+use Rattle.lists.proofs.Write.{wrote-join, wrote-as}
+use mathlib.Core.Bool.{Bool}
+use lib.ListN.{take}
 use lib.Seq.{take-all}
 use Rattle.ipm_common.proofs.places.Statement.{statement}
 use Rattle.ipm_common.proofs.places.Tie as tie
-use Rattle.ipm_common.proofs.places.Reads as reads
-use Rattle.ipm_common.proofs.places.Lts as lts
-use Rattle.pattern.proofs.test.Reads as test-reads
-use Rattle.ipm_common.proofs.word_at.Reads as word-at-reads
-use Rattle.lists.proofs.keep.Reads as keep-reads
 
 abbrev Inv-loop : tie.InvT-loop
 Inv-loop p q l base index₀ start at₀ t₀ index at t = (t ≤ length l) × (length index ≡ length index₀) × Wrote index₀ index start (placesOf (bit p q) base (take t l)) at
@@ -28,31 +23,25 @@ Inv-loop p q l base index₀ start at₀ t₀ index at t = (t ≤ length l) × (
 abbrev μ-loop : tie.MeasureT-loop
 μ-loop p q l base index₀ start at₀ t₀ index at t = length l - t
 
--- src/lib.rt:73:5
 loop-holds : tie.Need-loop-holds Inv-loop μ-loop
 loop-holds c =
     let a = c .before .before .before .args in
     (omega arith, refl, thru.places-start (bit (a .p .now) (a .q)) (a .index .now) (a .l .now) (a .start) (a .base))
 
--- src/lib.rt:74:13
 word-at-requires : tie.Need-word-at-requires Inv-loop μ-loop
 word-at-requires c κs = c .loop-test .taken
 
--- src/lib.rt:75:36
 test-requires : tie.Need-test-requires Inv-loop μ-loop
 test-requires c κs =
     let s = c .before .before .before .before .before .before .before in
     (s .pre .0, s .pre .1, subst (λ (x : ℕ). x < 256) (sym (c .before .word-at .ensures)) (below-at 256 (s .args .l .now) (c .before .before .before .loop .t) (s .pre .2) (c .before .before .loop-test .taken)))
 
--- src/lib.rt:75:66
 cast-keep : tie.Need-cast-keep Inv-loop μ-loop
 cast-keep c = let s = c .before .before .before .before .before .before .before .before in omega (arith, s .pre .3, c .before .before .before .loop-test .taken)
 
--- src/lib.rt:75:58
 add-keep : tie.Need-add-keep Inv-loop μ-loop
 add-keep c = let s = c .before .before .before .before .before .before .before .before in omega (arith, s .pre .3, c .before .before .before .loop-test .taken)
 
--- src/lib.rt:75:9
 keep-requires : tie.Need-keep-requires Inv-loop μ-loop
 keep-requires c κs =
     let s = c .before .before .before .before .before .before .before .before in
@@ -71,15 +60,12 @@ keep-requires c κs =
       s .pre .4,
     )
 
--- src/lib.rt:76:9
 add-t : tie.Need-add-t Inv-loop μ-loop
 add-t c = let s = c .before .before .before .before .before .before .before .before .before .before .before in omega (arith, s .pre .3, c .before .before .before .before .before .before .loop-test .taken)
 
--- src/lib.rt:73:5
 loop-less : tie.Need-loop-less Inv-loop μ-loop
 loop-less c = omega (arith, c .before .before .before .before .before .before .loop-test .taken)
 
--- src/lib.rt:73:5
 loop-again : tie.Need-loop-again Inv-loop μ-loop
 loop-again c =
     let s = c .before .before .before .before .before .before .before .before .before .before .before in
@@ -94,11 +80,9 @@ loop-again c =
           (wrote-join (a .index .now) (l .index) (q .last .0) (a .start) (l .at) (q .result) _ _ (l .inv .2) (q .ensures)),
     )
 
--- src/lib.rt:60:1
 same-length : tie.Need-same-length Inv-loop μ-loop
 same-length c = c .before .loop .inv .1
 
--- src/lib.rt:60:1
 returns : tie.Need-returns Inv-loop μ-loop
 returns c =
     let a = c .before .before .before .before .before .args in

@@ -1,40 +1,20 @@
-use Prim.Native.Nat.{ℕ, suc, _≤_, _<_, _+_, _*_, _-_}
-use mathlib.Core.Path.{_≡_, refl, sym, ap, ap₂, _∙_, subst}
-use mathlib.Core.List.{List, [], _∷_, _++_}
-use lib.ListN.{length-append}
-use Rattle.transpose.proofs.Fill.{below-at}
+-- `ipm_common::put_piece` meets its contract. Assumes nothing.
+use Prim.Native.Nat.{ℕ, suc, _+_, _-_}
+use mathlib.Core.Path.{sym, ap, _∙_}
 use native.Mathlib.Omega.{arith}
-use lib.ListN.{length, getD, set, length-set}
-use Rattle.pattern.specs.Word.{bit}
-use Rattle.lists.specs.Cat.{Wrote, cat, pick}
-use Rattle.ipm_common.specs.Kept.{kept, keptRows, Rows, placesOf}
-use Rattle.ipm_common.proofs.Lists as law
-use Rattle.ipm_common.proofs.Through as thru
-use Rattle.lists.proofs.Write.{wrote-join, wrote-as, wrote-length}
-use mathlib.Core.Bool.{Bool, true, false}
-use lib.ListN.{take, drop}
-use lib.Seq.{take-all}
+use lib.ListN.{length}
+use Rattle.lists.proofs.Write.{wrote-as}
 use Rattle.ipm_common.proofs.Stored as st
 use Rattle.lists.proofs.Pieces as old
 use Rattle.lists.specs.Lists.{weight, shape, piece, before}
 use Rattle.lists.specs.declared.Which.{Which}
-use Rattle.lists.specs.declared.Take.the-variants.{Left, Right, Column}
 use borrow.Author.Needs.{needs}
 use Rattle.ipm_common.proofs.put_piece.Statement.{statement}
 use Rattle.ipm_common.proofs.put_piece.Tie as tie
-use Rattle.ipm_common.proofs.put_piece.Reads as reads
-use Rattle.ipm_common.proofs.put_piece.Lts as lts
-use Rattle.ipm_common.proofs.products.Reads as products-reads
-use Rattle.ipm_common.proofs.word_at.Reads as word-at-reads
-use Rattle.lists.proofs.keep.Reads as keep-reads
-use Rattle.ipm_common.proofs.shared_marked.Reads as shared-marked-reads
-use Rattle.lists.proofs.word.Reads as word-reads
 
--- src/lib.rt:120:42
 enum-told : tie.Need-enum-told
 enum-told c = search needs
 
--- src/lib.rt:120:31
 word-requires : tie.Need-word-requires
 word-requires c κs =
     let s = c .before .before .before .before .before .before .before .before .before .before in
@@ -43,11 +23,9 @@ word-requires c κs =
     let e = ap (λ (w : Which). piece (shape (a .off .now) (a .cols .now)) w (a .i) (a .j)) t ∙ st.of-AnormIndptr (a .off .now) (a .cols .now) (a .m) (a .p .now) (s .pre .0) (a .lp .now) (a .li .now) (s .pre .1) (a .i) (a .j) (a .t) (s .pre .2) (s .pre .3) (s .pre .4) (s .pre .5) (a .n) (s .pre .6 ∙ ap (λ (w : Which). before (weight (shape (a .off .now) (a .cols .now)) w) (a .i) (suc (a .j))) t) in
     omega (arith, s .pre .7, ap length e)
 
--- src/lib.rt:121:51
 enum-told-2 : tie.Need-enum-told-2
 enum-told-2 c = search needs
 
--- src/lib.rt:121:32
 shared-marked-requires : tie.Need-shared-marked-requires
 shared-marked-requires c κs =
     let s = c .before .before .before .before .before .before .before .before .before .before in
@@ -56,11 +34,9 @@ shared-marked-requires c κs =
     let e = ap (λ (w : Which). piece (shape (a .off .now) (a .cols .now)) w (a .i) (a .j)) t ∙ old.of-AnormIndptrI (a .off .now) (a .cols .now) (a .m) (a .p .now) (s .pre .0) (a .i) (a .j) (s .pre .2) (st.le (a .off .now) (a .cols .now) (a .m) (a .p .now) (s .pre .0) (a .lp .now) (a .li .now) (s .pre .1) (a .i) (a .j) (a .t) (s .pre .2) (s .pre .3) (s .pre .4) (s .pre .5)) in
     (s .pre .8, s .pre .2, omega (arith, s .pre .2, st.le (a .off .now) (a .cols .now) (a .m) (a .p .now) (s .pre .0) (a .lp .now) (a .li .now) (s .pre .1) (a .i) (a .j) (a .t) (s .pre .2) (s .pre .3) (s .pre .4) (s .pre .5)), s .pre .9, s .pre .10, omega (arith, s .pre .7, ap length e))
 
--- src/lib.rt:122:51
 enum-told-3 : tie.Need-enum-told-3
 enum-told-3 c = search needs
 
--- src/lib.rt:122:32
 shared-marked-requires-2 : tie.Need-shared-marked-requires-2
 shared-marked-requires-2 c κs =
     let s = c .before .before .before .before .before .before .before .before .before .before in
@@ -69,11 +45,9 @@ shared-marked-requires-2 c κs =
     let e = ap (λ (w : Which). piece (shape (a .off .now) (a .cols .now)) w (a .i) (a .j)) t ∙ old.of-AnormIndptrJ (a .off .now) (a .cols .now) (a .m) (a .p .now) (s .pre .0) (a .i) (a .j) (s .pre .2) (st.le (a .off .now) (a .cols .now) (a .m) (a .p .now) (s .pre .0) (a .lp .now) (a .li .now) (s .pre .1) (a .i) (a .j) (a .t) (s .pre .2) (s .pre .3) (s .pre .4) (s .pre .5)) in
     (s .pre .8, s .pre .2, omega (arith, s .pre .2, st.le (a .off .now) (a .cols .now) (a .m) (a .p .now) (s .pre .0) (a .lp .now) (a .li .now) (s .pre .1) (a .i) (a .j) (a .t) (s .pre .2) (s .pre .3) (s .pre .4) (s .pre .5)), s .pre .9, s .pre .10, omega (arith, s .pre .7, ap length e))
 
--- src/lib.rt:123:51
 enum-told-4 : tie.Need-enum-told-4
 enum-told-4 c = search needs
 
--- src/lib.rt:123:32
 shared-marked-requires-3 : tie.Need-shared-marked-requires-3
 shared-marked-requires-3 c κs =
     let s = c .before .before .before .before .before .before .before .before .before .before in
@@ -82,11 +56,9 @@ shared-marked-requires-3 c κs =
     let e = ap (λ (w : Which). piece (shape (a .off .now) (a .cols .now)) w (a .i) (a .j)) t ∙ old.of-AnormIndices (a .off .now) (a .cols .now) (a .m) (a .p .now) (s .pre .0) (a .i) (a .j) (s .pre .2) (st.le (a .off .now) (a .cols .now) (a .m) (a .p .now) (s .pre .0) (a .lp .now) (a .li .now) (s .pre .1) (a .i) (a .j) (a .t) (s .pre .2) (s .pre .3) (s .pre .4) (s .pre .5)) in
     (s .pre .8, s .pre .2, omega (arith, s .pre .2, st.le (a .off .now) (a .cols .now) (a .m) (a .p .now) (s .pre .0) (a .lp .now) (a .li .now) (s .pre .1) (a .i) (a .j) (a .t) (s .pre .2) (s .pre .3) (s .pre .4) (s .pre .5)), s .pre .9, s .pre .10, omega (arith, s .pre .7, ap length e))
 
--- src/lib.rt:124:44
 enum-told-5 : tie.Need-enum-told-5
 enum-told-5 c = search needs
 
--- src/lib.rt:124:33
 word-requires-2 : tie.Need-word-requires-2
 word-requires-2 c κs =
     let s = c .before .before .before .before .before .before .before .before .before .before in
@@ -95,11 +67,9 @@ word-requires-2 c κs =
     let e = ap (λ (w : Which). piece (shape (a .off .now) (a .cols .now)) w (a .i) (a .j)) t ∙ st.of-LdecompIndptr (a .off .now) (a .cols .now) (a .m) (a .p .now) (s .pre .0) (a .lp .now) (a .li .now) (s .pre .1) (a .i) (a .j) (a .t) (s .pre .2) (s .pre .3) (s .pre .4) (s .pre .5) (a .n) (s .pre .6 ∙ ap (λ (w : Which). before (weight (shape (a .off .now) (a .cols .now)) w) (a .i) (suc (a .j))) t) in
     omega (arith, s .pre .7, ap length e)
 
--- src/lib.rt:125:66
 enum-told-6 : tie.Need-enum-told-6
 enum-told-6 c = search needs
 
--- src/lib.rt:125:34
 products-requires : tie.Need-products-requires
 products-requires c κs =
     let s = c .before .before .before .before .before .before .before .before .before .before in
@@ -108,11 +78,9 @@ products-requires c κs =
     let e = ap (λ (w : Which). piece (shape (a .off .now) (a .cols .now)) w (a .i) (a .j)) t ∙ st.of-LdecompIndptrI (a .off .now) (a .cols .now) (a .m) (a .p .now) (s .pre .0) (a .lp .now) (a .li .now) (s .pre .1) (a .i) (a .j) (a .t) (s .pre .2) (s .pre .3) (s .pre .4) (s .pre .5) in
     (s .pre .0 .words, s .pre .1, s .pre .2, omega (arith, s .pre .2, st.le (a .off .now) (a .cols .now) (a .m) (a .p .now) (s .pre .0) (a .lp .now) (a .li .now) (s .pre .1) (a .i) (a .j) (a .t) (s .pre .2) (s .pre .3) (s .pre .4) (s .pre .5), s .pre .1 .few), s .pre .3, s .pre .4, omega (arith, s .pre .7, ap length e))
 
--- src/lib.rt:133:25
 enum-told-7 : tie.Need-enum-told-7
 enum-told-7 c = search needs
 
--- src/lib.rt:133:25
 add-word-at : tie.Need-add-word-at
 add-word-at c =
     let s = c .before .before .before .before .before .before .before .before .before in
@@ -120,7 +88,6 @@ add-word-at c =
     let t = c .enum-told7 .given .1 in
     omega (arith, s .pre .2, st.le (a .off .now) (a .cols .now) (a .m) (a .p .now) (s .pre .0) (a .lp .now) (a .li .now) (s .pre .1) (a .i) (a .j) (a .t) (s .pre .2) (s .pre .3) (s .pre .4) (s .pre .5), s .pre .1 .few)
 
--- src/lib.rt:133:13
 word-at-requires : tie.Need-word-at-requires
 word-at-requires c κs =
     let s = c .before .before .before .before .before .before .before .before .before in
@@ -128,7 +95,6 @@ word-at-requires c κs =
     let t = c .enum-told7 .given .1 in
     omega (arith, s .pre .2, st.le (a .off .now) (a .cols .now) (a .m) (a .p .now) (s .pre .0) (a .lp .now) (a .li .now) (s .pre .1) (a .i) (a .j) (a .t) (s .pre .2) (s .pre .3) (s .pre .4) (s .pre .5), s .pre .1 .offsets)
 
--- src/lib.rt:133:13
 sub-products : tie.Need-sub-products
 sub-products c =
     let s = c .before .before .before .before .before .before .before .before .before .before in
@@ -137,7 +103,6 @@ sub-products c =
     let l = st.last-of (a .off .now) (a .cols .now) (a .m) (a .p .now) (s .pre .0) (a .lp .now) (a .li .now) (s .pre .1) (a .j) (omega (arith, s .pre .2, st.le (a .off .now) (a .cols .now) (a .m) (a .p .now) (s .pre .0) (a .lp .now) (a .li .now) (s .pre .1) (a .i) (a .j) (a .t) (s .pre .2) (s .pre .3) (s .pre .4) (s .pre .5))) in
     omega (arith, l .some, c .word-at .ensures)
 
--- src/lib.rt:126:34
 products-requires-2 : tie.Need-products-requires-2
 products-requires-2 c κs =
     let s = c .before .before .before .before .before .before .before .before .before .before .before in
@@ -148,11 +113,9 @@ products-requires-2 c κs =
     let e = ap (λ (w : Which). piece (shape (a .off .now) (a .cols .now)) w (a .i) (a .j)) t ∙ st.of-LdecompIndptrJ (a .off .now) (a .cols .now) (a .m) (a .p .now) (s .pre .0) (a .lp .now) (a .li .now) (s .pre .1) (a .i) (a .j) (a .t) (s .pre .2) (s .pre .3) (s .pre .4) (s .pre .5) (w .result - 1) (ap (λ (x : ℕ). x - 1) (w .ensures)) in
     (s .pre .0 .words, s .pre .1, omega (arith, s .pre .2, st.le (a .off .now) (a .cols .now) (a .m) (a .p .now) (s .pre .0) (a .lp .now) (a .li .now) (s .pre .1) (a .i) (a .j) (a .t) (s .pre .2) (s .pre .3) (s .pre .4) (s .pre .5)), omega (arith, s .pre .2, s .pre .1 .few), omega (arith, l .low, w .ensures), omega (arith, l .high, l .some, w .ensures), omega (arith, s .pre .7, ap length e))
 
--- src/lib.rt:137:38
 enum-told-8 : tie.Need-enum-told-8
 enum-told-8 c = search needs
 
--- src/lib.rt:137:61
 cast-keep : tie.Need-cast-keep
 cast-keep c =
     let s = c .before .before .before .before .before .before .before .before .before .before in
@@ -160,7 +123,6 @@ cast-keep c =
     let t = c .before .enum-told8 .given .1 in
     omega (arith, st.t-small (a .off .now) (a .cols .now) (a .m) (a .p .now) (s .pre .0) (a .lp .now) (a .li .now) (s .pre .1) (a .i) (a .j) (a .t) (s .pre .2) (s .pre .3) (s .pre .4) (s .pre .5))
 
--- src/lib.rt:137:60
 add-keep : tie.Need-add-keep
 add-keep c =
     let s = c .before .before .before .before .before .before .before .before .before .before in
@@ -168,7 +130,6 @@ add-keep c =
     let t = c .before .enum-told8 .given .1 in
     omega (arith, st.t-small (a .off .now) (a .cols .now) (a .m) (a .p .now) (s .pre .0) (a .lp .now) (a .li .now) (s .pre .1) (a .i) (a .j) (a .t) (s .pre .2) (s .pre .3) (s .pre .4) (s .pre .5))
 
--- src/lib.rt:137:27
 keep-requires : tie.Need-keep-requires
 keep-requires c κs =
     let s = c .before .before .before .before .before .before .before .before .before .before in
@@ -177,11 +138,9 @@ keep-requires c κs =
     let e = ap (λ (w : Which). piece (shape (a .off .now) (a .cols .now)) w (a .i) (a .j)) t ∙ st.of-Lindptr (a .off .now) (a .cols .now) (a .m) (a .p .now) (s .pre .0) (a .lp .now) (a .li .now) (s .pre .1) (a .i) (a .j) (a .t) (s .pre .2) (s .pre .3) (s .pre .4) (s .pre .5) in
     omega (arith, s .pre .7, ap length e)
 
--- src/lib.rt:138:42
 enum-told-9 : tie.Need-enum-told-9
 enum-told-9 c = search needs
 
--- src/lib.rt:138:64
 cast-keep-2 : tie.Need-cast-keep-2
 cast-keep-2 c =
     let s = c .before .before .before .before .before .before .before .before .before .before in
@@ -189,7 +148,6 @@ cast-keep-2 c =
     let t = c .before .enum-told9 .given .1 in
     omega (arith, st.t-small (a .off .now) (a .cols .now) (a .m) (a .p .now) (s .pre .0) (a .lp .now) (a .li .now) (s .pre .1) (a .i) (a .j) (a .t) (s .pre .2) (s .pre .3) (s .pre .4) (s .pre .5))
 
--- src/lib.rt:138:31
 keep-requires-2 : tie.Need-keep-requires-2
 keep-requires-2 c κs =
     let s = c .before .before .before .before .before .before .before .before .before .before in
@@ -198,11 +156,9 @@ keep-requires-2 c κs =
     let e = ap (λ (w : Which). piece (shape (a .off .now) (a .cols .now)) w (a .i) (a .j)) t ∙ st.of-LdiagIndptr (a .off .now) (a .cols .now) (a .m) (a .p .now) (s .pre .0) (a .lp .now) (a .li .now) (s .pre .1) (a .i) (a .j) (a .t) (s .pre .2) (s .pre .3) (s .pre .4) (s .pre .5) in
     omega (arith, s .pre .7, ap length e)
 
--- src/lib.rt:139:39
 enum-told-10 : tie.Need-enum-told-10
 enum-told-10 c = search needs
 
--- src/lib.rt:139:53
 cast-word : tie.Need-cast-word
 cast-word c =
     let s = c .before .before .before .before .before .before .before .before .before .before in
@@ -210,7 +166,6 @@ cast-word c =
     let t = c .before .enum-told10 .given .1 in
     omega (arith, s .pre .2, st.le (a .off .now) (a .cols .now) (a .m) (a .p .now) (s .pre .0) (a .lp .now) (a .li .now) (s .pre .1) (a .i) (a .j) (a .t) (s .pre .2) (s .pre .3) (s .pre .4) (s .pre .5), s .pre .1 .few)
 
--- src/lib.rt:139:28
 word-requires-3 : tie.Need-word-requires-3
 word-requires-3 c κs =
     let s = c .before .before .before .before .before .before .before .before .before .before in
@@ -219,11 +174,9 @@ word-requires-3 c κs =
     let e = ap (λ (w : Which). piece (shape (a .off .now) (a .cols .now)) w (a .i) (a .j)) t ∙ st.of-Lindices (a .off .now) (a .cols .now) (a .m) (a .p .now) (s .pre .0) (a .lp .now) (a .li .now) (s .pre .1) (a .i) (a .j) (a .t) (s .pre .2) (s .pre .3) (s .pre .4) (s .pre .5) in
     omega (arith, s .pre .7, ap length e)
 
--- src/lib.rt:101:1
 same-length : tie.Need-same-length
 same-length c = search needs
 
--- src/lib.rt:101:1
 returns : tie.Need-returns
 returns c =
     let s = c .before .before .before .before .before .before .before .before .before .before .before .before .before in
@@ -232,11 +185,9 @@ returns c =
     let e = ap (λ (w : Which). piece (shape (a .off .now) (a .cols .now)) w (a .i) (a .j)) t ∙ st.of-AnormIndptr (a .off .now) (a .cols .now) (a .m) (a .p .now) (s .pre .0) (a .lp .now) (a .li .now) (s .pre .1) (a .i) (a .j) (a .t) (s .pre .2) (s .pre .3) (s .pre .4) (s .pre .5) (a .n) (s .pre .6 ∙ ap (λ (w : Which). before (weight (shape (a .off .now) (a .cols .now)) w) (a .i) (suc (a .j))) t) in
     wrote-as _ _ _ _ _ _ (sym e) (c .before .before .word .ensures)
 
--- src/lib.rt:101:1
 same-length-2 : tie.Need-same-length-2
 same-length-2 c = search needs
 
--- src/lib.rt:101:1
 returns-2 : tie.Need-returns-2
 returns-2 c =
     let s = c .before .before .before .before .before .before .before .before .before .before .before .before .before in
@@ -245,11 +196,9 @@ returns-2 c =
     let e = ap (λ (w : Which). piece (shape (a .off .now) (a .cols .now)) w (a .i) (a .j)) t ∙ old.of-AnormIndptrI (a .off .now) (a .cols .now) (a .m) (a .p .now) (s .pre .0) (a .i) (a .j) (s .pre .2) (st.le (a .off .now) (a .cols .now) (a .m) (a .p .now) (s .pre .0) (a .lp .now) (a .li .now) (s .pre .1) (a .i) (a .j) (a .t) (s .pre .2) (s .pre .3) (s .pre .4) (s .pre .5)) in
     wrote-as _ _ _ _ _ _ (sym e) (c .before .before .shared-marked .ensures)
 
--- src/lib.rt:101:1
 same-length-3 : tie.Need-same-length-3
 same-length-3 c = search needs
 
--- src/lib.rt:101:1
 returns-3 : tie.Need-returns-3
 returns-3 c =
     let s = c .before .before .before .before .before .before .before .before .before .before .before .before .before in
@@ -258,11 +207,9 @@ returns-3 c =
     let e = ap (λ (w : Which). piece (shape (a .off .now) (a .cols .now)) w (a .i) (a .j)) t ∙ old.of-AnormIndptrJ (a .off .now) (a .cols .now) (a .m) (a .p .now) (s .pre .0) (a .i) (a .j) (s .pre .2) (st.le (a .off .now) (a .cols .now) (a .m) (a .p .now) (s .pre .0) (a .lp .now) (a .li .now) (s .pre .1) (a .i) (a .j) (a .t) (s .pre .2) (s .pre .3) (s .pre .4) (s .pre .5)) in
     wrote-as _ _ _ _ _ _ (sym e) (c .before .before .shared-marked2 .ensures)
 
--- src/lib.rt:101:1
 same-length-4 : tie.Need-same-length-4
 same-length-4 c = search needs
 
--- src/lib.rt:101:1
 returns-4 : tie.Need-returns-4
 returns-4 c =
     let s = c .before .before .before .before .before .before .before .before .before .before .before .before .before in
@@ -271,11 +218,9 @@ returns-4 c =
     let e = ap (λ (w : Which). piece (shape (a .off .now) (a .cols .now)) w (a .i) (a .j)) t ∙ old.of-AnormIndices (a .off .now) (a .cols .now) (a .m) (a .p .now) (s .pre .0) (a .i) (a .j) (s .pre .2) (st.le (a .off .now) (a .cols .now) (a .m) (a .p .now) (s .pre .0) (a .lp .now) (a .li .now) (s .pre .1) (a .i) (a .j) (a .t) (s .pre .2) (s .pre .3) (s .pre .4) (s .pre .5)) in
     wrote-as _ _ _ _ _ _ (sym e) (c .before .before .shared-marked3 .ensures)
 
--- src/lib.rt:101:1
 same-length-5 : tie.Need-same-length-5
 same-length-5 c = search needs
 
--- src/lib.rt:101:1
 returns-5 : tie.Need-returns-5
 returns-5 c =
     let s = c .before .before .before .before .before .before .before .before .before .before .before .before .before in
@@ -284,11 +229,9 @@ returns-5 c =
     let e = ap (λ (w : Which). piece (shape (a .off .now) (a .cols .now)) w (a .i) (a .j)) t ∙ st.of-LdecompIndptr (a .off .now) (a .cols .now) (a .m) (a .p .now) (s .pre .0) (a .lp .now) (a .li .now) (s .pre .1) (a .i) (a .j) (a .t) (s .pre .2) (s .pre .3) (s .pre .4) (s .pre .5) (a .n) (s .pre .6 ∙ ap (λ (w : Which). before (weight (shape (a .off .now) (a .cols .now)) w) (a .i) (suc (a .j))) t) in
     wrote-as _ _ _ _ _ _ (sym e) (c .before .before .word2 .ensures)
 
--- src/lib.rt:101:1
 same-length-6 : tie.Need-same-length-6
 same-length-6 c = search needs
 
--- src/lib.rt:101:1
 returns-6 : tie.Need-returns-6
 returns-6 c =
     let s = c .before .before .before .before .before .before .before .before .before .before .before .before .before in
@@ -297,11 +240,9 @@ returns-6 c =
     let e = ap (λ (w : Which). piece (shape (a .off .now) (a .cols .now)) w (a .i) (a .j)) t ∙ st.of-LdecompIndptrI (a .off .now) (a .cols .now) (a .m) (a .p .now) (s .pre .0) (a .lp .now) (a .li .now) (s .pre .1) (a .i) (a .j) (a .t) (s .pre .2) (s .pre .3) (s .pre .4) (s .pre .5) in
     wrote-as _ _ _ _ _ _ (sym e) (c .before .before .products .ensures)
 
--- src/lib.rt:101:1
 same-length-7 : tie.Need-same-length-7
 same-length-7 c = search needs
 
--- src/lib.rt:101:1
 returns-7 : tie.Need-returns-7
 returns-7 c =
     let s = c .before .before .before .before .before .before .before .before .before .before .before .before .before .before in
@@ -310,11 +251,9 @@ returns-7 c =
     let e = ap (λ (w : Which). piece (shape (a .off .now) (a .cols .now)) w (a .i) (a .j)) t ∙ st.of-LdecompIndptrJ (a .off .now) (a .cols .now) (a .m) (a .p .now) (s .pre .0) (a .lp .now) (a .li .now) (s .pre .1) (a .i) (a .j) (a .t) (s .pre .2) (s .pre .3) (s .pre .4) (s .pre .5) (c .before .before .before .before .word-at .result - 1) (ap (λ (x : ℕ). x - 1) (c .before .before .before .before .word-at .ensures)) in
     wrote-as _ _ _ _ _ _ (sym e) (c .before .before .products2 .ensures)
 
--- src/lib.rt:101:1
 same-length-8 : tie.Need-same-length-8
 same-length-8 c = search needs
 
--- src/lib.rt:101:1
 returns-8 : tie.Need-returns-8
 returns-8 c =
     let s = c .before .before .before .before .before .before .before .before .before .before .before .before .before in
@@ -323,11 +262,9 @@ returns-8 c =
     let e = ap (λ (w : Which). piece (shape (a .off .now) (a .cols .now)) w (a .i) (a .j)) t ∙ st.of-Lindptr (a .off .now) (a .cols .now) (a .m) (a .p .now) (s .pre .0) (a .lp .now) (a .li .now) (s .pre .1) (a .i) (a .j) (a .t) (s .pre .2) (s .pre .3) (s .pre .4) (s .pre .5) in
     wrote-as _ _ _ _ _ _ (sym e) (c .before .before .keep .ensures)
 
--- src/lib.rt:101:1
 same-length-9 : tie.Need-same-length-9
 same-length-9 c = search needs
 
--- src/lib.rt:101:1
 returns-9 : tie.Need-returns-9
 returns-9 c =
     let s = c .before .before .before .before .before .before .before .before .before .before .before .before .before in
@@ -336,11 +273,9 @@ returns-9 c =
     let e = ap (λ (w : Which). piece (shape (a .off .now) (a .cols .now)) w (a .i) (a .j)) t ∙ st.of-LdiagIndptr (a .off .now) (a .cols .now) (a .m) (a .p .now) (s .pre .0) (a .lp .now) (a .li .now) (s .pre .1) (a .i) (a .j) (a .t) (s .pre .2) (s .pre .3) (s .pre .4) (s .pre .5) in
     wrote-as _ _ _ _ _ _ (sym e) (c .before .before .keep2 .ensures)
 
--- src/lib.rt:101:1
 same-length-10 : tie.Need-same-length-10
 same-length-10 c = search needs
 
--- src/lib.rt:101:1
 returns-10 : tie.Need-returns-10
 returns-10 c =
     let s = c .before .before .before .before .before .before .before .before .before .before .before .before .before in

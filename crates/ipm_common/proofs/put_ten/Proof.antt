@@ -1,27 +1,14 @@
-use Prim.Native.Nat.{ℕ, suc, _≤_, _<_, _+_, _*_, _-_}
-use mathlib.Core.Path.{_≡_, refl, sym, ap, ap₂, _∙_, subst}
-use mathlib.Core.List.{List, [], _∷_, _++_}
-use lib.ListN.{length-append}
-use Rattle.transpose.proofs.Fill.{below-at}
+-- `ipm_common::put_ten` meets its contract. Assumes nothing.
+use Prim.Native.Nat.{ℕ, _≤_, _+_, _-_}
+use mathlib.Core.Path.{_≡_, refl, _∙_, subst}
 use native.Mathlib.Omega.{arith}
-use lib.ListN.{length, getD, set, length-set}
-use Rattle.pattern.specs.Word.{bit}
-use Rattle.lists.specs.Cat.{Wrote, cat, pick}
-use Rattle.ipm_common.specs.Kept.{kept, keptRows, Rows, placesOf}
-use Rattle.ipm_common.proofs.Lists as law
-use Rattle.ipm_common.proofs.Through as thru
-use Rattle.lists.proofs.Write.{wrote-join, wrote-as, wrote-length}
-use mathlib.Core.Bool.{Bool, true, false}
-use lib.ListN.{take, drop}
-use lib.Seq.{take-all}
+use lib.ListN.{length}
+use Rattle.lists.specs.Cat.{Wrote}
+use Rattle.ipm_common.specs.Kept.{kept}
 use Rattle.lists.proofs.Whole as all
-use Rattle.lists.specs.Lists.{shape, listOf, tenOf, field}
+use Rattle.lists.specs.Lists.{shape, tenOf}
 use Rattle.ipm_common.proofs.put_ten.Statement.{statement}
 use Rattle.ipm_common.proofs.put_ten.Tie as tie
-use Rattle.ipm_common.proofs.put_ten.Reads as reads
-use Rattle.ipm_common.proofs.put_ten.Lts as lts
-use Rattle.ipm_common.proofs.fill_new.Reads as fill-new-reads
-use Rattle.lists.proofs.which_field.Reads as which-field-reads
 
 abbrev Inv-loop : tie.InvT-loop
 Inv-loop off cols m p lp li wide index₀ start at₀ k₀ index at k =
@@ -30,17 +17,14 @@ Inv-loop off cols m p lp li wide index₀ start at₀ k₀ index at k =
 abbrev μ-loop : tie.MeasureT-loop
 μ-loop off cols m p lp li wide index₀ start at₀ k₀ index at k = 10 - k
 
--- src/lib.rt:221:5
 loop-holds : tie.Need-loop-holds Inv-loop μ-loop
 loop-holds c =
     let a = c .before .before .before .before .before .before .args in
     (omega arith, refl, all.ten-start (shape (a .off .now) (a .cols .now)) (a .m) (a .index .now) (a .start))
 
--- src/lib.rt:222:19
 which-field-requires : tie.Need-which-field-requires Inv-loop μ-loop
 which-field-requires c κs = tt
 
--- src/lib.rt:222:9
 fill-new-requires : tie.Need-fill-new-requires Inv-loop μ-loop
 fill-new-requires c κs =
     let s = c .before .before .before .before .before .before .before .before .before .before in
@@ -48,15 +32,12 @@ fill-new-requires c κs =
     let l = c .before .before .before .loop in
     (s .pre .0, s .pre .1, all.ten-room (shape (a .off .now) (a .cols .now)) (a .m) 10 (a .start) (length (l .index)) (l .at) (l .k) (c .before .which-field .result) (c .before .which-field .ensures) (c .before .before .loop-test .taken) (omega (arith, s .pre .2, l .inv .1)) (l .inv .2 .next), s .pre .3)
 
--- src/lib.rt:223:9
 add-k : tie.Need-add-k Inv-loop μ-loop
 add-k c = omega (arith, c .before .before .before .before .before .loop-test .taken)
 
--- src/lib.rt:221:5
 loop-less : tie.Need-loop-less Inv-loop μ-loop
 loop-less c = omega (arith, c .before .before .before .before .before .loop-test .taken)
 
--- src/lib.rt:221:5
 loop-again : tie.Need-loop-again Inv-loop μ-loop
 loop-again c =
     let s = c .before .before .before .before .before .before .before .before .before .before .before .before .before in
@@ -65,11 +46,9 @@ loop-again c =
     let q = c .before .before .fill-new in
     (omega (arith, c .before .before .before .before .before .loop-test .taken), q .kept .1 .1 .1 .1 .1 .1 .1 .1 .0 ∙ l .inv .1, all.ten-next (shape (a .off .now) (a .cols .now)) (a .m) (a .index .now) (l .index) (q .last .1 .1 .1 .1 .1 .1 .1 .1 .0) (a .start) (l .at) (q .result) (l .k) (c .before .before .before .before .which-field .result) (c .before .before .before .before .which-field .ensures) (l .inv .2) (q .ensures))
 
--- src/lib.rt:206:1
 same-length : tie.Need-same-length Inv-loop μ-loop
 same-length c = c .before .loop .inv .1
 
--- src/lib.rt:206:1
 returns : tie.Need-returns Inv-loop μ-loop
 returns c =
     let a = c .before .before .before .before .before .before .before .before .args in

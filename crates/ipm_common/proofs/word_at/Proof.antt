@@ -1,23 +1,18 @@
+-- `ipm_common::word_at` meets its contract. Assumes nothing.
 use native.Mathlib.Omega.{arith}
 use borrow.Author.Needs.{needs}
 use Rattle.ipm_common.proofs.word_at.Statement.{statement}
 use Rattle.ipm_common.proofs.word_at.Tie as tie
-use Rattle.ipm_common.proofs.word_at.Reads as reads
-use Rattle.ipm_common.proofs.word_at.Lts as lts
 
--- src/lib.rt:56:5
 mul-result : tie.Need-mul-result
 mul-result c = search needs
 
--- src/lib.rt:56:5
 shared-slice-read-result : tie.Need-shared-slice-read-result
 shared-slice-read-result c = search needs
 
--- src/lib.rt:56:5
 cast-result : tie.Need-cast-result
 cast-result c = omega (arith, c .shared-slice-known .given (c .before .args .i))
 
--- src/lib.rt:52:1
 returns : tie.Need-returns
 returns c = search needs
 

@@ -1,87 +1,63 @@
-use Prim.Native.Nat.{ℕ, _≤_, _<_, _+_, _*_, _-_}
-use mathlib.Core.Path.{_≡_, refl, sym, ap, ap₂, _∙_, subst}
-use mathlib.Core.Bool.{Bool, true, false}
-use mathlib.Core.List.{List}
+-- `lists::weigh` meets its contract. Assumes nothing.
+use Prim.Native.Nat.{_-_}
+use mathlib.Core.Path.{sym, ap, _∙_}
 use native.Mathlib.Omega.{arith}
-use lib.ListN.{length}
 use Rattle.csr.specs.Counts.{one}
-use Rattle.pattern.specs.Word.{bit}
 use Rattle.lists.specs.declared.Which.{Which}
 use Rattle.lists.specs.Lists.{weight, shape}
 use Rattle.lists.proofs.Counts.{both-weight}
 use borrow.Author.Needs.{needs}
 use Rattle.lists.proofs.weigh.Statement.{statement}
 use Rattle.lists.proofs.weigh.Tie as tie
-use Rattle.lists.proofs.weigh.Reads as reads
-use Rattle.lists.proofs.weigh.Lts as lts
-use Rattle.pattern.proofs.both_ones.Reads as both-ones-reads
-use Rattle.pattern.proofs.shared_rows.Reads as shared-rows-reads
-use Rattle.pattern.proofs.test.Reads as test-reads
 
--- src/lib.rt:132:31
 enum-told : tie.Need-enum-told
 enum-told c = search needs
 
--- src/lib.rt:132:31
 shared-rows-requires : tie.Need-shared-rows-requires
 shared-rows-requires c κs = search needs
 
--- src/lib.rt:132:31
 cast-result : tie.Need-cast-result
 cast-result c = search needs
 
--- src/lib.rt:134:17
 enum-told-2 : tie.Need-enum-told-2
 enum-told-2 c = search needs
 
--- src/lib.rt:134:17
 both-ones-requires : tie.Need-both-ones-requires
 both-ones-requires c κs = search needs
 
--- src/lib.rt:135:16
 test-requires : tie.Need-test-requires
 test-requires c κs = search needs
 
--- src/lib.rt:136:17
 sub-result : tie.Need-sub-result
 sub-result c =
     let s = c .before .before .before .before .before .before .before .before in
     let b = ap one (sym (c .before .test .ensures) ∙ c .if1 .taken) in
     omega (arith, b, both-weight (s .args .off .now) (s .args .cols .now) (s .args .m) (s .args .p .now) (s .pre .0) (s .args .i) (s .args .j) (s .pre .1) (s .pre .2), c .before .before .both-ones .ensures .0)
 
--- src/lib.rt:141:32
 enum-told-3 : tie.Need-enum-told-3
 enum-told-3 c = search needs
 
--- src/lib.rt:142:32
 enum-told-4 : tie.Need-enum-told-4
 enum-told-4 c = search needs
 
--- src/lib.rt:143:32
 enum-told-5 : tie.Need-enum-told-5
 enum-told-5 c = search needs
 
--- src/lib.rt:144:34
 enum-told-6 : tie.Need-enum-told-6
 enum-told-6 c = search needs
 
--- src/lib.rt:145:34
 enum-told-7 : tie.Need-enum-told-7
 enum-told-7 c = search needs
 
--- src/lib.rt:146:27
 enum-told-8 : tie.Need-enum-told-8
 enum-told-8 c = search needs
 
--- src/lib.rt:147:31
 enum-told-9 : tie.Need-enum-told-9
 enum-told-9 c = search needs
 
--- src/lib.rt:148:28
 enum-told-10 : tie.Need-enum-told-10
 enum-told-10 c = search needs
 
--- src/lib.rt:127:1
 returns : tie.Need-returns
 unfolding weight
 returns c =
@@ -90,7 +66,6 @@ returns c =
       c .shared-rows .ensures .1,
     )
 
--- src/lib.rt:127:1
 returns-2 : tie.Need-returns-2
 returns-2 c =
     let s = c .before .before .before .before .before .before .before .before in
@@ -98,7 +73,6 @@ returns-2 c =
     let b = ap one (sym (c .before .test .ensures) ∙ c .if1 .taken) in
     (omega (arith, e, b, both-weight (s .args .off .now) (s .args .cols .now) (s .args .m) (s .args .p .now) (s .pre .0) (s .args .i) (s .args .j) (s .pre .1) (s .pre .2), c .before .before .both-ones .ensures .0), omega (arith, c .before .before .both-ones .ensures .1))
 
--- src/lib.rt:127:1
 returns-3 : tie.Need-returns-3
 returns-3 c =
     let s = c .before .before .before .before .before .before .before .before in
@@ -106,56 +80,48 @@ returns-3 c =
     let b = ap one (sym (c .before .test .ensures) ∙ c .if1 .left) in
     (omega (arith, e, b, both-weight (s .args .off .now) (s .args .cols .now) (s .args .m) (s .args .p .now) (s .pre .0) (s .args .i) (s .args .j) (s .pre .1) (s .pre .2), c .before .before .both-ones .ensures .0), omega (arith, c .before .before .both-ones .ensures .1))
 
--- src/lib.rt:127:1
 returns-4 : tie.Need-returns-4
 unfolding weight
 returns-4 c =
     let s = c .before .before .before .before .before in
     (sym (ap (λ (w : Which). weight (shape (s .args .off .now) (s .args .cols .now)) w (s .args .i) (s .args .j)) (c .enum-told3 .given .1)), omega arith)
 
--- src/lib.rt:127:1
 returns-5 : tie.Need-returns-5
 unfolding weight
 returns-5 c =
     let s = c .before .before .before .before .before in
     (sym (ap (λ (w : Which). weight (shape (s .args .off .now) (s .args .cols .now)) w (s .args .i) (s .args .j)) (c .enum-told4 .given .1)), omega arith)
 
--- src/lib.rt:127:1
 returns-6 : tie.Need-returns-6
 unfolding weight
 returns-6 c =
     let s = c .before .before .before .before .before in
     (sym (ap (λ (w : Which). weight (shape (s .args .off .now) (s .args .cols .now)) w (s .args .i) (s .args .j)) (c .enum-told5 .given .1)), omega arith)
 
--- src/lib.rt:127:1
 returns-7 : tie.Need-returns-7
 unfolding weight
 returns-7 c =
     let s = c .before .before .before .before .before in
     (sym (ap (λ (w : Which). weight (shape (s .args .off .now) (s .args .cols .now)) w (s .args .i) (s .args .j)) (c .enum-told6 .given .1)), omega arith)
 
--- src/lib.rt:127:1
 returns-8 : tie.Need-returns-8
 unfolding weight
 returns-8 c =
     let s = c .before .before .before .before .before in
     (sym (ap (λ (w : Which). weight (shape (s .args .off .now) (s .args .cols .now)) w (s .args .i) (s .args .j)) (c .enum-told7 .given .1)), omega arith)
 
--- src/lib.rt:127:1
 returns-9 : tie.Need-returns-9
 unfolding weight
 returns-9 c =
     let s = c .before .before .before .before .before in
     (sym (ap (λ (w : Which). weight (shape (s .args .off .now) (s .args .cols .now)) w (s .args .i) (s .args .j)) (c .enum-told8 .given .1)), omega arith)
 
--- src/lib.rt:127:1
 returns-10 : tie.Need-returns-10
 unfolding weight
 returns-10 c =
     let s = c .before .before .before .before .before in
     (sym (ap (λ (w : Which). weight (shape (s .args .off .now) (s .args .cols .now)) w (s .args .i) (s .args .j)) (c .enum-told9 .given .1)), omega arith)
 
--- src/lib.rt:127:1
 returns-11 : tie.Need-returns-11
 unfolding weight
 returns-11 c =

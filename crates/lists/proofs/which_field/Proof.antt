@@ -1,50 +1,37 @@
-use Prim.Native.Nat.{ℕ, _≤_}
-use mathlib.Core.Path.{_≡_, sym}
-use native.Mathlib.Omega.{arith}
+-- `lists::which_field` meets its contract. Assumes nothing.
+use mathlib.Core.Path.{sym}
 use Rattle.lists.proofs.Whole.{field-rest}
 use borrow.Author.Needs.{needs}
 use Rattle.lists.proofs.which_field.Statement.{statement}
 use Rattle.lists.proofs.which_field.Tie as tie
-use Rattle.lists.proofs.which_field.Reads as reads
-use Rattle.lists.proofs.which_field.Lts as lts
 
--- src/lib.rt:381:1
 returns : tie.Need-returns
 returns c = search needs
 
--- src/lib.rt:381:1
 returns-2 : tie.Need-returns-2
 returns-2 c = search needs
 
--- src/lib.rt:381:1
 returns-3 : tie.Need-returns-3
 returns-3 c = search needs
 
--- src/lib.rt:381:1
 returns-4 : tie.Need-returns-4
 returns-4 c = search needs
 
--- src/lib.rt:381:1
 returns-5 : tie.Need-returns-5
 returns-5 c = search needs
 
--- src/lib.rt:381:1
 returns-6 : tie.Need-returns-6
 returns-6 c = search needs
 
--- src/lib.rt:381:1
 returns-7 : tie.Need-returns-7
 returns-7 c = search needs
 
--- src/lib.rt:381:1
 returns-8 : tie.Need-returns-8
 returns-8 c = search needs
 
--- src/lib.rt:381:1
 returns-9 : tie.Need-returns-9
 returns-9 c = search needs
 
--- src/lib.rt:381:1
 returns-10 : tie.Need-returns-10
 returns-10 c =
     let r = c .match .rest in

@@ -1,15 +1,12 @@
+-- `pattern::count` meets its contract. Assumes nothing.
 use Prim.Native.Nat.{ℕ, _≤_, _+_, _*_, _-_}
 use mathlib.Core.Path.{_≡_, refl, sym, ap, ap₂, _∙_}
 use native.Mathlib.Omega.{arith}
 use native.Mathlib.Numerals.{add-one}
-use lib.ListN.{length}
 use Rattle.csr.specs.Counts.{sum}
 use Rattle.pattern.specs.Word.{rowOnes}
 use Rattle.pattern.proofs.count.Statement.{statement}
 use Rattle.pattern.proofs.count.Tie as tie
-use Rattle.pattern.proofs.count.Reads as reads
-use Rattle.pattern.proofs.count.Lts as lts
-use Rattle.pattern.proofs.row_ones.Reads as row-ones-reads
 
 abbrev Inv-loop : tie.InvT-loop
 Inv-loop p m e₀ i₀ e i = (i ≤ m) × (e ≡ sum i (λ k. rowOnes p k)) × (e ≤ 256 * i)
@@ -17,28 +14,22 @@ Inv-loop p m e₀ i₀ e i = (i ≤ m) × (e ≡ sum i (λ k. rowOnes p k)) × (
 abbrev μ-loop : tie.MeasureT-loop
 μ-loop p m e₀ i₀ e i = m - i
 
--- src/lib.rt:68:5
 loop-holds : tie.Need-loop-holds Inv-loop μ-loop
 unfolding sum
 loop-holds c = (omega arith, refl, omega arith)
 
--- src/lib.rt:69:14
 row-ones-requires : tie.Need-row-ones-requires Inv-loop μ-loop
 row-ones-requires c κs = (c .before .before .before .pre .0, omega arith)
 
--- src/lib.rt:69:9
 add-e : tie.Need-add-e Inv-loop μ-loop
 add-e c = omega arith
 
--- src/lib.rt:70:9
 add-i : tie.Need-add-i Inv-loop μ-loop
 add-i c = omega arith
 
--- src/lib.rt:68:5
 loop-less : tie.Need-loop-less Inv-loop μ-loop
 loop-less c = omega arith
 
--- src/lib.rt:68:5
 loop-again : tie.Need-loop-again Inv-loop μ-loop
 unfolding sum
 loop-again c =
@@ -49,7 +40,6 @@ loop-again c =
       omega arith,
     )
 
--- src/lib.rt:62:1
 returns : tie.Need-returns Inv-loop μ-loop
 returns c =
     let m = c .before .before .before .args .m in

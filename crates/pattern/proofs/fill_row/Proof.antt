@@ -1,7 +1,8 @@
-use Prim.Native.Nat.{ℕ, _≤_, _<_, _+_, _*_, _-_}
-use mathlib.Core.Path.{_≡_, refl, sym, ap, ap₂, _∙_, subst}
+-- `pattern::fill_row` meets its contract. Assumes nothing.
+use Prim.Native.Nat.{ℕ, _≤_, _<_, _+_, _-_}
+use mathlib.Core.Path.{_≡_, refl, sym, _∙_, subst}
 use mathlib.Core.Logic.{⊎-elim}
-use mathlib.Core.Bool.{Bool, true, false, _&&_}
+use mathlib.Core.Bool.{Bool, false, _&&_}
 use mathlib.Core.List.{List}
 use native.Mathlib.Omega.{arith}
 use lib.ListN.{length}
@@ -9,10 +10,6 @@ use Rattle.pattern.specs.Word.{bit, Done, Seeded, OtherRows, Put}
 use Rattle.pattern.proofs.Rows.{Part, Common, part-start, step-no, step-yes, part-end, other-put, done-other}
 use Rattle.pattern.proofs.fill_row.Statement.{statement}
 use Rattle.pattern.proofs.fill_row.Tie as tie
-use Rattle.pattern.proofs.fill_row.Reads as reads
-use Rattle.pattern.proofs.fill_row.Lts as lts
-use Rattle.pattern.proofs.meets.Reads as meets-reads
-use Rattle.pattern.proofs.put.Reads as put-reads
 
 abbrev Inv-loop : tie.InvT-loop
 Inv-loop p₀ i j₀ p j =
@@ -40,27 +37,21 @@ again-no p₀ i p j hi hj v f = (
   λ nb d s. step-no nb p i j hi hj (done-other nb p₀ p i hi (v .2) d) (v .3 nb d s) f,
 )
 
--- src/lib.rt:44:5
 loop-holds : tie.Need-loop-holds Inv-loop μ-loop
 loop-holds c = (c .before .pre .0, omega arith, λ a b ha hb n. refl, λ nb d s. part-start nb (c .before .args .p .now) (c .before .args .i) s)
 
--- src/lib.rt:45:12
 meets-requires : tie.Need-meets-requires Inv-loop μ-loop
 meets-requires c κs = (c .before .before .loop .inv .0, omega arith, omega arith)
 
--- src/lib.rt:46:13
 put-requires : tie.Need-put-requires Inv-loop μ-loop
 put-requires c κs = (c .before .before .before .before .before .loop .inv .0, omega arith, omega arith)
 
--- src/lib.rt:48:9
 add-j : tie.Need-add-j Inv-loop μ-loop
 add-j c = omega arith
 
--- src/lib.rt:44:5
 loop-less : tie.Need-loop-less Inv-loop μ-loop
 loop-less c = omega arith
 
--- src/lib.rt:44:5
 loop-again : tie.Need-loop-again Inv-loop μ-loop
 loop-again c =
     let l = c .before .before .before .before .loop in
@@ -76,11 +67,9 @@ loop-again c =
     (again-no (s .args .p .now) (s .args .i) (l .p) (l .j) hi lt (l .inv) (c .before .meets .ensures .1 (w .0 .left))))
     (c .if1 .came)
 
--- src/lib.rt:38:1
 same-length : tie.Need-same-length Inv-loop μ-loop
 same-length c = omega arith
 
--- src/lib.rt:38:1
 returns : tie.Need-returns Inv-loop μ-loop
 returns c =
     let s = c .before .before .before in

@@ -1,107 +1,81 @@
+-- `pattern::meets` meets its contract. Assumes nothing.
 use borrow.Author.Needs.{needs}
 use Rattle.pattern.proofs.Rows.{meetWord, meet-yes, meet-no}
 use Rattle.pattern.proofs.meets.Statement.{statement}
 use Rattle.pattern.proofs.meets.Tie as tie
-use Rattle.pattern.proofs.meets.Reads as reads
-use Rattle.pattern.proofs.meets.Lts as lts
 
--- src/lib.rt:32:13
 mul-a : tie.Need-mul-a
 mul-a c = search needs
 
--- src/lib.rt:33:13
 mul-b : tie.Need-mul-b
 mul-b c = search needs
 
--- src/lib.rt:34:6
 mul-result : tie.Need-mul-result
 mul-result c = search needs
 
--- src/lib.rt:34:6
 shared-slice-read-result : tie.Need-shared-slice-read-result
 shared-slice-read-result c = search needs
 
--- src/lib.rt:34:13
 mul-result-2 : tie.Need-mul-result-2
 mul-result-2 c = search needs
 
--- src/lib.rt:34:13
 shared-slice-read-result-2 : tie.Need-shared-slice-read-result-2
 shared-slice-read-result-2 c = search needs
 
--- src/lib.rt:34:24
 add-result : tie.Need-add-result
 add-result c = search needs
 
--- src/lib.rt:34:22
 mul-result-3 : tie.Need-mul-result-3
 mul-result-3 c = search needs
 
--- src/lib.rt:34:22
 shared-slice-read-result-3 : tie.Need-shared-slice-read-result-3
 shared-slice-read-result-3 c = search needs
 
--- src/lib.rt:34:35
 add-result-2 : tie.Need-add-result-2
 add-result-2 c = search needs
 
--- src/lib.rt:34:33
 mul-result-4 : tie.Need-mul-result-4
 mul-result-4 c = search needs
 
--- src/lib.rt:34:33
 shared-slice-read-result-4 : tie.Need-shared-slice-read-result-4
 shared-slice-read-result-4 c = search needs
 
--- src/lib.rt:34:48
 add-result-3 : tie.Need-add-result-3
 add-result-3 c = search needs
 
--- src/lib.rt:34:46
 mul-result-5 : tie.Need-mul-result-5
 mul-result-5 c = search needs
 
--- src/lib.rt:34:46
 shared-slice-read-result-5 : tie.Need-shared-slice-read-result-5
 shared-slice-read-result-5 c = search needs
 
--- src/lib.rt:34:59
 add-result-4 : tie.Need-add-result-4
 add-result-4 c = search needs
 
--- src/lib.rt:34:57
 mul-result-6 : tie.Need-mul-result-6
 mul-result-6 c = search needs
 
--- src/lib.rt:34:57
 shared-slice-read-result-6 : tie.Need-shared-slice-read-result-6
 shared-slice-read-result-6 c = search needs
 
--- src/lib.rt:34:72
 add-result-5 : tie.Need-add-result-5
 add-result-5 c = search needs
 
--- src/lib.rt:34:70
 mul-result-7 : tie.Need-mul-result-7
 mul-result-7 c = search needs
 
--- src/lib.rt:34:70
 shared-slice-read-result-7 : tie.Need-shared-slice-read-result-7
 shared-slice-read-result-7 c = search needs
 
--- src/lib.rt:34:83
 add-result-6 : tie.Need-add-result-6
 add-result-6 c = search needs
 
--- src/lib.rt:34:81
 mul-result-8 : tie.Need-mul-result-8
 mul-result-8 c = search needs
 
--- src/lib.rt:34:81
 shared-slice-read-result-8 : tie.Need-shared-slice-read-result-8
 shared-slice-read-result-8 c = search needs
 
--- src/lib.rt:27:1
 returns : tie.Need-returns
 unfolding meetWord
 returns c =

@@ -1,20 +1,15 @@
-use Prim.Native.Nat.{ℕ, _≤_, _<_, _+_, _*_, _-_}
-use mathlib.Core.Path.{_≡_, refl, sym, ap, ap₂, _∙_, subst}
-use mathlib.Core.Bool.{Bool, true, false}
-use mathlib.Core.List.{List}
+-- `pattern::pattern` meets its contract. Assumes nothing.
+use Prim.Native.Nat.{ℕ, _≤_, _<_, _-_}
+use mathlib.Core.Path.{_≡_, sym, _∙_}
 use native.Mathlib.Omega.{arith}
 use lib.ListN.{length}
-use Rattle.csr.specs.Pattern.{row, neighbours}
-use Rattle.pattern.specs.Word.{bit, Done, OtherRows}
+use Rattle.csr.specs.Pattern.{neighbours}
+use Rattle.pattern.specs.Word.{Done}
 use Rattle.pattern.specs.Word.{Clear}
 use Rattle.pattern.proofs.Rows.{done-other}
 use Rattle.pattern.proofs.Whole.{rows-more, clear-less}
 use Rattle.pattern.proofs.pattern.Statement.{statement}
 use Rattle.pattern.proofs.pattern.Tie as tie
-use Rattle.pattern.proofs.pattern.Reads as reads
-use Rattle.pattern.proofs.pattern.Lts as lts
-use Rattle.pattern.proofs.fill_row.Reads as fill-row-reads
-use Rattle.pattern.proofs.seed_row.Reads as seed-row-reads
 
 abbrev Inv-loop : tie.InvT-loop
 Inv-loop off cols m p₀ i₀ p i =
@@ -23,27 +18,21 @@ Inv-loop off cols m p₀ i₀ p i =
 abbrev μ-loop : tie.MeasureT-loop
 μ-loop off cols m p₀ i₀ p i = m - i
 
--- src/lib.rt:142:5
 loop-holds : tie.Need-loop-holds Inv-loop μ-loop
 loop-holds c = (c .before .before .before .pre .1, omega arith, λ a l. absurd (omega arith), λ a l h. c .before .before .before .pre .2 a h)
 
--- src/lib.rt:143:9
 seed-row-requires : tie.Need-seed-row-requires Inv-loop μ-loop
 seed-row-requires c κs = (c .before .before .before .before .before .before .pre .0, omega arith, c .before .before .loop .inv .0, c .before .before .loop .inv .3 (c .before .before .loop .i) (omega arith) (omega (arith, c .before .before .before .before .before .before .pre .0 .few)))
 
--- src/lib.rt:144:9
 fill-row-requires : tie.Need-fill-row-requires Inv-loop μ-loop
 fill-row-requires c κs = (c .before .before .before .seed-row .kept .1 .1 .1 .0 ∙ c .before .before .before .before .before .before .loop .inv .0, omega (arith, c .before .before .before .before .before .before .before .before .before .before .pre .0 .few))
 
--- src/lib.rt:145:9
 add-i : tie.Need-add-i Inv-loop μ-loop
 add-i c = omega (arith, c .before .before .before .before .before .before .before .before .before .before .before .before .before .pre .0 .few)
 
--- src/lib.rt:142:5
 loop-less : tie.Need-loop-less Inv-loop μ-loop
 loop-less c = omega arith
 
--- src/lib.rt:142:5
 loop-again : tie.Need-loop-again Inv-loop μ-loop
 loop-again c =
     let s = c .before .before .before .before .before .before .before .before .before .before .before .before .before in
@@ -59,11 +48,9 @@ loop-again c =
       clear-less nb (l .p) (a .last .1 .1 .1 .0) (f .last .0) (l .i) hi (a .ensures .0) (f .ensures .0) (l .inv .3),
     )
 
--- src/lib.rt:137:1
 same-length : tie.Need-same-length Inv-loop μ-loop
 same-length c = c .before .loop .inv .0 ∙ sym (c .before .before .before .before .before .pre .1)
 
--- src/lib.rt:137:1
 returns : tie.Need-returns Inv-loop μ-loop
 returns c = λ i l. c .before .loop .inv .2 i (omega arith)
 

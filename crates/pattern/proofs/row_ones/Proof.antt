@@ -1,75 +1,58 @@
+-- `pattern::row_ones` meets its contract. Assumes nothing.
 use borrow.Author.Needs.{needs}
 use native.Mathlib.Omega.{arith}
 use lib.ListN.{getD}
-use lib.Count.{ones, ones-le}
-use Prim.Native.Nat.{ℕ, _+_, _*_, _≤_}
+use lib.Count.{ones-le}
+use Prim.Native.Nat.{_+_, _*_}
 use Rattle.pattern.proofs.Rows.{row-ones-law}
 use Rattle.pattern.proofs.row_ones.Statement.{statement}
 use Rattle.pattern.proofs.row_ones.Tie as tie
-use Rattle.pattern.proofs.row_ones.Reads as reads
-use Rattle.pattern.proofs.row_ones.Lts as lts
 
--- src/lib.rt:57:13
 mul-a : tie.Need-mul-a
 mul-a c = search needs
 
--- src/lib.rt:58:21
 mul-result : tie.Need-mul-result
 mul-result c = search needs
 
--- src/lib.rt:58:21
 shared-slice-read-result : tie.Need-shared-slice-read-result
 shared-slice-read-result c = search needs
 
--- src/lib.rt:58:47
 add-result : tie.Need-add-result
 add-result c = search needs
 
--- src/lib.rt:58:45
 mul-result-2 : tie.Need-mul-result-2
 mul-result-2 c = search needs
 
--- src/lib.rt:58:45
 shared-slice-read-result-2 : tie.Need-shared-slice-read-result-2
 shared-slice-read-result-2 c = search needs
 
--- src/lib.rt:58:5
 add-result-2 : tie.Need-add-result-2
 add-result-2 c = omega (arith, ones-le 64 (getD (c .before .before .args .p .now) (c .before .before .args .i * 4) 0) (c .shared-slice-known2 .given (c .before .before .args .i * 4) .fits), ones-le 64 (getD (c .before .before .args .p .now) (c .before .before .args .i * 4 + 1) 0) (c .shared-slice-known2 .given (c .before .before .args .i * 4 + 1) .fits))
 
--- src/lib.rt:58:75
 add-result-3 : tie.Need-add-result-3
 add-result-3 c = search needs
 
--- src/lib.rt:58:73
 mul-result-3 : tie.Need-mul-result-3
 mul-result-3 c = search needs
 
--- src/lib.rt:58:73
 shared-slice-read-result-3 : tie.Need-shared-slice-read-result-3
 shared-slice-read-result-3 c = search needs
 
--- src/lib.rt:58:5
 add-result-4 : tie.Need-add-result-4
 add-result-4 c = omega (arith, ones-le 64 (getD (c .before .before .before .args .p .now) (c .before .before .before .args .i * 4) 0) (c .shared-slice-known3 .given (c .before .before .before .args .i * 4) .fits), ones-le 64 (getD (c .before .before .before .args .p .now) (c .before .before .before .args .i * 4 + 1) 0) (c .shared-slice-known3 .given (c .before .before .before .args .i * 4 + 1) .fits), ones-le 64 (getD (c .before .before .before .args .p .now) (c .before .before .before .args .i * 4 + 2) 0) (c .shared-slice-known3 .given (c .before .before .before .args .i * 4 + 2) .fits))
 
--- src/lib.rt:58:103
 add-result-5 : tie.Need-add-result-5
 add-result-5 c = search needs
 
--- src/lib.rt:58:101
 mul-result-4 : tie.Need-mul-result-4
 mul-result-4 c = search needs
 
--- src/lib.rt:58:101
 shared-slice-read-result-4 : tie.Need-shared-slice-read-result-4
 shared-slice-read-result-4 c = search needs
 
--- src/lib.rt:58:5
 add-result-6 : tie.Need-add-result-6
 add-result-6 c = omega (arith, ones-le 64 (getD (c .before .before .before .before .args .p .now) (c .before .before .before .before .args .i * 4) 0) (c .shared-slice-known4 .given (c .before .before .before .before .args .i * 4) .fits), ones-le 64 (getD (c .before .before .before .before .args .p .now) (c .before .before .before .before .args .i * 4 + 1) 0) (c .shared-slice-known4 .given (c .before .before .before .before .args .i * 4 + 1) .fits), ones-le 64 (getD (c .before .before .before .before .args .p .now) (c .before .before .before .before .args .i * 4 + 2) 0) (c .shared-slice-known4 .given (c .before .before .before .before .args .i * 4 + 2) .fits), ones-le 64 (getD (c .before .before .before .before .args .p .now) (c .before .before .before .before .args .i * 4 + 3) 0) (c .shared-slice-known4 .given (c .before .before .before .before .args .i * 4 + 3) .fits))
 
--- src/lib.rt:53:1
 returns : tie.Need-returns
 returns c = (
   row-ones-law (c .before .before .before .before .args .p .now) (c .before .before .before .before .args .i) (λ k. c .shared-slice-known4 .given k .fits),

@@ -1,20 +1,16 @@
-use Prim.Native.Nat.{ℕ, _≤_, _<_, _+_, _*_, _-_}
-use mathlib.Core.Path.{_≡_, refl, sym, ap, ap₂, _∙_, subst}
+-- `pattern::seed_row` meets its contract. Assumes nothing.
+use Prim.Native.Nat.{ℕ, _≤_, _<_, _+_, _-_}
+use mathlib.Core.Path.{_≡_, refl, sym, _∙_, subst}
 use mathlib.Core.Logic.{⊎-elim}
-use mathlib.Core.Bool.{Bool, true, false}
 use mathlib.Core.List.{List}
 use native.Mathlib.Omega.{arith}
 use lib.ListN.{length}
-use Rattle.csr.specs.Pattern.{row, neighbours}
-use Rattle.pattern.specs.Word.{bit, Put, OtherRows}
+use Rattle.csr.specs.Pattern.{neighbours}
+use Rattle.pattern.specs.Word.{OtherRows}
 use Rattle.pattern.proofs.Rows.{other-put}
 use Rattle.pattern.proofs.Seed.{SeedPart, seed-start, seed-no, seed-yes, seed-end, neighbours-none, neighbours-some}
 use Rattle.pattern.proofs.seed_row.Statement.{statement}
 use Rattle.pattern.proofs.seed_row.Tie as tie
-use Rattle.pattern.proofs.seed_row.Reads as reads
-use Rattle.pattern.proofs.seed_row.Lts as lts
-use Rattle.pattern.proofs.put.Reads as put-reads
-use Rattle.pattern.proofs.shared_rows.Reads as shared-rows-reads
 
 abbrev Inv-loop : tie.InvT-loop
 Inv-loop off cols m p₀ i j₀ p j =
@@ -23,29 +19,23 @@ Inv-loop off cols m p₀ i j₀ p j =
 abbrev μ-loop : tie.MeasureT-loop
 μ-loop off cols m p₀ i j₀ p j = i - j
 
--- src/lib.rt:127:5
 loop-holds : tie.Need-loop-holds Inv-loop μ-loop
 loop-holds c =
     let s = c .before .before .before in
     (s .pre .2, omega arith, λ a b ha hb n. refl, seed-start (neighbours (s .args .off .now) (s .args .cols .now)) (s .args .p .now) (s .args .i) (s .pre .3))
 
--- src/lib.rt:128:12
 shared-rows-requires : tie.Need-shared-rows-requires Inv-loop μ-loop
 shared-rows-requires c κs = (c .before .before .before .before .before .pre .0, c .before .before .before .before .before .pre .1, omega (arith, c .before .before .before .before .before .pre .1))
 
--- src/lib.rt:129:13
 put-requires : tie.Need-put-requires Inv-loop μ-loop
 put-requires c κs = (c .before .before .before .before .loop .inv .0, omega (arith, c .before .before .before .before .before .before .before .before .pre .0 .few, c .before .before .before .before .before .before .before .before .pre .1), omega (arith, c .before .before .before .before .before .before .before .before .pre .0 .few, c .before .before .before .before .before .before .before .before .pre .1))
 
--- src/lib.rt:131:9
 add-j : tie.Need-add-j Inv-loop μ-loop
 add-j c = omega (arith, c .before .before .before .before .before .before .before .pre .0 .few, c .before .before .before .before .before .before .before .pre .1)
 
--- src/lib.rt:127:5
 loop-less : tie.Need-loop-less Inv-loop μ-loop
 loop-less c = omega arith
 
--- src/lib.rt:127:5
 loop-again : tie.Need-loop-again Inv-loop μ-loop
 loop-again c =
     let l = c .before .before .before .loop in
@@ -73,15 +63,12 @@ loop-again c =
     ))
     (c .if1 .came)
 
--- src/lib.rt:133:5
 put-requires-2 : tie.Need-put-requires-2 Inv-loop μ-loop
 put-requires-2 c κs = (c .before .before .loop .inv .0, omega (arith, c .before .before .before .before .before .before .pre .0 .few, c .before .before .before .before .before .before .pre .1), omega (arith, c .before .before .before .before .before .before .pre .0 .few, c .before .before .before .before .before .before .pre .1))
 
--- src/lib.rt:121:1
 same-length : tie.Need-same-length Inv-loop μ-loop
 same-length c = c .before .before .put2 .kept .0 ∙ c .before .before .before .before .before .loop .inv .0 ∙ sym (c .before .before .before .before .before .before .before .before .before .pre .2)
 
--- src/lib.rt:121:1
 returns : tie.Need-returns Inv-loop μ-loop
 returns c =
     let s = c .before .before .before .before .before .before .before .before .before in

@@ -1,16 +1,13 @@
-use Prim.Native.Nat.{ℕ, _≤_, _<_, _+_, _*_, _-_}
-use mathlib.Core.Path.{_≡_, refl, sym, ap, ap₂, _∙_}
+-- `pattern::shared` meets its contract. Assumes nothing.
+use Prim.Native.Nat.{_≤_, _<_, _+_, _-_}
+use mathlib.Core.Path.{_≡_}
 use native.Mathlib.Omega.{arith}
-use native.Mathlib.Numerals.{add-one}
-use borrow.Author.Needs.{needs}
 use borrow.Author.Tests.{ltb-true, ltb-false}
 use lib.ListN.{length, drop}
 use Rattle.csr.specs.Counts.{common}
 use Rattle.pattern.proofs.Merge.{turn-eq, turn-lt, turn-gt, walk-end-a, walk-end-b}
 use Rattle.pattern.proofs.shared.Statement.{statement}
 use Rattle.pattern.proofs.shared.Tie as tie
-use Rattle.pattern.proofs.shared.Reads as reads
-use Rattle.pattern.proofs.shared.Lts as lts
 
 abbrev Inv-loop : tie.InvT-loop
 Inv-loop a b n₀ i₀ j₀ n i j =
@@ -19,43 +16,33 @@ Inv-loop a b n₀ i₀ j₀ n i j =
 abbrev μ-loop : tie.MeasureT-loop
 μ-loop a b n₀ i₀ j₀ n i j = (length a - i) + (length b - j)
 
--- src/lib.rt:85:5
 loop-holds : tie.Need-loop-holds Inv-loop μ-loop
 loop-holds c = omega arith
 
--- src/lib.rt:86:17
 mul-x : tie.Need-mul-x Inv-loop μ-loop
 mul-x c = omega arith
 
--- src/lib.rt:86:17
 shared-slice-read-x : tie.Need-shared-slice-read-x Inv-loop μ-loop
 shared-slice-read-x c = omega arith
 
--- src/lib.rt:87:17
 mul-y : tie.Need-mul-y Inv-loop μ-loop
 mul-y c = omega (arith, ltb-true)
 
--- src/lib.rt:87:17
 shared-slice-read-y : tie.Need-shared-slice-read-y Inv-loop μ-loop
 shared-slice-read-y c = omega (arith, ltb-true)
 
--- src/lib.rt:89:13
 add-n : tie.Need-add-n Inv-loop μ-loop
 add-n c = omega arith
 
--- src/lib.rt:90:13
 add-i : tie.Need-add-i Inv-loop μ-loop
 add-i c = omega arith
 
--- src/lib.rt:91:13
 add-j : tie.Need-add-j Inv-loop μ-loop
 add-j c = omega (arith, ltb-true)
 
--- src/lib.rt:85:5
 loop-less : tie.Need-loop-less Inv-loop μ-loop
 loop-less c = omega (arith, ltb-true)
 
--- src/lib.rt:85:5
 loop-again : tie.Need-loop-again Inv-loop μ-loop
 loop-again c =
     let s = c .before .before .before .before .before .before in
@@ -67,15 +54,12 @@ loop-again c =
       turn-eq (s .args .a .now) (s .args .b .now) (s .pre .0) (s .pre .1) (l .i) (l .j) (l .n) (l .inv .3) (omega arith) m (c .if2 .taken),
     )
 
--- src/lib.rt:93:13
 add-i-2 : tie.Need-add-i-2 Inv-loop μ-loop
 add-i-2 c = omega arith
 
--- src/lib.rt:85:5
 loop-less-2 : tie.Need-loop-less-2 Inv-loop μ-loop
 loop-less-2 c = omega arith
 
--- src/lib.rt:85:5
 loop-again-2 : tie.Need-loop-again-2 Inv-loop μ-loop
 loop-again-2 c =
     let s = c .before .before .before .before .before .before .before in
@@ -87,15 +71,12 @@ loop-again-2 c =
       turn-lt (s .args .a .now) (s .args .b .now) (s .pre .0) (s .pre .1) (l .i) (l .j) (l .n) (l .inv .3) (omega arith) m (c .if3 .taken),
     )
 
--- src/lib.rt:95:13
 add-j-2 : tie.Need-add-j-2 Inv-loop μ-loop
 add-j-2 c = omega (arith, ltb-true)
 
--- src/lib.rt:85:5
 loop-less-3 : tie.Need-loop-less-3 Inv-loop μ-loop
 loop-less-3 c = omega (arith, ltb-true)
 
--- src/lib.rt:85:5
 loop-again-3 : tie.Need-loop-again-3 Inv-loop μ-loop
 loop-again-3 c =
     let s = c .before .before .before .before .before .before .before in
@@ -108,7 +89,6 @@ loop-again-3 c =
       turn-gt (s .args .a .now) (s .args .b .now) (s .pre .0) (s .pre .1) (l .i) (l .j) (l .n) (l .inv .3) (omega arith) m (omega (arith, nq)),
     )
 
--- src/lib.rt:78:1
 returns : tie.Need-returns Inv-loop μ-loop
 returns c =
     let s = c .before .before .before in
@@ -117,7 +97,6 @@ returns c =
       omega arith,
     )
 
--- src/lib.rt:78:1
 returns-2 : tie.Need-returns-2 Inv-loop μ-loop
 returns-2 c =
     let s = c .before .before in

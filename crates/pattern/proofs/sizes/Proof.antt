@@ -1,20 +1,11 @@
-use Prim.Native.Nat.{ℕ, suc, _≤_, _<_, _+_, _*_, _-_}
-use mathlib.Core.Path.{_≡_, refl, sym, ap, ap₂, _∙_, subst}
-use mathlib.Core.Bool.{Bool, true, false}
-use mathlib.Core.List.{List}
+-- `pattern::sizes` meets its contract. Assumes nothing.
+use Prim.Native.Nat.{ℕ, suc, _≤_, _+_, _*_, _-_}
+use mathlib.Core.Path.{_≡_, refl, sym, ap, _∙_}
 use native.Mathlib.Omega.{arith}
-use lib.ListN.{length}
-use Rattle.csr.specs.Pattern.{row, neighbours}
 use Rattle.csr.specs.Counts.{sum, countE, countS, countD}
 use Rattle.pattern.proofs.Whole.{count-E, count-D, sum-next, bothN, commonN, clear-zeros}
 use Rattle.pattern.proofs.sizes.Statement.{statement}
 use Rattle.pattern.proofs.sizes.Tie as tie
-use Rattle.pattern.proofs.sizes.Reads as reads
-use Rattle.pattern.proofs.sizes.Lts as lts
-use Rattle.pattern.proofs.both_ones.Reads as both-ones-reads
-use Rattle.pattern.proofs.count.Reads as count-reads
-use Rattle.pattern.proofs.pattern.Reads as pattern-reads
-use Rattle.pattern.proofs.shared_rows.Reads as shared-rows-reads
 
 abbrev Inv-loop2 : tie.InvT-loop2
 Inv-loop2 off cols m p e s₀ t₀ i j₀ s t j =
@@ -30,61 +21,47 @@ Inv-loop off cols m p e s₀ t₀ i₀ s t i =
 abbrev μ-loop : tie.MeasureT-loop
 μ-loop off cols m p e s₀ t₀ i₀ s t i = m - i
 
--- src/lib.rt:171:27
 slice-aggregate-pattern : tie.Need-slice-aggregate-pattern Inv-loop2 μ-loop2 Inv-loop μ-loop
 slice-aggregate-pattern c = refl
 
--- src/lib.rt:171:5
 pattern-requires : tie.Need-pattern-requires Inv-loop2 μ-loop2 Inv-loop μ-loop
 pattern-requires c κs = (c .before .before .before .pre, refl, λ i h. clear-zeros 1024 i)
 
--- src/lib.rt:172:19
 slice-aggregate-count : tie.Need-slice-aggregate-count Inv-loop2 μ-loop2 Inv-loop μ-loop
 slice-aggregate-count c = sym (c .before .before .pattern .kept .1 .1 .1 .0)
 
--- src/lib.rt:172:9
 count-requires : tie.Need-count-requires Inv-loop2 μ-loop2 Inv-loop μ-loop
 count-requires c κs = (c .before .before .pattern .kept .1 .1 .1 .0, c .before .before .before .before .before .before .pre .few)
 
--- src/lib.rt:176:5
 loop-holds : tie.Need-loop-holds Inv-loop2 μ-loop2 Inv-loop μ-loop
 unfolding sum
 loop-holds c = omega arith
 
--- src/lib.rt:178:9
 loop2-holds : tie.Need-loop2-holds Inv-loop2 μ-loop2 Inv-loop μ-loop
 unfolding sum
 loop2-holds c = omega arith
 
--- src/lib.rt:179:18
 shared-rows-requires : tie.Need-shared-rows-requires Inv-loop2 μ-loop2 Inv-loop μ-loop
 shared-rows-requires c κs = (c .before .before .before .before .before .before .before .before .before .before .before .pre, omega arith, omega arith)
 
--- src/lib.rt:179:13
 add-s : tie.Need-add-s Inv-loop2 μ-loop2 Inv-loop μ-loop
 add-s c = omega (arith, c .before .before .before .before .before .before .before .before .before .before .before .before .pre .few)
 
--- src/lib.rt:180:28
 slice-aggregate-both-ones : tie.Need-slice-aggregate-both-ones Inv-loop2 μ-loop2 Inv-loop μ-loop
 slice-aggregate-both-ones c = sym (c .before .before .before .before .before .before .before .before .before .pattern .kept .1 .1 .1 .0)
 
--- src/lib.rt:180:18
 both-ones-requires : tie.Need-both-ones-requires Inv-loop2 μ-loop2 Inv-loop μ-loop
 both-ones-requires c κs = (c .before .before .before .before .before .before .before .before .before .pattern .kept .1 .1 .1 .0, omega (arith, c .before .before .before .before .before .before .before .before .before .before .before .before .before .pre .few), omega (arith, c .before .before .before .before .before .before .before .before .before .before .before .before .before .pre .few))
 
--- src/lib.rt:180:13
 add-t : tie.Need-add-t Inv-loop2 μ-loop2 Inv-loop μ-loop
 add-t c = omega (arith, c .before .before .before .before .before .before .before .before .before .before .before .before .before .before .pre .few)
 
--- src/lib.rt:181:13
 add-j : tie.Need-add-j Inv-loop2 μ-loop2 Inv-loop μ-loop
 add-j c = omega (arith, c .before .before .before .before .before .before .before .before .before .before .before .before .before .before .pre .few)
 
--- src/lib.rt:178:9
 loop2-less : tie.Need-loop2-less Inv-loop2 μ-loop2 Inv-loop μ-loop
 loop2-less c = omega arith
 
--- src/lib.rt:178:9
 loop2-again : tie.Need-loop2-again Inv-loop2 μ-loop2 Inv-loop μ-loop
 unfolding bothN commonN
 loop2-again c =
@@ -99,15 +76,12 @@ loop2-again c =
       omega (arith, l .inv .4, c .both-ones .ensures .1),
     )
 
--- src/lib.rt:183:9
 add-i : tie.Need-add-i Inv-loop2 μ-loop2 Inv-loop μ-loop
 add-i c = omega (arith, c .before .before .before .before .before .before .before .before .before .before .before .pre .few)
 
--- src/lib.rt:176:5
 loop-less : tie.Need-loop-less Inv-loop2 μ-loop2 Inv-loop μ-loop
 loop-less c = omega arith
 
--- src/lib.rt:176:5
 loop-again : tie.Need-loop-again Inv-loop2 μ-loop2 Inv-loop μ-loop
 loop-again c =
     let a = c .before .before .before .before .before .before .before .before .before .before .before .args in
@@ -137,11 +111,9 @@ total c =
           ∙ count-D (s .args .off .now) (s .args .cols .now) p (s .args .m) (s .pre .few) (c .before .before .before .before .before .pattern .ensures),
     )
 
--- src/lib.rt:185:22
 sub-t21 : tie.Need-sub-t21 Inv-loop2 μ-loop2 Inv-loop μ-loop
 sub-t21 c = omega (arith, total c .0, total c .1)
 
--- src/lib.rt:166:1
 returns : tie.Need-returns Inv-loop2 μ-loop2 Inv-loop μ-loop
 unfolding countS commonN
 returns c =
@@ -150,6 +122,7 @@ returns c =
       total c .0,
       c .before .loop .inv .1 ∙ ap (λ (n : ℕ). sum n (λ a. sum (suc a) (λ b. commonN (s .args .off .now) (s .args .cols .now) a b))) e,
       omega (arith, total c .0, total c .1),
+      omega (arith, c .before .loop .inv .3, s .pre .few),
     )
 
 pub sizes-spec : {M : Type 1} → statement M

@@ -1,0 +1,138 @@
+-- `csr::ask` meets its contract: each return follows the definition's tests in their order. Assumes nothing.
+use mathlib.Core.Path.{sym, _∙_}
+use lib.Dec.{leb}
+use borrow.Author.Needs.{needs}
+use borrow.Author.Tests.{lt-ltb, le-ltb, leb-true, not-true, not-false}
+use Rattle.csr.specs.Questions.{firstNo}
+use Rattle.csr.proofs.Right.{right, and-right}
+use Rattle.csr.proofs.ask.Statement.{statement}
+use Rattle.csr.proofs.ask.Tie as tie
+
+between-requires : tie.Need-between-requires
+between-requires c κs = search needs
+
+new-requires : tie.Need-new-requires
+new-requires c κs = search needs
+
+returns : tie.Need-returns
+unfolding firstNo
+returns c =
+    c .new .ensures ∙ simp (
+      ← c .before .before .between .ensures,
+      not-true (c .before .before .between .result) (c .before .if1 .taken),
+    )
+
+between-requires-2 : tie.Need-between-requires-2
+between-requires-2 c κs = search needs
+
+new-requires-2 : tie.Need-new-requires-2
+new-requires-2 c κs = search needs
+
+returns-2 : tie.Need-returns-2
+unfolding firstNo
+returns-2 c =
+    c .new2 .ensures ∙ simp (
+      ← c .before .before .before .before .between .ensures,
+      not-false (c .before .before .before .before .between .result) (c .before .before .before .if1 .left),
+      ← c .before .before .between2 .ensures,
+      not-true (c .before .before .between2 .result) (c .before .if2 .taken),
+    )
+
+offsets-right-requires : tie.Need-offsets-right-requires
+offsets-right-requires c κs =
+    let m = c .before .before .before .before .before .before .args .m in
+    leb-true m 256 (and-right (leb 1 m) (leb m 256) (sym (c .before .before .before .between .ensures) ∙ not-false (c .before .before .before .between .result) (c .before .before .if1 .left)))
+
+new-requires-3 : tie.Need-new-requires-3
+new-requires-3 c κs = search needs
+
+returns-3 : tie.Need-returns-3
+unfolding firstNo
+returns-3 c =
+    c .new3 .ensures ∙ simp (
+      ← c .before .before .before .before .before .before .between .ensures,
+      not-false (c .before .before .before .before .before .before .between .result) (c .before .before .before .before .before .if1 .left),
+      ← c .before .before .before .before .between2 .ensures,
+      not-false (c .before .before .before .before .between2 .result) (c .before .before .before .if2 .left),
+      ← c .before .before .offsets-right .ensures,
+      not-true (c .before .before .offsets-right .result) (c .before .if3 .taken),
+    )
+
+first-empty-requires : tie.Need-first-empty-requires
+first-empty-requires c κs = right _ _ _ _ (sym (c .before .offsets-right .ensures) ∙ not-false (c .before .offsets-right .result) (c .if3 .left)) .count
+
+new-requires-4 : tie.Need-new-requires-4
+new-requires-4 c κs = search needs
+
+returns-4 : tie.Need-returns-4
+unfolding firstNo
+returns-4 c =
+    c .new4 .ensures ∙ simp (
+      ← c .before .before .before .before .before .before .before .before .between .ensures,
+      not-false (c .before .before .before .before .before .before .before .before .between .result) (c .before .before .before .before .before .before .before .if1 .left),
+      ← c .before .before .before .before .before .before .between2 .ensures,
+      not-false (c .before .before .before .before .before .before .between2 .result) (c .before .before .before .before .before .if2 .left),
+      ← c .before .before .before .before .offsets-right .ensures,
+      not-false (c .before .before .before .before .offsets-right .result) (c .before .before .before .if3 .left),
+      ← c .before .before .first-empty .ensures,
+      lt-ltb _ _ (c .before .if4 .taken),
+    )
+
+first-bad-requires : tie.Need-first-bad-requires
+first-bad-requires c κs = right _ _ _ _ (sym (c .before .before .before .offsets-right .ensures) ∙ not-false (c .before .before .before .offsets-right .result) (c .before .before .if3 .left))
+
+new-requires-5 : tie.Need-new-requires-5
+new-requires-5 c κs = search needs
+
+returns-5 : tie.Need-returns-5
+unfolding firstNo
+returns-5 c =
+    c .new5 .ensures ∙ simp (
+      ← c .before .before .before .before .before .before .before .before .before .before .between .ensures,
+      not-false (c .before .before .before .before .before .before .before .before .before .before .between .result) (c .before .before .before .before .before .before .before .before .before .if1 .left),
+      ← c .before .before .before .before .before .before .before .before .between2 .ensures,
+      not-false (c .before .before .before .before .before .before .before .before .between2 .result) (c .before .before .before .before .before .before .before .if2 .left),
+      ← c .before .before .before .before .before .before .offsets-right .ensures,
+      not-false (c .before .before .before .before .before .before .offsets-right .result) (c .before .before .before .before .before .if3 .left),
+      ← c .before .before .before .before .first-empty .ensures,
+      le-ltb _ _ (c .before .before .before .if4 .left),
+      ← c .before .before .first-bad .ensures,
+      lt-ltb _ _ (c .before .if5 .taken),
+    )
+
+returns-6 : tie.Need-returns-6
+unfolding firstNo
+returns-6 c =
+    simp (
+      ← c .before .before .before .before .before .before .before .before .before .between .ensures,
+      not-false (c .before .before .before .before .before .before .before .before .before .between .result) (c .before .before .before .before .before .before .before .before .if1 .left),
+      ← c .before .before .before .before .before .before .before .between2 .ensures,
+      not-false (c .before .before .before .before .before .before .before .between2 .result) (c .before .before .before .before .before .before .if2 .left),
+      ← c .before .before .before .before .before .offsets-right .ensures,
+      not-false (c .before .before .before .before .before .offsets-right .result) (c .before .before .before .before .if3 .left),
+      ← c .before .before .before .first-empty .ensures,
+      le-ltb _ _ (c .before .before .if4 .left),
+      ← c .before .first-bad .ensures,
+      le-ltb _ _ (c .if5 .left),
+    )
+
+pub ask-spec : {M : Type 1} → statement M
+ask-spec =
+    tie.close
+    (tie.spec
+    between-requires
+    new-requires
+    returns
+    between-requires-2
+    new-requires-2
+    returns-2
+    offsets-right-requires
+    new-requires-3
+    returns-3
+    first-empty-requires
+    new-requires-4
+    returns-4
+    first-bad-requires
+    new-requires-5
+    returns-5
+    returns-6)

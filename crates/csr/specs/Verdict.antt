@@ -1,0 +1,36 @@
+-- What an answer says. Definitions only.
+use mathlib.Core.Bool.{Bool, true, false}
+use Prim.Native.Nat.{ℕ}
+use Rattle.csr.specs.declared.Refusal.{Refusal}
+use Rattle.csr.specs.declared.Asked.{Asked}
+use Rattle.csr.specs.declared.Asked.the-variants.{Good, Refused}
+
+pub data Verdict : Type 0 where
+  -- every question that was asked got a yes
+  passed : Verdict
+  -- plan's W words
+  planned : ℕ → Verdict
+  -- the test at which solve accepts
+  accepted : ℕ → Verdict
+  -- the question, the place and the lane
+  refused : ℕ → ℕ → ℕ → Verdict
+
+-- a yes goes on, a no is the answer
+abbrev pub ask : Bool → Verdict → Verdict → Verdict
+ask true next other = next
+ask false next other = other
+
+-- the questions of a first part, then what follows them
+abbrev pub andThen : Verdict → Verdict → Verdict
+andThen passed next = next
+andThen (planned w) next = planned w
+andThen (accepted k) next = accepted k
+andThen (refused q p l) next = refused q p l
+
+abbrev pub refusal : Refusal → Verdict
+refusal r = refused (r .question) (r .place) (r .lane)
+
+-- each case of the answer to questions 1 to 5, by document 01's number and values
+abbrev pub told : Asked → Verdict
+told Good = passed
+told (Refused r) = refusal r

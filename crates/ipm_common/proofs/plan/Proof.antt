@@ -1,0 +1,61 @@
+-- `ipm_common::plan` meets its contract: after five yeses question 6, else the first no. Assumes nothing.
+use mathlib.Core.Path.{sym, ap, _∙_}
+use mathlib.Core.List.{_++_}
+use lib.ListN.{length, drop}
+use borrow.Author.Needs.{needs}
+use Rattle.csr.specs.Verdict.{Verdict, andThen}
+use Rattle.csr.specs.Verdict as verdict
+use Rattle.csr.specs.Counts.{sizeW}
+use Rattle.csr.proofs.Yes.{accepted-of}
+use Rattle.lists.specs.Lists.{planWords}
+use Rattle.ipm_common.specs.Plan.{roomVerdict, planVerdict, planIndex, left}
+use Rattle.ipm_common.proofs.plan.Statement.{statement}
+use Rattle.ipm_common.proofs.plan.Tie as tie
+
+ask-requires : tie.Need-ask-requires
+ask-requires c κs = search needs
+
+enum-told : tie.Need-enum-told
+enum-told c = search needs
+
+plan-accepted-requires : tie.Need-plan-accepted-requires
+plan-accepted-requires c κs =
+    let a = c .before .before .before .before .before .before .before .args in
+    accepted-of (a .m) (a .n) (a .offsets .now) (a .columns .now) (length (a .columns .now))
+    (sym (c .before .before .before .ask .ensures) ∙ ap verdict.told (c .before .enum-told .given .1))
+
+enum-known-r : tie.Need-enum-known-r
+enum-known-r c = search needs
+
+same-length : tie.Need-same-length
+same-length c = search needs
+
+returns : tie.Need-returns
+unfolding planVerdict planIndex
+returns c =
+    let a = c .before .before .before .before .before .before .before .before .before .before .args in
+    let room = roomVerdict (a .m) (a .n) (a .offsets .now) (a .columns .now) (length (a .index .now)) in
+    let new = planWords (a .offsets .now) (a .columns .now) (a .m) (a .n) ++ drop (sizeW (a .offsets .now) (a .columns .now) (a .m) (a .n)) (a .index .now) in
+    let said = c .before .before .plan-accepted .ensures .0 ∙ ap (λ (v : Verdict). andThen v room) (sym (ap verdict.told (c .before .before .before .before .enum-told .given .1)) ∙ c .before .before .before .before .before .before .ask .ensures) in
+    (said, c .before .before .plan-accepted .ensures .1 ∙ ap (λ (v : Verdict). left v new (a .index .now)) said)
+
+returns-2 : tie.Need-returns-2
+unfolding planVerdict planIndex
+returns-2 c =
+    let a = c .before .before .before .before .before .before .before .args in
+    let room = roomVerdict (a .m) (a .n) (a .offsets .now) (a .columns .now) (length (a .index .now)) in
+    let new = planWords (a .offsets .now) (a .columns .now) (a .m) (a .n) ++ drop (sizeW (a .offsets .now) (a .columns .now) (a .m) (a .n)) (a .index .now) in
+    let said = ap (λ (v : Verdict). andThen v room) (sym (ap verdict.told (c .before .r .given .1)) ∙ c .before .before .before .ask .ensures) in
+    (said, ap (λ (v : Verdict). left v new (a .index .now)) said)
+
+pub plan-spec : {M : Type 1} → statement M
+plan-spec =
+    tie.close
+    (tie.spec
+    ask-requires
+    enum-told
+    plan-accepted-requires
+    enum-known-r
+    same-length
+    returns
+    returns-2)

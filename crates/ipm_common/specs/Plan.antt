@@ -1,0 +1,41 @@
+-- The six questions of plan, its answer and what it leaves in the index memory. Definitions only.
+use mathlib.Core.List.{List, _++_}
+use Prim.Native.Nat.{ℕ}
+use lib.Dec.{leb}
+use lib.ListN.{length, drop}
+use Rattle.csr.specs.Verdict.{Verdict, passed, planned, accepted, refused, ask, andThen, refusal}
+use Rattle.csr.specs.Questions.{firstNo}
+use Rattle.csr.specs.Counts.{sizeW}
+use Rattle.lists.specs.Lists.{planWords}
+use Rattle.ipm_common.specs.declared.PlanAnswer.{PlanAnswer}
+use Rattle.ipm_common.specs.declared.PlanAnswer.the-variants.{Planned, Refused}
+
+-- each case of the answer, by document 01's number and values
+abbrev pub told : PlanAnswer → Verdict
+told (Planned w) = planned w
+told (Refused r) = refusal r
+
+-- question 6: has the index memory at least W words?
+unfoldable pub roomVerdict : ℕ → ℕ → List ℕ → List ℕ → ℕ → Verdict
+unfolding sizeW
+roomVerdict m n offsets columns words = ask (leb (sizeW offsets columns m n) words) (planned (sizeW offsets columns m n)) (refused 6 0 0)
+
+-- questions 1 to 6; plan is lent no values
+unfoldable pub planVerdict : ℕ → ℕ → List ℕ → List ℕ → ℕ → Verdict
+unfolding firstNo roomVerdict
+planVerdict m n offsets columns words = andThen (firstNo m n offsets columns (length columns)) (roomVerdict m n offsets columns words)
+
+-- a plan takes the place of what was there, a no leaves it
+abbrev pub left : Verdict → List ℕ → List ℕ → List ℕ
+left passed new old = old
+left (planned w) new old = new
+left (accepted k) new old = old
+left (refused q p l) new old = old
+
+-- the index memory after plan: the W words and the old rest, or as before
+unfoldable pub planIndex : ℕ → ℕ → List ℕ → List ℕ → List ℕ → List ℕ
+unfolding planVerdict sizeW
+planIndex m n offsets columns index =
+    left (planVerdict m n offsets columns (length index))
+    (planWords offsets columns m n ++ drop (sizeW offsets columns m n) index)
+    index
