@@ -1,11 +1,15 @@
 // The reading program's record and its answers: from bytes to the arguments of a solve, and from an answer to its text.
+mod answer;
 mod fields;
 mod little;
+mod memory;
 mod text;
 
+pub use answer::respond;
 pub use fields::read_floats;
 pub use fields::read_header;
 pub use fields::read_shorts;
+pub use little::le32;
 pub use text::put_accepted;
 pub use text::put_input;
 pub use text::put_refused;
