@@ -3,7 +3,8 @@ use mathlib.Core.Path.{_≡_, sym, ap, ap₂, _∙_}
 use Prim.Native.Nat.{ℕ}
 use Rattle.csr.specs.declared.Refusal.{Refusal}
 use Rattle.csr.specs.Verdict.{Verdict}
-use Rattle.ipm_simd.specs.Solve.{Given, Buffers, told, Solved}
+use Rattle.machine.specs.Demand3.{Buffers}
+use Rattle.ipm_simd.specs.Solve.{Given, told, Solved}
 use Rattle.ipm_simd.specs.declared.SolveAnswer.{SolveAnswer}
 use Rattle.ipm_simd.specs.declared.SolveAnswer.the-variants.{Accepted, Refused}
 use Rattle.record.specs.Text.{acceptedText, refusedText}

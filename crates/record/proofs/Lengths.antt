@@ -11,7 +11,8 @@ use Rattle.io.specs.Digits.{glyph}
 use Rattle.lanes.specs.Lists.{at}
 use Rattle.lists.specs.Cat.{cat}
 use Rattle.csr.specs.Verdict.{Verdict, passed, planned, accepted, refused}
-use Rattle.ipm_simd.specs.Solve.{Given, Buffers, solveVerdict, solveBuffers}
+use Rattle.machine.specs.Demand3.{Buffers}
+use Rattle.ipm_simd.specs.Solve.{Given, solveVerdict, solveBuffers}
 use Rattle.record.specs.Text.{ascii, decimalTo, decimalText, hexText, wholeText, floatText, lineText, acceptedText, refusedText, inputText, space, lineFeed}
 use Rattle.record.specs.Answer.{verdictText, solveText}
 use Rattle.record.proofs.Texts.{length-digits}

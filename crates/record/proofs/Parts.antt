@@ -8,7 +8,8 @@ use lib.Seq.{length-take-le, take-at, ext-getD, getD-take, getD-drop}
 use lib.Ieee.{Float, binary64, ofBits}
 use Rattle.lanes.specs.Lists.{grow, vec}
 use Rattle.lanes.proofs.Lists.{grow-length, grow-at}
-use Rattle.ipm_simd.specs.Solve.{Given, Buffers, given, lent}
+use Rattle.machine.specs.Demand3.{Buffers}
+use Rattle.ipm_simd.specs.Solve.{Given, given, lent}
 use Rattle.record.specs.declared.Sizes.{Sizes}
 use Rattle.record.specs.Little.{le2, le8, shorts, floats}
 use Rattle.record.specs.Record.{mOf, nOf, tOf, columnsAt, valuesAt, tolerancesAt, bAt, cAt, sizesOf, Whole}

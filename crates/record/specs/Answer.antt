@@ -6,7 +6,8 @@ use Prim.Native.Nat.{ℕ, _+_, _*_, _≤_}
 use lib.ListN.{replicate, take, drop}
 use lib.Ieee.{Float, binary64, ofBits}
 use Rattle.csr.specs.Verdict.{Verdict, passed, planned, accepted, refused}
-use Rattle.ipm_simd.specs.Solve.{Given, Buffers, given, lent, solveVerdict, solveBuffers}
+use Rattle.machine.specs.Demand3.{Buffers}
+use Rattle.ipm_simd.specs.Solve.{Given, given, lent, solveVerdict, solveBuffers}
 use Rattle.record.specs.declared.Sizes.{Sizes}
 use Rattle.record.specs.Record.{mOf, nOf, sOf, limitOf, offsetsOf, columnsOf, valuesOf, tolerancesOf, bOf, cOf, wellFormed}
 use Rattle.record.specs.Text.{acceptedText, refusedText, inputText}

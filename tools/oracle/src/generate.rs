@@ -54,7 +54,7 @@ fn slack_rows(random: &mut Random, m: usize) -> usize {
 }
 
 /// Each lane's tolerances are one number three times.
-fn lane_tolerances(by_lane: [f64; LANES]) -> Vec<f64> {
+pub fn lane_tolerances(by_lane: [f64; LANES]) -> Vec<f64> {
     by_lane.repeat(3)
 }
 
@@ -74,9 +74,8 @@ fn plain_values(random: &mut Random, count: usize) -> Vec<f64> {
 
 /// Gives b and c such that some x, w, y and z above zero meet every row and column, so that a best x exists. The
 /// numbers have a size of their own in each lane.
-fn give_sides(random: &mut Random, problem: &mut Problem) {
+pub fn give_sides(random: &mut Random, problem: &mut Problem, scales: [f64; LANES]) {
     let (m, n) = (problem.matrix.m, problem.matrix.n);
-    let scales: [f64; LANES] = std::array::from_fn(|_| random.pick(&[0.01, 1.0, 1.0, 100.0, 1e6]));
     let x = floats(random, LANES * n, 0.5, 5.0);
     let y = floats(random, LANES * m, 0.1, 3.0);
     let rests = floats(random, LANES * m, 0.1, 9.0);
@@ -108,7 +107,8 @@ pub fn solvable(random: &mut Random, most_rows: usize, most_columns: usize) -> P
         matrix,
         ..Problem::default()
     };
-    give_sides(random, &mut problem);
+    let scales = std::array::from_fn(|_| random.pick(&[0.01, 1.0, 1.0, 100.0, 1e6]));
+    give_sides(random, &mut problem, scales);
     problem
 }
 

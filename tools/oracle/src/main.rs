@@ -18,6 +18,7 @@ mod reference;
 #[cfg(ipm_c)]
 mod rooms;
 mod rubbish;
+mod rust;
 mod unchanged;
 
 use std::io::{Read, Write};
@@ -100,7 +101,7 @@ fn show_plan(file: &str, binary: bool) -> Result<(), String> {
             print!("{}", problem::Answer::Refused(no));
             return Ok(());
         }
-        for (name, list) in plan::NAMES.iter().zip(unchanged::lists(&problem.matrix)) {
+        for (name, list) in plan::NAMES.iter().zip(rust::lists(&problem.matrix)) {
             if binary {
                 let bytes: Vec<u8> = list.iter().flat_map(|word| word.to_le_bytes()).collect();
                 std::io::stdout().write_all(&bytes).map_err(|e| e.to_string())?;

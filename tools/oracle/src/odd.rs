@@ -1,7 +1,8 @@
 //! What the Rust does with inputs that questions 1 to 10 refuse: docs/DIFFERENCES.md cites these lines.
 
 use crate::problem::{LANES, Matrix, Problem};
-use crate::unchanged::{caught, lists, solve_watched};
+use crate::rust::lists;
+use crate::unchanged::{caught, solve_watched};
 
 fn problem(n: usize, rows: &[&[usize]], s: usize, tolerance: f64) -> Problem {
     let rows: Vec<Vec<usize>> = rows.iter().map(|row| row.to_vec()).collect();

@@ -2,45 +2,18 @@
 
 use std::any::Any;
 use std::cell::Cell;
-use std::num::NonZeroUsize;
 use std::panic::{AssertUnwindSafe, catch_unwind};
 
-use ipm_common::SparseNormalCholeskyIndices;
-use ipm_simd::{PathFollowingDirectSimdSolver, Tolerances, inside};
-use nalgebra_sparse::CsrMatrix;
-use wide::{f64x4, watch};
+use ipm_simd::{PathFollowingDirectSimdSolver, inside};
+use wide::watch;
 
 use crate::backend::{Backend, Numbers, Test, Told, Trace};
-use crate::plan::Lists;
-use crate::problem::{Answer, LANES, Matrix, Planned, Problem, Refusal, settled_bits};
+use crate::problem::{Answer, Matrix, Planned, Problem, Refusal, settled_bits};
 use crate::questions::{Room, ask_matrix, ask_solve};
+use crate::rust::{lists, solve_with, solver};
 
 const NAN_PANIC: &str = "NaN encountered during IPM solve!";
 const LIMIT_PANIC: &str = "Interior point method failed to converged all SIMD lanes.";
-
-fn four(numbers: &[f64]) -> Vec<f64x4> {
-    numbers.as_chunks::<LANES>().0.iter().map(|&group| f64x4::new(group)).collect()
-}
-
-fn sizes(words: &[u32]) -> Vec<usize> {
-    words.iter().map(|&word| word as usize).collect()
-}
-
-fn solver(problem: &Problem) -> PathFollowingDirectSimdSolver {
-    let matrix = &problem.matrix;
-    let (offsets, columns) = (sizes(&matrix.offsets), sizes(&matrix.columns));
-    let values = problem.values.clone();
-    PathFollowingDirectSimdSolver::from_data(matrix.m, matrix.n, offsets, columns, values, problem.s)
-}
-
-fn solve_with(solver: &mut PathFollowingDirectSimdSolver, problem: &Problem) -> Vec<f64> {
-    let tolerances = four(&problem.tolerances);
-    let tolerances =
-        Tolerances { primal_feasibility: tolerances[0], dual_feasibility: tolerances[1], optimality: tolerances[2] };
-    let limit = NonZeroUsize::new(problem.limit).expect("a limit above 0");
-    let x = solver.solve(&four(&problem.b), &four(&problem.c), &tolerances, limit);
-    x.iter().flat_map(|entry| entry.to_array()).collect()
-}
 
 fn numbers(solver: &PathFollowingDirectSimdSolver) -> Numbers {
     let all = inside::numbers(solver).concat();
@@ -101,34 +74,6 @@ fn answer_of(end: Result<Vec<f64>, String>, tests: &[Test]) -> Result<Answer, St
         }
         Err(text) => Err(format!("unexpected panic: {text}")),
     }
-}
-
-/// The thirteen lists of the Rust, then the transpose: offsets, rows and the places of the entries.
-pub fn lists(matrix: &Matrix) -> Lists {
-    let places = (0..matrix.entries() as u32).collect();
-    let (offsets, columns) = (sizes(&matrix.offsets), sizes(&matrix.columns));
-    let a = CsrMatrix::try_from_csr_data(matrix.m, matrix.n, offsets, columns, places).expect("a right matrix");
-    let rust = SparseNormalCholeskyIndices::from_matrix(&a);
-    let at = a.transpose();
-    let words = |sizes: &[usize]| sizes.iter().map(|&size| size as u32).collect();
-    [
-        rust.anorm_indptr,
-        rust.anorm_indptr_i,
-        rust.anorm_indptr_j,
-        rust.anorm_indices,
-        rust.ldecomp_indptr,
-        rust.ldecomp_indptr_i,
-        rust.ldecomp_indptr_j,
-        rust.lindptr,
-        rust.ldiag_indptr,
-        rust.lindices,
-        rust.ltindptr,
-        rust.ltindices,
-        rust.ltmap,
-        words(at.row_offsets()),
-        words(at.col_indices()),
-        at.values().to_vec(),
-    ]
 }
 
 pub struct Unchanged;

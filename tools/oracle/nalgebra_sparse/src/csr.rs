@@ -75,18 +75,26 @@ impl<T> CsrMatrix<T> {
 }
 
 impl<T: Clone> CsrMatrix<T> {
+    /// By counting: how many entries each column has, then each entry to its column, rows rising.
     pub fn transpose(&self) -> Self {
-        let mut entries: Vec<Vec<(usize, T)>> = vec![Vec::new(); self.columns_count];
+        let mut row_offsets = vec![0; self.columns_count + 1];
+        for &column in &self.col_indices {
+            row_offsets[column + 1] += 1;
+        }
+        for column in 0..self.columns_count {
+            row_offsets[column + 1] += row_offsets[column];
+        }
+        let mut next = row_offsets.clone();
+        let mut col_indices = vec![0; self.col_indices.len()];
+        let mut values = self.values.clone();
         for row in 0..self.nrows() {
             for place in self.row_offsets[row]..self.row_offsets[row + 1] {
-                entries[self.col_indices[place]].push((row, self.values[place].clone()));
+                let to = &mut next[self.col_indices[place]];
+                col_indices[*to] = row;
+                values[*to] = self.values[place].clone();
+                *to += 1;
             }
         }
-        let mut row_offsets = vec![0];
-        for column in &entries {
-            row_offsets.push(row_offsets[row_offsets.len() - 1] + column.len());
-        }
-        let (col_indices, values) = entries.into_iter().flatten().unzip();
         Self { columns_count: self.nrows(), row_offsets, col_indices, values }
     }
 }

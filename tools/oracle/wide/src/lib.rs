@@ -5,6 +5,7 @@
 //! SSE2 instructions (addpd, mulpd, divpd, sqrtpd, maxpd), two for each operation, as the real crate does on x86-64
 //! unless more is asked for. So times taken with this stand-in are fair to the Rust.
 
+#[cfg(feature = "watch")]
 pub mod watch;
 
 use std::array::from_fn;
@@ -79,6 +80,7 @@ impl f64x4 {
     #[inline(always)]
     pub fn is_nan(self) -> Self {
         let answer = self.each(|p| mask(p.is_nan()));
+        #[cfg(feature = "watch")]
         watch::note_nan(answer.yeses());
         answer
     }
@@ -96,6 +98,7 @@ impl f64x4 {
     /// The Rust asks this of the lanes that are done, so here they are noted.
     #[inline(always)]
     pub fn all(self) -> bool {
+        #[cfg(feature = "watch")]
         watch::note_done(self.yeses());
         self.yeses() == [true; 4]
     }

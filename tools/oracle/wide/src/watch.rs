@@ -1,6 +1,6 @@
 //! What each test of the Rust's solve said, lane by lane. The Rust itself tells only the first x or a panic; it asks
-//! `is_nan` once and then `all` in each test, and that is where this notes the answers. Off unless started: a solve
-//! that is timed then pays for one thread-local read a test.
+//! `is_nan` once and then `all` in each test, and that is where this notes the answers. Off unless started, and
+//! left out where the feature `watch` is off, as in a bench.
 
 use std::cell::RefCell;
 
