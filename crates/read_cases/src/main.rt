@@ -38,7 +38,7 @@ fn read_count(file: i32) -> Count {
     if n < 4 {
         return Count::Broken;
     }
-    Count::Bytes(record::le32(&word, 0) as usize)
+    Count::Bytes(record::le32(&word, 0))
 }
 
 // Reads k bytes to the front of a buffer, and answers whether there were so many.

@@ -8,7 +8,7 @@ use borrow.Author.Tests.{eq-eqb, ne-eqb, eqb-true, leb-true}
 use lib.Dec.{eqb, leb}
 use lib.ListN.{length}
 use Rattle.record.specs.declared.Header.the-variants.{Mismatch, Matches}
-use Rattle.record.specs.Record.{lengthOf, kindOf, mOf, nOf, sOf, limitOf, tOf, endAt, within, wellFormed, sizesOf, headerOf, Whole}
+use Rattle.record.specs.Record.{mostRows, mostColumns, mostEntries, lengthOf, kindOf, mOf, nOf, sOf, limitOf, tOf, endAt, within, wellFormed, sizesOf, headerOf, Whole}
 use Rattle.record.specs.declared.Sizes.{Sizes}
 use Rattle.record.specs.Text.{inputText}
 use Rattle.record.specs.Answer.{solveText, givenOf, lentFor, answerText}
@@ -79,12 +79,12 @@ module _ (s : List ℕ) where
   own-whole w =
       let rest = and-right (eqb (kindOf s) 1) _ (and-right (eqb (length s) (4 + lengthOf s)) _ w) in
       let sized = and-left (within (mOf s) (nOf s) (tOf s)) _ rest in
-      let less = and-right (leb (mOf s) 16) _ sized in
+      let less = and-right (leb (mOf s) mostRows) _ sized in
       record {
         sizes = refl;
-        rows = leb-true (mOf s) 16 (and-left (leb (mOf s) 16) _ sized);
-        columns = leb-true (nOf s) 32 (and-left (leb (nOf s) 32) _ less);
-        entries = leb-true (tOf s) 128 (and-right (leb (nOf s) 32) _ less);
+        rows = leb-true (mOf s) mostRows (and-left (leb (mOf s) mostRows) _ sized);
+        columns = leb-true (nOf s) mostColumns (and-left (leb (nOf s) mostColumns) _ less);
+        entries = leb-true (tOf s) mostEntries (and-right (leb (nOf s) mostColumns) _ less);
         ends = eqb-true (length s) _ (and-right (within (mOf s) (nOf s) (tOf s)) _ rest);
       }
 
@@ -98,7 +98,7 @@ module _ (s : List ℕ) where
   pub whole : (z : Sizes) → headerOf s ≡ Matches z → Whole s z
   whole z h = let k = matched z h in subst (λ (y : Sizes). Whole s y) (sym (k .1)) (own-whole (k .0))
 
-  pub narrow : (z : Sizes) → headerOf s ≡ Matches z → nOf s ≤ 32
+  pub narrow : (z : Sizes) → headerOf s ≡ Matches z → nOf s ≤ mostColumns
   narrow z h = own-whole (matched z h .0) .columns
 
   pub matched-text : (z : Sizes) → headerOf s ≡ Matches z → solveText (givenOf s) (lentFor (nOf s)) ≡ answerText s

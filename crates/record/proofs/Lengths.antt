@@ -14,7 +14,8 @@ use Rattle.csr.specs.Verdict.{Verdict, passed, planned, accepted, refused}
 use Rattle.machine.specs.Demand3.{Buffers}
 use Rattle.ipm_simd.specs.Solve.{Given, solveVerdict, solveBuffers}
 use Rattle.record.specs.Text.{ascii, decimalTo, decimalText, hexText, wholeText, floatText, lineText, acceptedText, refusedText, inputText, space, lineFeed}
-use Rattle.record.specs.Answer.{verdictText, solveText}
+use Rattle.record.specs.Record.{mostColumns}
+use Rattle.record.specs.Answer.{answerBytes, verdictText, solveText}
 use Rattle.record.proofs.Texts.{length-digits}
 
 decimal-length : (most n : ℕ) → length (decimalTo most n) ≤ most
@@ -58,16 +59,16 @@ unfolding refusedText ascii
 refused-length q p l =
     omega (arith, length-append (wholeText q space) (wholeText p space ++ wholeText l lineFeed), length-append (wholeText p space) (wholeText l lineFeed), whole-length q space, whole-length p space, whole-length l lineFeed)
 
-pub input-length : length inputText ≤ 2206
+pub input-length : length inputText ≤ answerBytes
 unfolding inputText ascii
 input-length = omega arith
 
-verdict-length : (v : Verdict) (x : List Float) (n : ℕ) → n ≤ 32 → length (verdictText v x n) ≤ 2206
+verdict-length : (v : Verdict) (x : List Float) (n : ℕ) → n ≤ mostColumns → length (verdictText v x n) ≤ answerBytes
 verdict-length passed x n h = omega arith
 verdict-length (planned w) x n h = omega arith
 verdict-length (accepted k) x n h = omega (arith, accepted-length k n x, h)
 verdict-length (refused q p l) x n h = omega (arith, refused-length q p l)
 
-pub solve-length : (a : Given) (B : Buffers) → a .n ≤ 32 → length (solveText a B) ≤ 2206
+pub solve-length : (a : Given) (B : Buffers) → a .n ≤ mostColumns → length (solveText a B) ≤ answerBytes
 unfolding solveText
 solve-length a B h = verdict-length (solveVerdict a B) (solveBuffers a B .output) (a .n) h

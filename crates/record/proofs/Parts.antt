@@ -13,7 +13,7 @@ use Rattle.ipm_simd.specs.Solve.{Given, given, lent}
 use Rattle.record.specs.declared.Sizes.{Sizes}
 use Rattle.record.specs.Little.{le2, le8, shorts, floats}
 use Rattle.record.specs.Record.{mOf, nOf, tOf, columnsAt, valuesAt, tolerancesAt, bAt, cAt, sizesOf, Whole}
-use Rattle.record.specs.Answer.{partsOf, givenOf, solveText, lentFor, zeros, blank}
+use Rattle.record.specs.Answer.{partsOf, givenOf, solveText, lentFor, zeros, blank, indexWords, workFloats}
 
 -- ---- an array whose first k elements were lent and became `new`
 module _ {A : Type 0} (arr new : List A) (k : ℕ) (fits : k ≤ length arr) (kept : length new ≡ length (take k arr)) where
@@ -116,7 +116,7 @@ module _ {s : List ℕ} {z : Sizes} (W : Whole s z) where
 
 -- ---- the text of what was read is the text of the record's solve
 module _ (s : List ℕ) (z : Sizes) (W : Whole s z) where
-  lent-is : (o w : List Float) (i : List ℕ) → o ≡ blank 128 → i ≡ zeros 5645 → w ≡ blank 1504 → lent (take (4 * z .n) o) i w ≡ lentFor (nOf s)
+  lent-is : (o w : List Float) (i : List ℕ) → o ≡ blank 128 → i ≡ zeros indexWords → w ≡ blank workFloats → lent (take (4 * z .n) o) i w ≡ lentFor (nOf s)
   lent-is o w i eo ei ew =
       let n-is : z .n ≡ nOf s = ap (λ (y : Sizes). y .n) (W .sizes) in
       let o-is : take (4 * z .n) o ≡ blank (4 * nOf s) =
@@ -124,7 +124,7 @@ module _ (s : List ℕ) (z : Sizes) (W : Whole s z) where
       cc
 
   pub read-text : (o w : List Float) (i : List ℕ) (arr S : List ℕ) (brr F : List Float)
-      → o ≡ blank 128 → i ≡ zeros 5645 → w ≡ blank 1504
+      → o ≡ blank 128 → i ≡ zeros indexWords → w ≡ blank workFloats
       → 145 ≡ length arr → S ≡ shorts s 16 (length (take (shortCount z) arr))
       → 332 ≡ length brr → F ≡ floats s (floatsFrom z) (length (take (floatCount z) brr))
       → length S ≡ length (take (shortCount z) arr) → length F ≡ length (take (floatCount z) brr)

@@ -9,8 +9,8 @@ use Rattle.csr.specs.Verdict.{Verdict, passed, planned, accepted, refused}
 use Rattle.machine.specs.Demand3.{Buffers}
 use Rattle.ipm_simd.specs.Solve.{Given, given, lent, solveVerdict, solveBuffers}
 use Rattle.record.specs.declared.Sizes.{Sizes}
-use Rattle.record.specs.Record.{mOf, nOf, sOf, limitOf, offsetsOf, columnsOf, valuesOf, tolerancesOf, bOf, cOf, wellFormed}
-use Rattle.record.specs.Text.{acceptedText, refusedText, inputText}
+use Rattle.record.specs.Record.{mOf, nOf, sOf, limitOf, offsetsOf, columnsOf, valuesOf, tolerancesOf, bOf, cOf, wellFormed, mostRows, mostColumns, mostEntries}
+use Rattle.record.specs.Text.{acceptedBytes, acceptedText, refusedText, inputText}
 
 -- the text of what a solve of n columns tells; it tells nothing else
 abbrev pub verdictText : Verdict → List Float → ℕ → List ℕ
@@ -24,15 +24,19 @@ unfoldable pub solveText : Given → Buffers → List ℕ
 unfolding solveVerdict solveBuffers
 solveText a B = verdictText (solveVerdict a B) (solveBuffers a B .output) (a .n)
 
+-- the most bytes that an answer takes
+abbrev pub answerBytes : ℕ
+answerBytes = acceptedBytes mostColumns
+
 -- lists that hold the parts of a record with these sizes, and room for the longest text
 pub record Parts (shorts floats output out : ℕ) (z : Sizes) : Type 0 where
-  pub rows : z .m ≤ 16
-  pub columns : z .n ≤ 32
-  pub entries : z .t ≤ 128
+  pub rows : z .m ≤ mostRows
+  pub columns : z .n ≤ mostColumns
+  pub entries : z .t ≤ mostEntries
   pub shorts-all : shorts ≡ z .m + 1 + z .t
   pub floats-all : floats ≡ z .t + 12 + 4 * z .m + 4 * z .n
   pub output-all : output ≡ 4 * z .n
-  pub room : 2206 ≤ out
+  pub room : answerBytes ≤ out
 
 -- what the parts give: the shorts are the offsets and the columns, the floats the values, the tolerances, b and c
 abbrev pub partsOf : Sizes → List ℕ → List Float → Given
@@ -57,10 +61,16 @@ zeros k = replicate k 0
 unfoldable pub blank : ℕ → List Float
 blank k = replicate k (ofBits binary64 0)
 
--- what is lent for n columns, enough within the limits:
--- W is at most 5 * 136 + 3 * 1088 + 2 * 680 + 3 * 16 + 32 + 2 * 128 + 5, and F at most 4 * (5 * 32 + 3 * 16 + 2 * 16 + 136)
+-- words and numbers enough within the limits: W has at most 136 entries, 1,088 shared columns and 680 products, F the same entries
+abbrev pub indexWords : ℕ
+indexWords = 5 * 136 + 3 * 1088 + 2 * 680 + 3 * mostRows + mostColumns + 2 * mostEntries + 5
+
+abbrev pub workFloats : ℕ
+workFloats = 4 * (5 * mostColumns + 3 * mostRows + 2 * mostRows + 136)
+
+-- what is lent for n columns
 abbrev pub lentFor : ℕ → Buffers
-lentFor n = lent (blank (4 * n)) (zeros 5645) (blank 1504)
+lentFor n = lent (blank (4 * n)) (zeros indexWords) (blank workFloats)
 
 -- standard output for standard input
 unfoldable pub answerText : List ℕ → List ℕ

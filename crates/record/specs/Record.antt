@@ -74,8 +74,17 @@ abbrev pub cOf : List ℕ → List Float
 cOf s = floats s (cAt (mOf s) (tOf s)) (4 * nOf s)
 
 -- `Limits m 16, n 32, t 128; beyond them, or if the record's bytes don't match, it prints input`
+abbrev pub mostRows : ℕ
+mostRows = 16
+
+abbrev pub mostColumns : ℕ
+mostColumns = 32
+
+abbrev pub mostEntries : ℕ
+mostEntries = 128
+
 abbrev pub within : ℕ → ℕ → ℕ → Bool
-within m n t = leb m 16 && (leb n 32 && leb t 128)
+within m n t = leb m mostRows && (leb n mostColumns && leb t mostEntries)
 
 unfoldable pub wellFormed : List ℕ → Bool
 wellFormed s =
@@ -92,7 +101,7 @@ headerOf s = cond (wellFormed s) (Matches (sizesOf s)) Mismatch
 -- bytes that match, with the sizes that they start with
 pub record Whole (s : List ℕ) (z : Sizes) : Type 0 where
   pub sizes : z ≡ sizesOf s
-  pub rows : z .m ≤ 16
-  pub columns : z .n ≤ 32
-  pub entries : z .t ≤ 128
+  pub rows : z .m ≤ mostRows
+  pub columns : z .n ≤ mostColumns
+  pub entries : z .t ≤ mostEntries
   pub ends : length s ≡ endAt (z .m) (z .n) (z .t)

@@ -44,6 +44,16 @@ unfoldable pub floatText : Float → ℕ → List ℕ
 unfolding hexText
 floatText x after = hexText (toBits binary64 x) ++ (after ∷ [])
 
+-- the most bytes that a number and the byte after it take, and what a float and a line take
+abbrev pub wholeBytes : ℕ
+wholeBytes = 21
+
+abbrev pub floatBytes : ℕ
+floatBytes = 17
+
+abbrev pub lineBytes : ℕ
+lineBytes = 68
+
 -- `a line for each column with four lanes`: that of column e
 unfoldable pub lineText : List Float → ℕ → List ℕ
 unfolding floatText
@@ -56,11 +66,23 @@ unfoldable pub acceptedText : ℕ → List Float → ℕ → List ℕ
 unfolding ascii wholeText lineText cat
 acceptedText test x n = ascii "accepted " ++ (wholeText test lineFeed ++ cat n (lineText x))
 
+-- the most bytes that it takes with n columns
+abbrev pub acceptedBytes : ℕ → ℕ
+acceptedBytes n = 9 + wholeBytes + lineBytes * n
+
 -- `refused, question, place, lane`
 unfoldable pub refusedText : ℕ → ℕ → ℕ → List ℕ
 unfolding ascii wholeText
 refusedText question place lane = ascii "refused " ++ (wholeText question space ++ (wholeText place space ++ wholeText lane lineFeed))
 
+-- the most bytes that it takes
+abbrev pub refusedBytes : ℕ
+refusedBytes = 8 + 3 * wholeBytes
+
+-- `it prints input`
 unfoldable pub inputText : List ℕ
 unfolding ascii
 inputText = ascii "input\n"
+
+abbrev pub inputBytes : ℕ
+inputBytes = 6

@@ -5,20 +5,18 @@ ghost use lib.ListN.{length, take, drop};
 ghost use Rattle.io.specs.Counts.{Counts};
 ghost use Rattle.lists.specs.Cat.{Wrote};
 ghost use Rattle.ipm_simd.specs.Solve.{given, lent};
-ghost use Rattle.record.specs.Record.{nOf, Whole};
-ghost use Rattle.record.specs.Answer.{Parts, partsOf, solveText, givenOf, lentFor, answerText};
+ghost use Rattle.record.specs.Record.{nOf, mostColumns, Whole};
+ghost use Rattle.record.specs.Answer.{answerBytes, Parts, partsOf, solveText, givenOf, lentFor, answerText};
 use crate::Header;
 use crate::Sizes;
 use crate::fields;
+use crate::fields::LANES;
+use crate::fields::OFFSETS_AT;
+use crate::fields::SHORT_BYTES;
+use crate::fields::TOLERANCES;
 use crate::memory;
 use crate::text;
 use ipm_simd::SolveAnswer;
-
-const LANES: usize = 4;
-
-const TOLERANCES: usize = 12;
-
-const OFFSETS_AT: usize = 16;
 
 // Solves, and puts the text of the answer at the start of out.
 fn solve_text(
@@ -37,7 +35,7 @@ fn solve_text(
     work: &mut [f64],
     out: &mut [u8],
 ) -> usize
-    requires { ⌜ (n ≤ 32) × (length (now output) ≡ 4 * n) × (2206 ≤ length (now out)) ⌝ }
+    requires { ⌜ (n ≤ mostColumns) × (length (now output) ≡ 4 * n) × (answerBytes ≤ length (now out)) ⌝ }
     ensures { λ r. ⌜ Wrote (now (out .entry)) (now (out .exit)) 0 (solveText (given m n s (now (offsets .entry)) (now (columns .entry)) (now (values .entry)) (now (b .entry)) (now (c .entry)) (now (tolerances .entry)) limit) (lent (now (output .entry)) (now (index .entry)) (now (work .entry)))) r ⌝ }
 {
     let answer = ipm_simd::solve(
@@ -102,7 +100,7 @@ fn solve_parts(
 
 // The answer to a record that matches.
 fn answer(bytes: &[u8], sizes: Sizes, out: &mut [u8]) -> usize
-    requires { ⌜ Whole (now bytes) sizes × (2206 ≤ length (now out)) ⌝ }
+    requires { ⌜ Whole (now bytes) sizes × (answerBytes ≤ length (now out)) ⌝ }
     ensures { λ r. ⌜ Wrote (now (out .entry)) (now (out .exit)) 0 (solveText (givenOf (now (bytes .entry))) (lentFor (nOf (now (bytes .entry))))) r ⌝ }
 {
     let m = sizes.m;
@@ -119,7 +117,7 @@ fn answer(bytes: &[u8], sizes: Sizes, out: &mut [u8]) -> usize
     fields::read_shorts(bytes, OFFSETS_AT, &mut shorts[..short_count]);
     fields::read_floats(
         bytes,
-        OFFSETS_AT + 2 * short_count,
+        OFFSETS_AT + SHORT_BYTES * short_count,
         &mut floats[..float_count],
     );
     solve_parts(
@@ -135,7 +133,7 @@ fn answer(bytes: &[u8], sizes: Sizes, out: &mut [u8]) -> usize
 
 // The answer to any bytes, at the start of out; answers its length.
 pub fn respond(bytes: &[u8], out: &mut [u8]) -> usize
-    requires { ⌜ 2206 ≤ length (now out) ⌝ }
+    requires { ⌜ answerBytes ≤ length (now out) ⌝ }
     ensures { λ r. ⌜ Wrote (now (out .entry)) (now (out .exit)) 0 (answerText (now (bytes .entry))) r ⌝ }
     ensures { λ r. ⌜ Counts r (now (out .exit)) ⌝ }
 {

@@ -11,15 +11,15 @@ use crate::Sizes;
 use crate::little;
 
 // What a record of the reading program may hold at most.
-const MOST_ROWS: u64 = 16;
+const MOST_ROWS: usize = 16;
 
-const MOST_COLUMNS: u64 = 32;
+const MOST_COLUMNS: usize = 32;
 
-const MOST_ENTRIES: u64 = 128;
+const MOST_ENTRIES: usize = 128;
 
-const LANES: u64 = 4;
+pub const LANES: usize = 4;
 
-const TOLERANCES: u64 = 12;
+pub const TOLERANCES: usize = 12;
 
 // Where the fields of the header stand, and where it ends.
 const KIND_AT: usize = 4;
@@ -34,17 +34,17 @@ const LIMIT_AT: usize = 12;
 
 const T_AT: usize = 14;
 
-const OFFSETS_AT: usize = 16;
+pub const OFFSETS_AT: usize = 16;
 
-const LENGTH_BYTES: u64 = 4;
+const LENGTH_BYTES: usize = 4;
 
-const SHORT_BYTES: u64 = 2;
+pub const SHORT_BYTES: usize = 2;
 
-const FLOAT_BYTES: u64 = 8;
+const FLOAT_BYTES: usize = 8;
 
-const KIND: u64 = 1;
+const KIND: usize = 1;
 
-fn is_within(m: u64, n: u64, t: u64) -> bool
+fn is_within(m: usize, n: usize, t: usize) -> bool
     ensures { λ r. ⌜ r ≡ within m n t ⌝ }
 {
     if m > MOST_ROWS {
@@ -57,23 +57,22 @@ fn is_within(m: u64, n: u64, t: u64) -> bool
 }
 
 // The bytes of a record with these sizes.
-fn record_bytes(m: u64, n: u64, t: u64) -> u64
+fn record_bytes(m: usize, n: usize, t: usize) -> usize
     requires { ⌜ (m < 65536) × (n < 65536) × (t < 65536) ⌝ }
     ensures { λ r. ⌜ r ≡ endAt m n t ⌝ }
 {
     let shorts = m + 1 + t;
     let floats = t + TOLERANCES + LANES * m + LANES * n;
-    OFFSETS_AT as u64 + SHORT_BYTES * shorts + FLOAT_BYTES * floats
+    OFFSETS_AT + SHORT_BYTES * shorts + FLOAT_BYTES * floats
 }
 
 pub fn read_header(bytes: &[u8]) -> Header
     ensures { λ r. ⌜ r ≡ headerOf (now (bytes .entry)) ⌝ }
 {
-    let length = bytes.len() as u64;
     if bytes.len() < OFFSETS_AT {
         return Header::Mismatch;
     }
-    if length != LENGTH_BYTES + little::le32(bytes, 0) {
+    if bytes.len() != LENGTH_BYTES + little::le32(bytes, 0) {
         return Header::Mismatch;
     }
     if little::le16(bytes, KIND_AT) != KIND {
@@ -85,15 +84,15 @@ pub fn read_header(bytes: &[u8]) -> Header
     if !is_within(m, n, t) {
         return Header::Mismatch;
     }
-    if length != record_bytes(m, n, t) {
+    if bytes.len() != record_bytes(m, n, t) {
         return Header::Mismatch;
     }
     Header::Matches(Sizes {
-        m: m as usize,
-        n: n as usize,
-        s: little::le16(bytes, S_AT) as usize,
-        limit: little::le16(bytes, LIMIT_AT) as usize,
-        t: t as usize,
+        m,
+        n,
+        s: little::le16(bytes, S_AT),
+        limit: little::le16(bytes, LIMIT_AT),
+        t,
     })
 }
 
@@ -104,7 +103,7 @@ pub fn read_shorts(bytes: &[u8], at: usize, out: &mut [u32])
 {
     let mut k = 0;
     while k < out.len() {
-        out[k] = little::le16(bytes, at + 2 * k) as u32;
+        out[k] = little::le16(bytes, at + SHORT_BYTES * k) as u32;
         k += 1;
     }
 }
@@ -116,7 +115,7 @@ pub fn read_floats(bytes: &[u8], at: usize, out: &mut [f64])
 {
     let mut k = 0;
     while k < out.len() {
-        out[k] = little::float_at(bytes, at + 8 * k);
+        out[k] = little::float_at(bytes, at + FLOAT_BYTES * k);
         k += 1;
     }
 }

@@ -5,26 +5,26 @@ ghost use lib.ListN.{length};
 ghost use lib.Ieee.{binary64, ofBits};
 ghost use Rattle.record.specs.Little.{le2, le4, le8};
 
-const BYTE: u64 = 256;
+const BYTE: usize = 256;
 
-const SHORT: u64 = 65_536;
+const SHORT: usize = 65_536;
 
 const WORD: u64 = 4_294_967_296;
 
-fn wide(b: u8) -> u64
+fn wide(b: u8) -> usize
     ensures { λ r. ⌜ (r ≡ b) × (r < 256) ⌝ }
 {
-    b as u64
+    b as usize
 }
 
-pub fn le16(s: &[u8], at: usize) -> u64
+pub fn le16(s: &[u8], at: usize) -> usize
     requires { ⌜ at + 2 ≤ length (now s) ⌝ }
     ensures { λ r. ⌜ (r ≡ le2 (now (s .entry)) at) × (r < 65536) ⌝ }
 {
     wide(s[at]) + wide(s[at + 1]) * BYTE
 }
 
-pub fn le32(s: &[u8], at: usize) -> u64
+pub fn le32(s: &[u8], at: usize) -> usize
     requires { ⌜ at + 4 ≤ length (now s) ⌝ }
     ensures { λ r. ⌜ (r ≡ le4 (now (s .entry)) at) × (r < 4294967296) ⌝ }
 {
@@ -35,7 +35,7 @@ pub fn le64(s: &[u8], at: usize) -> u64
     requires { ⌜ at + 8 ≤ length (now s) ⌝ }
     ensures { λ r. ⌜ r ≡ le8 (now (s .entry)) at ⌝ }
 {
-    le32(s, at) + le32(s, at + 4) * WORD
+    le32(s, at) as u64 + le32(s, at + 4) as u64 * WORD
 }
 
 // The float at a place, by its pattern.

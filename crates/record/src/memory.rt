@@ -1,7 +1,7 @@
 // Memory for a record within the limits.
 ghost use mathlib.Core.Path.{_≡_};
 ghost use lib.ListN.{length};
-ghost use Rattle.record.specs.Answer.{zeros, blank};
+ghost use Rattle.record.specs.Answer.{zeros, blank, indexWords, workFloats};
 
 // 17 offsets and 128 columns.
 pub fn shorts() -> [u32; 145]
@@ -26,14 +26,14 @@ pub fn output() -> [f64; 128]
 
 // Room for the plan.
 pub fn index() -> [u32; 5645]
-    ensures { λ r. ⌜ r ≡ zeros 5645 ⌝ }
+    ensures { λ r. ⌜ r ≡ zeros indexWords ⌝ }
 {
     [0; 5645]
 }
 
 // Room for the working numbers.
 pub fn work() -> [f64; 1504]
-    ensures { λ r. ⌜ r ≡ blank 1504 ⌝ }
+    ensures { λ r. ⌜ r ≡ blank workFloats ⌝ }
 {
     [0.0; 1504]
 }

@@ -4,7 +4,7 @@ ghost use mathlib.Core.List.{[], _∷_};
 ghost use Prim.Native.Nat.{_+_, _*_, _≤_, _<_};
 ghost use lib.ListN.{length};
 ghost use Rattle.lists.specs.Cat.{cat, Wrote};
-ghost use Rattle.record.specs.Text.{hexText, wholeText, floatText, lineText, acceptedText, refusedText, inputText};
+ghost use Rattle.record.specs.Text.{wholeBytes, floatBytes, lineBytes, acceptedBytes, refusedBytes, inputBytes, wholeText, floatText, lineText, acceptedText, refusedText, inputText};
 
 const SPACE: u8 = b' ';
 
@@ -32,9 +32,9 @@ fn put(out: &mut [u8], at: usize, s: &[u8]) -> usize
 
 // A number in decimal digits, and a byte after it.
 fn put_whole(out: &mut [u8], at: usize, x: u64, after: u8) -> usize
-    requires { ⌜ at + 21 ≤ length (now out) ⌝ }
+    requires { ⌜ at + wholeBytes ≤ length (now out) ⌝ }
     ensures { λ r. ⌜ Wrote (now (out .entry)) (now (out .exit)) at (wholeText x after) r ⌝ }
-    ensures { λ r. ⌜ r ≤ at + 21 ⌝ }
+    ensures { λ r. ⌜ r ≤ at + wholeBytes ⌝ }
 {
     let mut digits = [0u8; 20];
     let k = io::decimal(x, &mut digits);
@@ -44,9 +44,9 @@ fn put_whole(out: &mut [u8], at: usize, x: u64, after: u8) -> usize
 
 // A float's pattern in hexadecimal digits, and a byte after it.
 fn put_float(out: &mut [u8], at: usize, x: f64, after: u8) -> usize
-    requires { ⌜ at + 17 ≤ length (now out) ⌝ }
+    requires { ⌜ at + floatBytes ≤ length (now out) ⌝ }
     ensures { λ r. ⌜ Wrote (now (out .entry)) (now (out .exit)) at (floatText x after) r ⌝ }
-    ensures { λ r. ⌜ r ≡ at + 17 ⌝ }
+    ensures { λ r. ⌜ r ≡ at + floatBytes ⌝ }
 {
     let mut digits = [0u8; 16];
     let k = io::hex(root::bits_of(x), 16, &mut digits);
@@ -56,9 +56,9 @@ fn put_float(out: &mut [u8], at: usize, x: f64, after: u8) -> usize
 
 // The four lanes of column e.
 fn put_line(out: &mut [u8], at: usize, x: &[f64], e: usize) -> usize
-    requires { ⌜ (at + 68 ≤ length (now out)) × (4 * e + 4 ≤ length (now x)) ⌝ }
+    requires { ⌜ (at + lineBytes ≤ length (now out)) × (4 * e + 4 ≤ length (now x)) ⌝ }
     ensures { λ r. ⌜ Wrote (now (out .entry)) (now (out .exit)) at (lineText (now (x .entry)) e) r ⌝ }
-    ensures { λ r. ⌜ r ≡ at + 68 ⌝ }
+    ensures { λ r. ⌜ r ≡ at + lineBytes ⌝ }
 {
     let first = 4 * e;
     let second = put_float(out, at, x[first], SPACE);
@@ -69,7 +69,7 @@ fn put_line(out: &mut [u8], at: usize, x: &[f64], e: usize) -> usize
 
 // A line for each of n columns.
 fn put_lines(out: &mut [u8], start: usize, x: &[f64], n: usize) -> usize
-    requires { ⌜ (start + 68 * n ≤ length (now out)) × (4 * n ≤ length (now x)) ⌝ }
+    requires { ⌜ (start + lineBytes * n ≤ length (now out)) × (4 * n ≤ length (now x)) ⌝ }
     ensures { λ r. ⌜ Wrote (now (out .entry)) (now (out .exit)) start (cat n (lineText (now (x .entry)))) r ⌝ }
 {
     let mut at = start;
@@ -83,7 +83,7 @@ fn put_lines(out: &mut [u8], start: usize, x: &[f64], n: usize) -> usize
 
 // The answer to an accepted solve, at the start of out.
 pub fn put_accepted(out: &mut [u8], test: usize, x: &[f64], n: usize) -> usize
-    requires { ⌜ (30 + 68 * n ≤ length (now out)) × (4 * n ≤ length (now x)) ⌝ }
+    requires { ⌜ (acceptedBytes n ≤ length (now out)) × (4 * n ≤ length (now x)) ⌝ }
     ensures { λ r. ⌜ Wrote (now (out .entry)) (now (out .exit)) 0 (acceptedText test (now (x .entry)) n) r ⌝ }
 {
     let word = put(out, 0, b"accepted ");
@@ -93,7 +93,7 @@ pub fn put_accepted(out: &mut [u8], test: usize, x: &[f64], n: usize) -> usize
 
 // The answer to a refused solve.
 pub fn put_refused(out: &mut [u8], question: u32, place: usize, lane: u32) -> usize
-    requires { ⌜ 71 ≤ length (now out) ⌝ }
+    requires { ⌜ refusedBytes ≤ length (now out) ⌝ }
     ensures { λ r. ⌜ Wrote (now (out .entry)) (now (out .exit)) 0 (refusedText question place lane) r ⌝ }
 {
     let word = put(out, 0, b"refused ");
@@ -104,7 +104,7 @@ pub fn put_refused(out: &mut [u8], question: u32, place: usize, lane: u32) -> us
 
 // The answer to bytes that do not match.
 pub fn put_input(out: &mut [u8]) -> usize
-    requires { ⌜ 6 ≤ length (now out) ⌝ }
+    requires { ⌜ inputBytes ≤ length (now out) ⌝ }
     ensures { λ r. ⌜ Wrote (now (out .entry)) (now (out .exit)) 0 inputText r ⌝ }
 {
     put(out, 0, b"input\n")

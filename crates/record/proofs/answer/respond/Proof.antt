@@ -43,8 +43,7 @@ returns-2 : tie.Need-returns-2
 returns-2 c =
     let told = sym (c .before .before .before .before .before .before .before .read-header .ensures) ∙ c .before .before .before .before .before .header .given .1 in
     let put = c .before .before .answer in
-    let s = c .before .before .before .before .before .before .before .before .before .before .args .bytes .now in
-    (
+    let s = c .before .before .before .before .before .before .before .before .before .before .args .bytes .now in (
       wrote-as _ _ _ _ _ _ (matched-text s _ told) (put .ensures),
       counts _ _ (omega (arith, put .ensures .next, put .kept .1 .1 .0, solve-length (givenOf s) (lentFor (nOf s)) (narrow s _ told), c .before .before .before .before .before .before .before .before .before .before .pre)),
     )
