@@ -6,7 +6,10 @@ ghost use Rattle.pattern.specs.Word.{bit, Put, Done, Seeded, OtherRows, 
 ghost use Rattle.csr.specs.Counts.{sum, one, common, countE, countS, countD};
 ghost use Rattle.csr.specs.Pattern.{neighbours, row};
 ghost use Rattle.csr.specs.Csr.{Csr, Rising};
-ghost use Rattle.pattern.specs.Word.{Clear};
+ghost use Rattle.pattern.specs.Word.{Clear, Linked};
+ghost use Rattle.pattern.specs.Links.{orElse, firstOf, links, Inside, Firsts};
+ghost use mathlib.Core.Bool.{cond};
+ghost use lib.Dec.{eqb};
 
 // Is bit j of row i set?
 pub fn test(p: &[u64], i: usize, j: usize) -> bool
@@ -121,30 +124,45 @@ pub fn shared_rows(off: &[u32], cols: &[u32], m: usize, i: usize, j: usize) -> u
     shared(&cols[a..b], &cols[c..d])
 }
 
-// Put the neighbours and the diagonal of row i into a clear row.
-pub fn seed_row(off: &[u32], cols: &[u32], m: usize, p: &mut [u64], i: usize)
-    requires { ⌜ Csr (now off) (now cols) m × (i < m) × (length (now p) ≡ 1024) × Clear (now p) i ⌝ }
-    ensures other { λ _. ⌜ OtherRows (now (p .entry)) (now (p .exit)) i ⌝ }
-    ensures row { λ _. ⌜ Seeded (neighbours (now (off .entry)) (now (cols .entry))) (now (p .exit)) i ⌝ }
+// Row i is linked to the first row of column e, or is that row itself.
+fn link(p: &mut [u64], first: &mut [u32], e: usize, i: usize)
+    requires { ⌜ (length (now p) ≡ 1024) × (e < length (now first)) × (i < 256) × (getD (now first) e 0 ≤ i + 1) ⌝ }
+    ensures first { λ _. ⌜ ((x : ℕ) → getD (now (first .exit)) x 0 ≡ cond (eqb x e) (orElse (getD (now (first .entry)) e 0) (i + 1)) (getD (now (first .entry)) x 0)) ⌝ }
+    ensures bits { λ _. ⌜ Linked (now (p .entry)) (now (p .exit)) i (getD (now (first .entry)) e 0) ⌝ }
 {
-    let mut j: usize = 0;
-    while j < i {
-        if shared_rows(off, cols, m, i, j) != 0 {
-            put(p, i, j);
-        }
-        j += 1;
+    let f = first[e];
+    if f == 0 {
+        first[e] = (i as u32) + 1;
+    } else {
+        put(p, i, (f - 1) as usize);
+    }
+}
+
+// Put the links and the diagonal of row i into a clear row. `first` holds one more than the first row of each column.
+pub fn seed_row(off: &[u32], cols: &[u32], m: usize, p: &mut [u64], first: &mut [u32], i: usize)
+    requires { ⌜ Csr (now off) (now cols) m × Inside (now off) (now cols) m 1024 × (i < m) × (length (now p) ≡ 1024) × Clear (now p) i × (length (now first) ≡ 1024) × Firsts (now first) (firstOf (now off) (now cols) i) ⌝ }
+    ensures other { λ _. ⌜ OtherRows (now (p .entry)) (now (p .exit)) i ⌝ }
+    ensures row { λ _. ⌜ Seeded (links (now (off .entry)) (now (cols .entry))) (now (p .exit)) i ⌝ }
+    ensures first { λ _. ⌜ Firsts (now (first .exit)) (firstOf (now (off .entry)) (now (cols .entry)) (i + 1)) ⌝ }
+{
+    let r = csr::get_row(off, cols, i);
+    let mut q: usize = 0;
+    while q < r.len() {
+        link(p, first, at(r, q), i);
+        q += 1;
     }
     put(p, i, i);
 }
 
 // The whole pattern, into clear rows.
 pub fn pattern(off: &[u32], cols: &[u32], m: usize, p: &mut [u64])
-    requires { ⌜ Csr (now off) (now cols) m × (length (now p) ≡ 1024) × ((i : ℕ) → i < 256 → Clear (now p) i) ⌝ }
+    requires { ⌜ Csr (now off) (now cols) m × Inside (now off) (now cols) m 1024 × (length (now p) ≡ 1024) × ((i : ℕ) → i < 256 → Clear (now p) i) ⌝ }
     ensures { λ _. ⌜ ((i : ℕ) → i < m → Done (neighbours (now (off .entry)) (now (cols .entry))) (now (p .exit)) i) ⌝ }
 {
+    let mut first = [0u32; 1024];
     let mut i: usize = 0;
     while i < m {
-        seed_row(off, cols, m, p, i);
+        seed_row(off, cols, m, p, &mut first, i);
         fill_row(p, i);
         i += 1;
     }
@@ -163,6 +181,25 @@ pub fn both_ones(p: &[u64], i: usize, j: usize) -> u32
         + u64::count_ones(p[a + 3] & p[b + 3])
 }
 
+pub struct Both {
+    pub s: usize,
+    pub t: u32,
+}
+
+// The columns that rows i and j share, and the bits they have in common: none where (i, j) is not stored.
+fn in_common(off: &[u32], cols: &[u32], m: usize, p: &[u64], i: usize, j: usize) -> Both
+    requires { ⌜ Csr (now off) (now cols) m × (i < m) × (j ≤ i) × (length (now p) ≡ 1024) × ((a : ℕ) → a < m → Done (neighbours (now off) (now cols)) (now p) a) ⌝ }
+    ensures { λ r. ⌜ (r .s ≡ common (row (now (off .entry)) (now (cols .entry)) i) (row (now (off .entry)) (now (cols .entry)) j)) × (r .t ≡ sum 256 (λ k. one (bit (now (p .entry)) i k && bit (now (p .entry)) j k))) × (r .s ≤ 16384) × (r .t ≤ 256) ⌝ }
+{
+    if test(p, i, j) {
+        let s = shared_rows(off, cols, m, i, j);
+        let t = both_ones(p, i, j);
+        Both { s, t }
+    } else {
+        Both { s: 0, t: 0 }
+    }
+}
+
 pub struct Tally {
     pub e: u32,
     pub s: usize,
@@ -171,7 +208,7 @@ pub struct Tally {
 
 // E, S and D.
 pub fn sizes(off: &[u32], cols: &[u32], m: usize) -> Tally
-    requires { ⌜ Csr (now off) (now cols) m ⌝ }
+    requires { ⌜ Csr (now off) (now cols) m × Inside (now off) (now cols) m 1024 ⌝ }
     ensures { λ r. ⌜ (r .e ≡ countE (now (off .entry)) (now (cols .entry)) m) × (r .s ≡ countS (now (off .entry)) (now (cols .entry)) m) × (r .d ≡ countD (now (off .entry)) (now (cols .entry)) m) × (r .s ≤ 1073741824) ⌝ }
 {
     let mut p = [0u64; 1024];
@@ -183,8 +220,9 @@ pub fn sizes(off: &[u32], cols: &[u32], m: usize) -> Tally
     while i < m {
         let mut j: usize = 0;
         while j <= i {
-            s += shared_rows(off, cols, m, i, j);
-            t += both_ones(&p, i, j);
+            let a = in_common(off, cols, m, &p, i, j);
+            s += a.s;
+            t += a.t;
             j += 1;
         }
         i += 1;

@@ -2,11 +2,14 @@
 use borrow.Author.Needs.{needs}
 use native.Mathlib.Omega.{arith}
 use Rattle.csr.specs.Counts.{sizeW}
+use Rattle.pattern.proofs.Links.{inside}
 use Rattle.ipm_common.proofs.words.Statement.{statement}
 use Rattle.ipm_common.proofs.words.Tie as tie
 
 sizes-requires : tie.Need-sizes-requires
-sizes-requires c κs = search needs
+sizes-requires c κs =
+    let s = c .before .before in
+    (s .pre .csr, inside (s .args .offsets .now) (s .args .columns .now) (s .args .m) (s .args .n) (s .pre))
 
 cast-result : tie.Need-cast-result
 cast-result c = search needs

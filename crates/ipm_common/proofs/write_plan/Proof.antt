@@ -8,6 +8,7 @@ use lib.ListN.{drop}
 use Rattle.lists.specs.Lists.{shape, planOf}
 use Rattle.lists.proofs.Whole as all
 use Rattle.lists.proofs.Sizes.{plan-size}
+use Rattle.pattern.proofs.Links.{inside}
 use Rattle.pattern.proofs.Whole.{clear-zeros}
 use borrow.Author.Needs.{needs}
 use Rattle.ipm_common.proofs.write_plan.Statement.{statement}
@@ -17,7 +18,9 @@ slice-aggregate-pattern : tie.Need-slice-aggregate-pattern
 slice-aggregate-pattern c = search needs
 
 pattern-requires : tie.Need-pattern-requires
-pattern-requires c κs = (c .before .before .before .before .pre .0 .csr, refl, λ i h. clear-zeros 1024 i)
+pattern-requires c κs =
+    let s = c .before .before .before .before in
+    (s .pre .0 .csr, inside (s .args .off .now) (s .args .cols .now) (s .args .m) (s .args .n) (s .pre .0), refl, λ i h. clear-zeros 1024 i)
 
 slice-aggregate-list-rows : tie.Need-slice-aggregate-list-rows
 slice-aggregate-list-rows c = search needs

@@ -1,82 +1,101 @@
 -- `pattern::seed_row` meets its contract. Assumes nothing.
 use Prim.Native.Nat.{ℕ, _≤_, _<_, _+_, _-_}
-use mathlib.Core.Path.{_≡_, refl, sym, _∙_, subst}
-use mathlib.Core.Logic.{⊎-elim}
+use mathlib.Core.Path.{_≡_, sym, ap, _∙_}
 use mathlib.Core.List.{List}
 use native.Mathlib.Omega.{arith}
-use lib.ListN.{length}
-use Rattle.csr.specs.Pattern.{neighbours}
-use Rattle.pattern.specs.Word.{OtherRows}
+use lib.ListN.{length, getD}
+use Rattle.csr.specs.Pattern.{row}
+use Rattle.csr.specs.Csr.{Csr}
+use Rattle.pattern.specs.Links.{Inside}
+use Rattle.pattern.proofs.Linking.{Linking, below-at, first-most, linking-start, linking-turn, linking-row, linking-firsts}
 use Rattle.pattern.proofs.Rows.{other-put}
-use Rattle.pattern.proofs.Seed.{SeedPart, seed-start, seed-no, seed-yes, seed-end, neighbours-none, neighbours-some}
 use Rattle.pattern.proofs.seed_row.Statement.{statement}
 use Rattle.pattern.proofs.seed_row.Tie as tie
 
 abbrev Inv-loop : tie.InvT-loop
-Inv-loop off cols m p₀ i j₀ p j =
-    (length p ≡ 1024) × (j ≤ i) × OtherRows p₀ p i × SeedPart (neighbours off cols) p i j
+Inv-loop off cols m p₀ first₀ i r q₀ p first q = (q ≤ length r) × Linking off cols i p₀ p first q
 
 abbrev μ-loop : tie.MeasureT-loop
-μ-loop off cols m p₀ i j₀ p j = i - j
+μ-loop off cols m p₀ first₀ i r q₀ p first q = length r - q
+
+-- a row of the matrix is one of 256
+under : {off cols : List ℕ} {m i : ℕ} → Csr off cols m → i < m → i < 256
+under s l = omega (arith, s .few)
+
+-- and its columns are below 1,024
+column : (off cols : List ℕ) (m i : ℕ) (r : List ℕ) (q : ℕ) → Inside off cols m 1024 → i < m → r ≡ row off cols i → q < length r → getD r q 0 < 1024
+column off cols m i r q h l e g = below-at 1024 r q (rw e (h i l)) g
+
+get-row-requires : tie.Need-get-row-requires Inv-loop μ-loop
+get-row-requires c κs =
+    let s = c .before .before .before .before in
+    (omega (arith, s .pre .0 .offsets, s .pre .2), s .pre .0 .order (s .args .i) (s .pre .2), s .pre .0 .ends (s .args .i + 1) (omega (arith, s .pre .2)))
 
 loop-holds : tie.Need-loop-holds Inv-loop μ-loop
 loop-holds c =
-    let s = c .before .before .before in
-    (s .pre .2, omega arith, λ a b ha hb n. refl, seed-start (neighbours (s .args .off .now) (s .args .cols .now)) (s .args .p .now) (s .args .i) (s .pre .3))
+    let s = c .before .before .before .before .before in
+    (omega arith, linking-start (s .args .off .now) (s .args .cols .now) (s .args .i) (s .args .p .now) (s .args .first .now) (under (s .pre .0) (s .pre .2)) (s .pre .3) (s .pre .5) (s .pre .4) (s .pre .6))
 
-shared-rows-requires : tie.Need-shared-rows-requires Inv-loop μ-loop
-shared-rows-requires c κs = (c .before .before .before .before .before .pre .0, c .before .before .before .before .before .pre .1, omega (arith, c .before .before .before .before .before .pre .1))
+at-requires : tie.Need-at-requires Inv-loop μ-loop
+at-requires c κs = omega arith
 
-put-requires : tie.Need-put-requires Inv-loop μ-loop
-put-requires c κs = (c .before .before .before .before .loop .inv .0, omega (arith, c .before .before .before .before .before .before .before .before .pre .0 .few, c .before .before .before .before .before .before .before .before .pre .1), omega (arith, c .before .before .before .before .before .before .before .before .pre .0 .few, c .before .before .before .before .before .before .before .before .pre .1))
+link-requires : tie.Need-link-requires Inv-loop μ-loop
+link-requires c κs =
+    let s = c .before .before .before .before .before .before .before .before .before .before in
+    let l = c .before .before .before .before .loop in
+    let e = c .at .ensures in
+    let he = column (s .args .off .now) (s .args .cols .now) (s .args .m) (s .args .i) (c .before .before .before .before .before .get-row .result .now) (l .q) (s .pre .1) (s .pre .2) (c .before .before .before .before .before .get-row .ensures) (omega arith) in
+    let h : c .at .result < 1024 = omega (arith, e, he) in
+    (l .inv .1 .words, omega (arith, h, l .inv .1 .long), under (s .pre .0) (s .pre .2), first-most (s .args .off .now) (s .args .cols .now) (s .args .i) (l .inv .1) (c .at .result) h)
 
-add-j : tie.Need-add-j Inv-loop μ-loop
-add-j c = omega (arith, c .before .before .before .before .before .before .before .pre .0 .few, c .before .before .before .before .before .before .before .pre .1)
+add-q : tie.Need-add-q Inv-loop μ-loop
+add-q c = omega arith
 
 loop-less : tie.Need-loop-less Inv-loop μ-loop
 loop-less c = omega arith
 
 loop-again : tie.Need-loop-again Inv-loop μ-loop
 loop-again c =
-    let l = c .before .before .before .loop in
-    let s = c .before .before .before .before .before .before .before in
-    let off = s .args .off .now in
-    let cols = s .args .cols .now in
-    let r = c .before .shared-rows in
-    let lt : l .j < s .args .i = omega arith in
-    let hi : s .args .i < 256 = omega (arith, s .pre .0 .few, s .pre .1) in
-    ⊎-elim
-    (λ w.
-    subst (λ (x : List ℕ). Inv-loop off cols (s .args .m) (s .args .p .now) (s .args .i) 0 x (l .j + 1)) (sym (w .5)) (
-      w .2 .kept .0 ∙ l .inv .0,
+    let s = c .before .before .before .before .before .before .before .before .before .before .before .before .before .before .before in
+    let l = c .before .before .before .before .before .before .before .before .before .loop in
+    let g = c .before .before .before .before .before .before .before .before .before .before .get-row in
+    let k = c .before .before .before .before .link in
+    let a = c .before .before .before .before .before .at in
+    let lt : l .q < length (g .result .now) = omega arith in
+    let he : a .result < 1024 = omega (arith, a .ensures, column (s .args .off .now) (s .args .cols .now) (s .args .m) (s .args .i) (g .result .now) (l .q) (s .pre .1) (s .pre .2) (g .ensures) lt) in (
       omega arith,
-      other-put (s .args .p .now) (l .p) (w .2 .last .0) (s .args .i) (l .j) (l .inv .2) (w .2 .ensures),
-      seed-yes (neighbours off cols) (l .p) (s .args .i) (l .j) hi lt (l .inv .3) (w .2 .last .0) (w .2 .ensures)
-          (neighbours-some off cols (s .args .i) (l .j) (λ e. w .0 .taken (r .ensures .0 ∙ e))),
-    ))
-    (λ w.
-    subst (λ (x : List ℕ). Inv-loop off cols (s .args .m) (s .args .p .now) (s .args .i) 0 x (l .j + 1)) (sym (w .1)) (
-      l .inv .0,
-      omega arith,
-      l .inv .2,
-      seed-no (neighbours off cols) (l .p) (s .args .i) (l .j) hi lt (l .inv .3) (neighbours-none off cols (s .args .i) (l .j) (sym (r .ensures .0) ∙ w .0 .left)),
-    ))
-    (c .if1 .came)
+      linking-turn (s .args .off .now) (s .args .cols .now) (s .args .i) (k .last .0) (k .last .1 .0) (a .result) (l .inv .1) (under (s .pre .0) (s .pre .2))
+          (omega (arith, lt, ap length (g .ensures)))
+          (a .ensures ∙ ap (λ (r : List ℕ). getD r (l .q) 0) (g .ensures))
+          he (k .kept .0) (k .kept .1 .0) (k .ensures .0) (k .ensures .1),
+    )
 
-put-requires-2 : tie.Need-put-requires-2 Inv-loop μ-loop
-put-requires-2 c κs = (c .before .before .loop .inv .0, omega (arith, c .before .before .before .before .before .before .pre .0 .few, c .before .before .before .before .before .before .pre .1), omega (arith, c .before .before .before .before .before .before .pre .0 .few, c .before .before .before .before .before .before .pre .1))
+put-requires : tie.Need-put-requires Inv-loop μ-loop
+put-requires c κs =
+    let s = c .before .before .before .before .before .before .before .before in
+    (c .before .before .loop .inv .1 .words, under (s .pre .0) (s .pre .2), under (s .pre .0) (s .pre .2))
 
 same-length : tie.Need-same-length Inv-loop μ-loop
-same-length c = c .before .before .put2 .kept .0 ∙ c .before .before .before .before .before .loop .inv .0 ∙ sym (c .before .before .before .before .before .before .before .before .before .pre .2)
+same-length c = c .before .before .put .kept .0 ∙ c .before .before .before .before .before .loop .inv .1 .words ∙ sym (c .before .before .before .before .before .before .before .before .before .before .before .pre .3)
+
+same-length-2 : tie.Need-same-length-2 Inv-loop μ-loop
+same-length-2 c = c .before .before .before .before .before .loop .inv .1 .long ∙ sym (c .before .before .before .before .before .before .before .before .before .before .before .pre .5)
 
 returns : tie.Need-returns Inv-loop μ-loop
 returns c =
-    let s = c .before .before .before .before .before .before .before .before .before in
+    let s = c .before .before .before .before .before .before .before .before .before .before .before in
     let l = c .before .before .before .before .before .loop in
-    let e : l .j ≡ s .args .i = omega arith in
-    let hi : s .args .i < 256 = omega (arith, s .pre .0 .few, s .pre .1) in (
-      other-put (s .args .p .now) (l .p) (c .before .before .put2 .last .0) (s .args .i) (s .args .i) (l .inv .2) (c .before .before .put2 .ensures),
-      seed-end (neighbours (s .args .off .now) (s .args .cols .now)) (l .p) (c .before .before .put2 .last .0) (s .args .i) hi (Prim.rw e at (l .inv .3)) (c .before .before .put2 .ensures),
+    let g = c .before .before .before .before .before .before .get-row in
+    let u = c .before .before .put in
+    let off = s .args .off .now in
+    let cols = s .args .cols .now in
+    let i = s .args .i in
+    let all : l .q ≡ length (row off cols i) = omega (arith, l .inv .0, ap length (g .ensures)) in (
+      other-put (s .args .p .now) (l .p) (u .last .0) i i (l .inv .1 .other) (u .ensures),
+      (
+        linking-row off cols i (l .inv .1) (under (s .pre .0) (s .pre .2)) all (u .last .0) (u .ensures),
+        linking-firsts off cols i (l .inv .1) (under (s .pre .0) (s .pre .2)) all,
+      ),
     )
 
 pub seed-row-spec : {M : Type 1} → statement M
@@ -85,12 +104,14 @@ seed-row-spec =
     (tie.spec
     Inv-loop
     μ-loop
+    get-row-requires
     loop-holds
-    shared-rows-requires
-    put-requires
-    add-j
+    at-requires
+    link-requires
+    add-q
     loop-less
     loop-again
-    put-requires-2
+    put-requires
     same-length
+    same-length-2
     returns)
