@@ -76,3 +76,14 @@ same-size (fin true m e) h k =
 
 pub above-zero : (x : Float) → lt x (ofBits binary64 0) ≡ false → eq x (ofBits binary64 0) ≡ false → x ≡ magnitude x
 above-zero x h k = same-size x (sym (ap (lt x) as-zero) ∙ h) (sym (ap (eq x) as-zero) ∙ k)
+
+positive-size : (x : Float) → lt (fin false 0 (pos 0)) x ≡ true → x ≡ magnitude x
+unfolding lt magnitude
+positive-size nan h = refl
+positive-size (inf true) h = absurd (false≢true h)
+positive-size (inf false) h = refl
+positive-size (fin false m e) h = refl
+positive-size (fin true m e) h = absurd (false≢true h)
+
+pub positive : (x : Float) → lt (ofBits binary64 0) x ≡ true → x ≡ magnitude x
+positive x h = positive-size x (sym (ap (λ (z : Float). lt z x) as-zero) ∙ h)

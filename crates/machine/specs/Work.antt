@@ -1,8 +1,8 @@
 -- What the functions of a solve promise of their working memory. Definitions only.
 use mathlib.Core.Path.{_≡_}
 use mathlib.Core.List.{List}
-use Prim.Native.Nat.{ℕ, _+_, _*_, _<_}
-use lib.ListN.{getD, take, drop}
+use Prim.Native.Nat.{ℕ, _<_}
+use lib.ListN.{getD}
 use lib.Ieee.{Float}
 use Rattle.lanes.specs.Arithmetic.{null}
 use Rattle.machine.specs.Machine.{Problem, LaneData, Settings, standard, State, Direction, Status, spoilt, done, steps, status, mu, direction, stepped, moved}
@@ -15,16 +15,6 @@ problemOf m n s off cols vals = record { m = m; n = n; s = s; off = off; cols = 
 
 abbrev pub callOf : ℕ → ℕ → ℕ → List ℕ → List ℕ → List Float → List Float → List Float → List Float → Call
 callOf m n s off cols vals b c tol = record { K = 4; problem = problemOf m n s off cols vals; settings = standard; b = b; c = c; tolerances = tol }
-
--- x, z, y, w stand first in the working memory
-abbrev pub memoryOf : ℕ → ℕ → ℕ → ℕ → List Float → Memory
-memoryOf K m n s v =
-    record {
-      x = take (K * n) v;
-      z = take (K * n) (drop (K * n) v);
-      y = take (K * m) (drop (2 * (K * n)) v);
-      w = take (K * s) (drop (2 * (K * n) + K * m) v);
-    }
 
 -- each number p becomes 1·p + h·dp
 abbrev pub stepBy : Problem → State → Float → Direction → State
