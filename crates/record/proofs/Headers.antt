@@ -8,9 +8,10 @@ use borrow.Author.Tests.{eq-eqb, ne-eqb, eqb-true, leb-true}
 use lib.Dec.{eqb, leb}
 use lib.ListN.{length}
 use Rattle.record.specs.declared.Header.the-variants.{Mismatch, Matches}
-use Rattle.record.specs.Record.{mostRows, mostColumns, mostEntries, lengthOf, kindOf, mOf, nOf, sOf, limitOf, tOf, endAt, within, wellFormed, sizesOf, headerOf, Whole}
+use Rattle.record.specs.Record.{mostRows, mostColumns, mostEntries, lengthOf, kindOf, mOf, nOf, sOf, limitOf, tOf, endAt, within, wellFormed, sizesOf, headerOf}
 use Rattle.record.specs.declared.Sizes.{Sizes}
 use Rattle.record.specs.Text.{inputText}
+use Rattle.record.specs.Parts.{Whole}
 use Rattle.record.specs.Answer.{solveText, givenOf, lentFor, answerText}
 
 and-false : (a : Bool) → a && false ≡ false

@@ -1,4 +1,4 @@
--- No answer is longer than 2,206 bytes. Assumes nothing.
+-- No answer is longer than its stated most. Assumes nothing.
 use mathlib.Core.Path.{_≡_, refl, _∙_}
 use mathlib.Core.Bool.{Bool, true, false, cond}
 use mathlib.Core.List.{List, [], _∷_, _++_}
@@ -42,7 +42,16 @@ line-length x e =
     let b = floatText (at x (4 * e + 1)) space in
     let c = floatText (at x (4 * e + 2)) space in
     let d = floatText (at x (4 * e + 3)) lineFeed in
-    length-append a (b ++ (c ++ d)) ∙ omega (arith, length-append b (c ++ d), length-append c d, float-length (at x (4 * e)) space, float-length (at x (4 * e + 1)) space, float-length (at x (4 * e + 2)) space, float-length (at x (4 * e + 3)) lineFeed)
+    length-append a (b ++ (c ++ d))
+    ∙ omega (
+      arith,
+      length-append b (c ++ d),
+      length-append c d,
+      float-length (at x (4 * e)) space,
+      float-length (at x (4 * e + 1)) space,
+      float-length (at x (4 * e + 2)) space,
+      float-length (at x (4 * e + 3)) lineFeed,
+    )
 
 lines-length : (n : ℕ) (x : List Float) → length (cat n (lineText x)) ≡ 68 * n
 unfolding cat
@@ -57,7 +66,14 @@ accepted-length test n x =
 refused-length : (q p l : ℕ) → length (refusedText q p l) ≤ 71
 unfolding refusedText ascii
 refused-length q p l =
-    omega (arith, length-append (wholeText q space) (wholeText p space ++ wholeText l lineFeed), length-append (wholeText p space) (wholeText l lineFeed), whole-length q space, whole-length p space, whole-length l lineFeed)
+    omega (
+      arith,
+      length-append (wholeText q space) (wholeText p space ++ wholeText l lineFeed),
+      length-append (wholeText p space) (wholeText l lineFeed),
+      whole-length q space,
+      whole-length p space,
+      whole-length l lineFeed,
+    )
 
 pub input-length : length inputText ≤ answerBytes
 unfolding inputText ascii

@@ -12,8 +12,9 @@ use Rattle.machine.specs.Demand3.{Buffers}
 use Rattle.ipm_simd.specs.Solve.{Given, given, lent}
 use Rattle.record.specs.declared.Sizes.{Sizes}
 use Rattle.record.specs.Little.{le2, le8, shorts, floats}
-use Rattle.record.specs.Record.{mOf, nOf, tOf, columnsAt, valuesAt, tolerancesAt, bAt, cAt, sizesOf, Whole}
-use Rattle.record.specs.Answer.{partsOf, givenOf, solveText, lentFor, zeros, blank, indexWords, workFloats}
+use Rattle.record.specs.Record.{mOf, nOf, tOf, columnsAt, valuesAt, tolerancesAt, bAt, cAt, sizesOf}
+use Rattle.record.specs.Parts.{Whole, partsOf}
+use Rattle.record.specs.Answer.{givenOf, solveText, lentFor, zeros, blank, indexWords, workFloats}
 
 -- ---- an array whose first k elements were lent and became `new`
 module _ {A : Type 0} (arr new : List A) (k : ℕ) (fits : k ≤ length arr) (kept : length new ≡ length (take k arr)) where

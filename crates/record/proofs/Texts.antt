@@ -10,7 +10,7 @@ use borrow.Author.Tests.{lt-ltb, le-ltb}
 use lib.ListN.{length, length-append}
 use Rattle.io.specs.Digits.{glyph, digits, Fewest}
 use Rattle.lists.specs.Cat.{Wrote}
-use Rattle.lists.proofs.Write.{wrote-join, wrote-as}
+use Rattle.lists.proofs.Write.{wrote-join, wrote-as, wrote-length}
 use Rattle.record.specs.Text.{decimalTo, hexText}
 
 pub length-digits : (b k n : ℕ) → length (digits b k n) ≡ k
@@ -65,6 +65,17 @@ pub hex-is : (k b : ℕ) → k ≤ 16 → Fewest 16 16 b k → digits 16 k b ≡
 unfolding hexText
 hex-is k b h f = let e : k ≡ 16 = omega (arith, f .0) in ap (λ (j : ℕ). digits 16 j b) e
 
+-- ---- texts written one after the other
+
+pub join : {a b c : List ℕ} {at r s : ℕ} {t u : List ℕ} → Wrote a b at t r → Wrote b c r u s → Wrote a c at (t ++ u) s
+join p q = wrote-join _ _ _ _ _ _ _ _ p q
+
+pub same-text : {a b : List ℕ} {at r : ℕ} {t u : List ℕ} → t ≡ u → Wrote a b at t r → Wrote a b at u r
+same-text e p = wrote-as _ _ _ _ _ _ e p
+
+pub same-long : {a b : List ℕ} {at r : ℕ} {t : List ℕ} → Wrote a b at t r → length b ≡ length a
+same-long p = wrote-length _ _ _ _ _ p
+
 -- a text, and one byte after it
 pub then-byte : {a b c : List ℕ} {at r s : ℕ} {t u : List ℕ} {x : ℕ} → t ≡ u → Wrote a b at t r → Wrote b c r (x ∷ []) s → Wrote a c at (u ++ (x ∷ [])) s
-then-byte e p q = wrote-join _ _ _ _ _ _ _ _ (wrote-as _ _ _ _ _ _ e p) q
+then-byte e p q = join (same-text e p) q

@@ -2,4 +2,5 @@ pub mod Little
 pub mod Record
 pub mod Text
 pub mod Answer
+pub mod Parts
 pub mod Examples

@@ -1,8 +1,7 @@
 -- What the bytes of a record mean. Definitions only.
 use mathlib.Core.Bool.{Bool, cond, _&&_}
-use mathlib.Core.Path.{_≡_}
 use mathlib.Core.List.{List}
-use Prim.Native.Nat.{ℕ, _+_, _*_, _≤_}
+use Prim.Native.Nat.{ℕ, _+_, _*_}
 use lib.Dec.{eqb, leb}
 use lib.ListN.{length}
 use lib.Ieee.{Float}
@@ -97,11 +96,3 @@ sizesOf s = record { m = mOf s; n = nOf s; s = sOf s; limit = limitOf s; t = tOf
 
 abbrev pub headerOf : List ℕ → Header
 headerOf s = cond (wellFormed s) (Matches (sizesOf s)) Mismatch
-
--- bytes that match, with the sizes that they start with
-pub record Whole (s : List ℕ) (z : Sizes) : Type 0 where
-  pub sizes : z ≡ sizesOf s
-  pub rows : z .m ≤ mostRows
-  pub columns : z .n ≤ mostColumns
-  pub entries : z .t ≤ mostEntries
-  pub ends : length s ≡ endAt (z .m) (z .n) (z .t)

@@ -2,9 +2,9 @@ use borrow.Author.Needs.{needs}
 use mathlib.Core.Path.{sym}
 use native.Mathlib.Omega.{arith}
 use lib.Seq.{length-take-le}
-use Rattle.lists.proofs.Write.{wrote-as}
 use Rattle.record.proofs.Parts.{front-room, front-long, read-text}
 use Rattle.record.proofs.Parts.{shortCount, floatCount, shorts-fit, floats-fit, output-long}
+use Rattle.record.proofs.Texts.{same-text}
 use Rattle.record.proofs.answer.answer.Statement.{statement}
 use Rattle.record.proofs.answer.answer.Tie as tie
 
@@ -55,8 +55,10 @@ slice-aggregate-read-shorts c = sym (length-take-le _ _ (shorts-fit (c .before .
 
 read-shorts-requires : tie.Need-read-shorts-requires
 read-shorts-requires c κs =
-    let whole = c .before .before .before .before .before .before .before .before .pre .0 in
-    omega (arith, whole .ends, length-take-le (shortCount (c .before .before .before .before .before .before .before .before .args .sizes)) (c .before .before .before .before .before .shorts .result) (shorts-fit whole (c .before .before .before .before .before .shorts .ensures)))
+    let start = c .before .before .before .before .before .before .before .before in
+    let arr = c .before .before .before .before .before .shorts in
+    let long = length-take-le (shortCount (start .args .sizes)) (arr .result) (shorts-fit (start .pre .0) (arr .ensures)) in
+    omega (arith, start .pre .0 .ends, long)
 
 mul-read-floats : tie.Need-mul-read-floats
 mul-read-floats c = search needs
@@ -72,32 +74,42 @@ slice-aggregate-read-floats c = sym (length-take-le _ _ (floats-fit (c .before .
 
 read-floats-requires : tie.Need-read-floats-requires
 read-floats-requires c κs =
-    let whole = c .before .before .before .before .before .before .before .before .before .before .before .pre .0 in
-    omega (arith, whole .ends, length-take-le (floatCount (c .before .before .before .before .before .before .before .before .before .before .before .args .sizes)) (c .before .before .before .before .before .before .before .floats .result) (floats-fit whole (c .before .before .before .before .before .before .before .floats .ensures)))
+    let start = c .before .before .before .before .before .before .before .before .before .before .before in
+    let arr = c .before .before .before .before .before .before .before .floats in
+    let long = length-take-le (floatCount (start .args .sizes)) (arr .result) (floats-fit (start .pre .0) (arr .ensures)) in
+    omega (arith, start .pre .0 .ends, long)
 
 array-share-prefix-shorts : tie.Need-array-share-prefix-shorts
 array-share-prefix-shorts c =
+    let start = c .before .before .before .before .before .before .before .before .before .before .before .before .before in
     let arr = c .before .before .before .before .before .before .before .before .before .before .shorts in
     let read = c .before .before .before .before .read-shorts in
-    front-room (arr .result) (read .last .1 .1 .0) (shortCount (c .before .before .before .before .before .before .before .before .before .before .before .before .before .args .sizes)) (shorts-fit (c .before .before .before .before .before .before .before .before .before .before .before .before .before .pre .0) (arr .ensures)) (read .kept .1 .1 .0)
+    let fit = shorts-fit (start .pre .0) (arr .ensures) in
+    front-room (arr .result) (read .last .1 .1 .0) (shortCount (start .args .sizes)) fit (read .kept .1 .1 .0)
 
 slice-aggregate-solve-parts : tie.Need-slice-aggregate-solve-parts
 slice-aggregate-solve-parts c =
+    let start = c .before .before .before .before .before .before .before .before .before .before .before .before .before .before in
     let arr = c .before .before .before .before .before .before .before .before .before .before .before .shorts in
     let read = c .before .before .before .before .before .read-shorts in
-    sym (front-long (arr .result) (read .last .1 .1 .0) (shortCount (c .before .before .before .before .before .before .before .before .before .before .before .before .before .before .args .sizes)) (shorts-fit (c .before .before .before .before .before .before .before .before .before .before .before .before .before .before .pre .0) (arr .ensures)) (read .kept .1 .1 .0))
+    let fit = shorts-fit (start .pre .0) (arr .ensures) in
+    sym (front-long (arr .result) (read .last .1 .1 .0) (shortCount (start .args .sizes)) fit (read .kept .1 .1 .0))
 
 array-share-prefix-floats : tie.Need-array-share-prefix-floats
 array-share-prefix-floats c =
+    let start = c .before .before .before .before .before .before .before .before .before .before .before .before .before .before in
     let arr = c .before .before .before .before .before .before .before .before .before .before .floats in
     let read = c .before .before .read-floats in
-    front-room (arr .result) (read .last .1 .1 .0) (floatCount (c .before .before .before .before .before .before .before .before .before .before .before .before .before .before .args .sizes)) (floats-fit (c .before .before .before .before .before .before .before .before .before .before .before .before .before .before .pre .0) (arr .ensures)) (read .kept .1 .1 .0)
+    let fit = floats-fit (start .pre .0) (arr .ensures) in
+    front-room (arr .result) (read .last .1 .1 .0) (floatCount (start .args .sizes)) fit (read .kept .1 .1 .0)
 
 slice-aggregate-solve-parts-2 : tie.Need-slice-aggregate-solve-parts-2
 slice-aggregate-solve-parts-2 c =
+    let start = c .before .before .before .before .before .before .before .before .before .before .before .before .before .before .before in
     let arr = c .before .before .before .before .before .before .before .before .before .before .before .floats in
     let read = c .before .before .before .read-floats in
-    sym (front-long (arr .result) (read .last .1 .1 .0) (floatCount (c .before .before .before .before .before .before .before .before .before .before .before .before .before .before .before .args .sizes)) (floats-fit (c .before .before .before .before .before .before .before .before .before .before .before .before .before .before .before .pre .0) (arr .ensures)) (read .kept .1 .1 .0))
+    let fit = floats-fit (start .pre .0) (arr .ensures) in
+    sym (front-long (arr .result) (read .last .1 .1 .0) (floatCount (start .args .sizes)) fit (read .kept .1 .1 .0))
 
 array-borrow-prefix-output : tie.Need-array-borrow-prefix-output
 array-borrow-prefix-output c = search needs
@@ -143,7 +155,7 @@ returns c =
     let work = c .before .before .before .before .before .before .before .before .before .before .before .before .before .before .before .before .before .before .work in
     let shorts-read = c .before .before .before .before .before .before .before .before .before .before .before .before .before .before .before .before .read-shorts in
     let floats-read = c .before .before .before .before .before .before .before .before .before .before .before .before .before .read-floats in
-    wrote-as _ _ _ _ _ _
+    same-text
     (read-text (start .args .bytes .now) (start .args .sizes) (start .pre .0) (output .result) (work .result) (index .result)
     (shorts .result) (shorts-read .last .1 .1 .0) (floats .result) (floats-read .last .1 .1 .0)
     (output .ensures) (index .ensures) (work .ensures) (shorts .ensures) (shorts-read .ensures) (floats .ensures) (floats-read .ensures)

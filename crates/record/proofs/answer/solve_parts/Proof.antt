@@ -2,8 +2,8 @@ use borrow.Author.Needs.{needs}
 use mathlib.Core.Path.{sym}
 use native.Mathlib.Omega.{arith}
 use lib.Seq.{length-take-le}
-use Rattle.lists.proofs.Write.{wrote-as}
 use Rattle.record.proofs.Parts.{cut-text}
+use Rattle.record.proofs.Texts.{same-text}
 use Rattle.record.proofs.answer.solve_parts.Statement.{statement}
 use Rattle.record.proofs.answer.solve_parts.Tie as tie
 
@@ -98,7 +98,9 @@ same-length-4 : tie.Need-same-length-4
 same-length-4 c = search needs
 
 returns : tie.Need-returns
-returns c = wrote-as _ _ _ _ _ _ (cut-text (c .before .before .before .before .before .before .before .before .before .before .before .before .before .before .before .before .before .before .before .before .before .before .before .before .before .args .sizes) (c .before .before .before .before .before .before .before .before .before .before .before .before .before .before .before .before .before .before .before .before .before .before .before .before .before .args .shorts .now) (c .before .before .before .before .before .before .before .before .before .before .before .before .before .before .before .before .before .before .before .before .before .before .before .before .before .args .floats .now) _) (c .before .before .before .before .before .before .before .before .solve-text .ensures)
+returns c =
+    let given = c .before .before .before .before .before .before .before .before .before .before .before .before .before .before .before .before .before .before .before .before .before .before .before .before .before .args in
+    same-text (cut-text (given .sizes) (given .shorts .now) (given .floats .now) _) (c .before .before .before .before .before .before .before .before .solve-text .ensures)
 
 pub solve-parts-spec : {M : Type 1} → statement M
 solve-parts-spec =

@@ -1,6 +1,6 @@
-use Rattle.lists.proofs.Write.{wrote-as}
 use Rattle.record.proofs.Answers.{accepted-text, refused-text}
 use borrow.Author.Needs.{needs}
+use Rattle.record.proofs.Texts.{same-text}
 use Rattle.record.proofs.answer.solve_text.Statement.{statement}
 use Rattle.record.proofs.answer.solve_text.Tie as tie
 
@@ -33,7 +33,9 @@ same-length-4 c = search needs
 
 returns : tie.Need-returns
 returns c =
-    wrote-as _ _ _ _ _ _ (accepted-text (c .before .before .before .before .before .before .before .before .before .before .before .before .before .before .solve .ensures) _ (c .before .before .before .before .before .before .answer .given .1)) (c .before .before .put-accepted .ensures)
+    let solve = c .before .before .before .before .before .before .before .before .before .before .before .before .before .before .solve .ensures in
+    let told = c .before .before .before .before .before .before .answer .given .1 in
+    same-text (accepted-text solve _ told) (c .before .before .put-accepted .ensures)
 
 same-length-5 : tie.Need-same-length-5
 same-length-5 c = search needs
@@ -49,7 +51,9 @@ same-length-8 c = search needs
 
 returns-2 : tie.Need-returns-2
 returns-2 c =
-    wrote-as _ _ _ _ _ _ (refused-text (c .before .before .before .before .before .before .before .before .before .before .before .before .before .solve .ensures) _ (c .before .before .before .before .before .answer2 .given .1)) (c .before .before .put-refused .ensures)
+    let solve = c .before .before .before .before .before .before .before .before .before .before .before .before .before .solve .ensures in
+    let told = c .before .before .before .before .before .answer2 .given .1 in
+    same-text (refused-text solve _ told) (c .before .before .put-refused .ensures)
 
 pub solve-text-spec : {M : Type 1} → statement M
 solve-text-spec =

@@ -55,12 +55,15 @@ le16-requires-6 c κs = search needs
 
 returns-6 : tie.Need-returns-6
 returns-6 c =
-    let checked = c .before .before in
-    let sized = c .before .before .before .before .before .before in
+    let ended = c .before .before in
+    let within = ended .before .before in
+    let sized = within .before .before in
+    let kind = sized .before .before .before in
+    let length = kind .before .before in
     right _ _ _ _ (sized .before .before .le162 .ensures .0) (sized .before .le163 .ensures .0) (sized .le164 .ensures .0) _ _ _ _ _ _
-    (c .before .before .before .before .before .before .before .before .before .before .before .before .le32 .ensures .0) (c .before .before .before .before .before .before .before .before .before .before .le16 .ensures .0) (c .before .le165 .ensures .0) (c .le166 .ensures .0)
-    (c .before .before .before .before .before .before .before .before .before .before .before .if2 .left) (c .before .before .before .before .before .before .before .before .before .if3 .left)
-    (checked .before .before .before .is-within .ensures) (not-false _ (checked .before .before .if4 .left)) (checked .before .record-bytes .ensures) (checked .if5 .left)
+    (length .before .le32 .ensures .0) (kind .before .le16 .ensures .0) (c .before .le165 .ensures .0) (c .le166 .ensures .0)
+    (length .if2 .left) (kind .if3 .left)
+    (within .before .is-within .ensures) (not-false _ (within .if4 .left)) (ended .before .record-bytes .ensures) (ended .if5 .left)
 
 pub read-header-spec : {M : Type 1} → statement M
 read-header-spec =

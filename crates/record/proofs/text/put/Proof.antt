@@ -2,10 +2,10 @@ use Prim.Native.Nat.{_+_, _-_, _≤_}
 use native.Mathlib.Omega.{arith}
 use lib.ListN.{length, take}
 use Rattle.lists.specs.Cat.{Wrote}
-use Rattle.lists.proofs.Write.{wrote-as, wrote-length}
 use Rattle.record.proofs.Copies.{copied}
 use mathlib.Core.Path.{refl}
 use lib.Seq.{take-all}
+use Rattle.record.proofs.Texts.{same-text, same-long}
 use Rattle.record.proofs.text.put.Statement.{statement}
 use Rattle.record.proofs.text.put.Tie as tie
 
@@ -22,10 +22,10 @@ shared-slice-read-out : tie.Need-shared-slice-read-out Inv-loop μ-loop
 shared-slice-read-out c = omega arith
 
 add-out : tie.Need-add-out Inv-loop μ-loop
-add-out c = omega (arith, wrote-length _ _ _ _ _ (c .before .before .loop .inv .1))
+add-out c = omega (arith, same-long (c .before .before .loop .inv .1))
 
 slice-write-out : tie.Need-slice-write-out Inv-loop μ-loop
-slice-write-out c = omega (arith, wrote-length _ _ _ _ _ (c .before .before .loop .inv .1))
+slice-write-out c = omega (arith, same-long (c .before .before .loop .inv .1))
 
 add-i : tie.Need-add-i Inv-loop μ-loop
 add-i c = omega arith
@@ -40,10 +40,10 @@ add-result : tie.Need-add-result Inv-loop μ-loop
 add-result c = omega arith
 
 same-length : tie.Need-same-length Inv-loop μ-loop
-same-length c = wrote-length _ _ _ _ _ (c .before .loop .inv .1)
+same-length c = same-long (c .before .loop .inv .1)
 
 returns : tie.Need-returns Inv-loop μ-loop
-returns c = wrote-as _ _ _ _ _ _ (take-all (c .before .loop .i) _ (omega arith)) (c .before .loop .inv .1)
+returns c = same-text (take-all (c .before .loop .i) _ (omega arith)) (c .before .loop .inv .1)
 
 pub put-spec : {M : Type 1} → statement M
 put-spec =

@@ -1,6 +1,6 @@
 use borrow.Author.Needs.{needs}
-use Rattle.lists.proofs.Write.{wrote-join}
 use Rattle.record.specs.Text.{ascii, acceptedText}
+use Rattle.record.proofs.Texts.{join}
 use Rattle.record.proofs.text.put_accepted.Statement.{statement}
 use Rattle.record.proofs.text.put_accepted.Tie as tie
 
@@ -22,8 +22,8 @@ same-length c = search needs
 returns : tie.Need-returns
 unfolding acceptedText ascii
 returns c =
-    wrote-join _ _ _ _ _ _ _ _ (c .before .before .before .before .before .before .before .before .before .before .put .ensures)
-    (wrote-join _ _ _ _ _ _ _ _ (c .before .before .before .before .before .before .put-whole .ensures .0) (c .before .before .put-lines .ensures))
+    join (c .before .before .before .before .before .before .before .before .before .before .put .ensures)
+    (join (c .before .before .before .before .before .before .put-whole .ensures .0) (c .before .before .put-lines .ensures))
 
 pub put-accepted-spec : {M : Type 1} → statement M
 put-accepted-spec =

@@ -1,7 +1,7 @@
 use borrow.Author.Needs.{needs}
 use native.Mathlib.Omega.{arith}
-use Rattle.lists.proofs.Write.{wrote-join}
 use Rattle.record.specs.Text.{lineText}
+use Rattle.record.proofs.Texts.{join}
 use Rattle.record.proofs.text.put_line.Statement.{statement}
 use Rattle.record.proofs.text.put_line.Tie as tie
 
@@ -63,7 +63,7 @@ returns c =
     let second = c .before .before .before .before .before .before .before .before .before .before .before .before .put-float2 .ensures in
     let third = c .before .before .before .before .before .before .before .put-float3 .ensures in
     let fourth = c .before .before .put-float4 .ensures in (
-      wrote-join _ _ _ _ _ _ _ _ (first .0) (wrote-join _ _ _ _ _ _ _ _ (second .0) (wrote-join _ _ _ _ _ _ _ _ (third .0) (fourth .0))),
+      join (first .0) (join (second .0) (join (third .0) (fourth .0))),
       omega (arith, first .1, second .1, third .1, fourth .1),
     )
 

@@ -1,6 +1,6 @@
 use borrow.Author.Needs.{needs}
-use Rattle.lists.proofs.Write.{wrote-join}
 use Rattle.record.specs.Text.{ascii, refusedText}
+use Rattle.record.proofs.Texts.{join}
 use Rattle.record.proofs.text.put_refused.Statement.{statement}
 use Rattle.record.proofs.text.put_refused.Tie as tie
 
@@ -25,9 +25,9 @@ same-length c = search needs
 returns : tie.Need-returns
 unfolding refusedText ascii
 returns c =
-    wrote-join _ _ _ _ _ _ _ _ (c .before .before .before .before .before .before .before .before .before .before .before .before .before .before .put .ensures)
-    (wrote-join _ _ _ _ _ _ _ _ (c .before .before .before .before .before .before .before .before .before .before .put-whole .ensures .0)
-    (wrote-join _ _ _ _ _ _ _ _ (c .before .before .before .before .before .before .put-whole2 .ensures .0) (c .before .before .put-whole3 .ensures .0)))
+    join (c .before .before .before .before .before .before .before .before .before .before .before .before .before .before .put .ensures)
+    (join (c .before .before .before .before .before .before .before .before .before .before .put-whole .ensures .0)
+    (join (c .before .before .before .before .before .before .put-whole2 .ensures .0) (c .before .before .put-whole3 .ensures .0)))
 
 pub put-refused-spec : {M : Type 1} → statement M
 put-refused-spec =
