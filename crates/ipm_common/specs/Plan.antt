@@ -1,4 +1,5 @@
 -- The six questions of plan, its answer and what it leaves in the index memory. Definitions only.
+use mathlib.Core.Path.{_≡_}
 use mathlib.Core.List.{List, _++_}
 use Prim.Native.Nat.{ℕ}
 use lib.Dec.{leb}
@@ -39,3 +40,8 @@ planIndex m n offsets columns index =
     left (planVerdict m n offsets columns (length index))
     (planWords offsets columns m n ++ drop (sizeW offsets columns m n) index)
     index
+
+-- question 6 is answered, and the index memory is left so
+pub record Answered (m n : ℕ) (offsets columns old new : List ℕ) (v : Verdict) : Type 0 where
+  pub says : v ≡ roomVerdict m n offsets columns (length old)
+  pub words : new ≡ left v (planWords offsets columns m n ++ drop (sizeW offsets columns m n) old) old

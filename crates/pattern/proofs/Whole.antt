@@ -42,7 +42,7 @@ sum-plus zero f g = refl
 sum-plus (suc n) f g = omega (arith, sum-plus n f g)
 
 -- a sum whose tail is 0
-sum-cut : (n m : ℕ) (f g : ℕ → ℕ) → m ≤ n → ((k : ℕ) → k < m → f k ≡ g k) → ((k : ℕ) → m ≤ k → k < n → f k ≡ 0) → sum n f ≡ sum m g
+pub sum-cut : (n m : ℕ) (f g : ℕ → ℕ) → m ≤ n → ((k : ℕ) → k < m → f k ≡ g k) → ((k : ℕ) → m ≤ k → k < n → f k ≡ 0) → sum n f ≡ sum m g
 sum-cut n m f g h same tail =
     let e : n ≡ m + (n - m) = omega arith in
     ap (λ (x : ℕ). sum x f) e
@@ -115,7 +115,7 @@ bothN p a b = sum 256 (λ k. one (bit p a k && bit p b k))
 unfoldable pub commonN : List ℕ → List ℕ → ℕ → ℕ → ℕ
 commonN off cols a b = common (row off cols a) (row off cols b)
 
-zeros : (n k : ℕ) → _≡_ {A = ℕ} (getD (replicate n 0) k 0) 0
+pub zeros : (n k : ℕ) → _≡_ {A = ℕ} (getD (replicate n 0) k 0) 0
 zeros zero k = refl
 zeros (suc n) zero = refl
 zeros (suc n) (suc k) = zeros n k

@@ -78,78 +78,6 @@ pub fn count(p: &[u64], m: usize) -> u32
     e
 }
 
-// How many columns two rows have in common.
-pub fn shared(a: &[u32], b: &[u32]) -> usize
-    requires { ⌜ Rising (now a) × Rising (now b) ⌝ }
-    ensures { λ r. ⌜ (r ≡ common (now (a .entry)) (now (b .entry))) × (r ≤ length (now (a .entry))) ⌝ }
-{
-    let mut n: usize = 0;
-    let mut i: usize = 0;
-    let mut j: usize = 0;
-    while i < a.len() && j < b.len() {
-        let x = a[i];
-        let y = b[j];
-        if x == y {
-            n += 1;
-            i += 1;
-            j += 1;
-        } else if x < y {
-            i += 1;
-        } else {
-            j += 1;
-        }
-    }
-    n
-}
-
-fn at(s: &[u32], i: usize) -> usize
-    requires { ⌜ i < length (now s) ⌝ }
-    ensures { λ r. ⌜ r ≡ getD (now (s .entry)) i 0 ⌝ }
-{
-    s[i] as usize
-}
-
-// How many columns rows i and j of the matrix have in common.
-pub fn shared_rows(off: &[u32], cols: &[u32], m: usize, i: usize, j: usize) -> usize
-    requires { ⌜ Csr (now off) (now cols) m × (i < m) × (j < m) ⌝ }
-    ensures { λ r. ⌜ (r ≡ common (row (now (off .entry)) (now (cols .entry)) i) (row (now (off .entry)) (now (cols .entry)) j)) × (r ≤ 16384) ⌝ }
-{
-    let a = at(off, i);
-    let b = at(off, i + 1);
-    let c = at(off, j);
-    let d = at(off, j + 1);
-    shared(&cols[a..b], &cols[c..d])
-}
-
-// Put the neighbours and the diagonal of row i into a clear row.
-pub fn seed_row(off: &[u32], cols: &[u32], m: usize, p: &mut [u64], i: usize)
-    requires { ⌜ Csr (now off) (now cols) m × (i < m) × (length (now p) ≡ 1024) × Clear (now p) i ⌝ }
-    ensures other { λ _. ⌜ OtherRows (now (p .entry)) (now (p .exit)) i ⌝ }
-    ensures row { λ _. ⌜ Seeded (neighbours (now (off .entry)) (now (cols .entry))) (now (p .exit)) i ⌝ }
-{
-    let mut j: usize = 0;
-    while j < i {
-        if shared_rows(off, cols, m, i, j) != 0 {
-            put(p, i, j);
-        }
-        j += 1;
-    }
-    put(p, i, i);
-}
-
-// The whole pattern, into clear rows.
-pub fn pattern(off: &[u32], cols: &[u32], m: usize, p: &mut [u64])
-    requires { ⌜ Csr (now off) (now cols) m × (length (now p) ≡ 1024) × ((i : ℕ) → i < 256 → Clear (now p) i) ⌝ }
-    ensures { λ _. ⌜ ((i : ℕ) → i < m → Done (neighbours (now (off .entry)) (now (cols .entry))) (now (p .exit)) i) ⌝ }
-{
-    let mut i: usize = 0;
-    while i < m {
-        seed_row(off, cols, m, p, i);
-        fill_row(p, i);
-        i += 1;
-    }
-}
-
 // How many bits rows i and j have in common.
 pub fn both_ones(p: &[u64], i: usize, j: usize) -> u32
     requires { ⌜ (length (now p) ≡ 1024) × (i < 256) × (j < 256) ⌝ }
@@ -161,33 +89,4 @@ pub fn both_ones(p: &[u64], i: usize, j: usize) -> u32
         + u64::count_ones(p[a + 1] & p[b + 1])
         + u64::count_ones(p[a + 2] & p[b + 2])
         + u64::count_ones(p[a + 3] & p[b + 3])
-}
-
-pub struct Tally {
-    pub e: u32,
-    pub s: usize,
-    pub d: u32,
-}
-
-// E, S and D.
-pub fn sizes(off: &[u32], cols: &[u32], m: usize) -> Tally
-    requires { ⌜ Csr (now off) (now cols) m ⌝ }
-    ensures { λ r. ⌜ (r .e ≡ countE (now (off .entry)) (now (cols .entry)) m) × (r .s ≡ countS (now (off .entry)) (now (cols .entry)) m) × (r .d ≡ countD (now (off .entry)) (now (cols .entry)) m) × (r .s ≤ 1073741824) ⌝ }
-{
-    let mut p = [0u64; 1024];
-    pattern(off, cols, m, &mut p);
-    let e = count(&p, m);
-    let mut s: usize = 0;
-    let mut t: u32 = 0;
-    let mut i: usize = 0;
-    while i < m {
-        let mut j: usize = 0;
-        while j <= i {
-            s += shared_rows(off, cols, m, i, j);
-            t += both_ones(&p, i, j);
-            j += 1;
-        }
-        i += 1;
-    }
-    Tally { e, s, d: t - e }
 }
