@@ -1,21 +1,20 @@
--- A loop over the places from `from` on: one more. Assumes nothing.
-use mathlib.Core.Path.{_≡_, refl, sym, ap, ap₂, _∙_, subst}
+-- The two sums of an entry, turn by turn; where an entry starts, and how it is finished. Assumes nothing.
+use mathlib.Core.Path.{_≡_, refl, ap, ap₂, _∙_, subst}
 use mathlib.Core.Bool.{Bool, true, false, cond, _&&_}
-use mathlib.Core.List.{List, [], _∷_}
-use Prim.Native.Nat.{ℕ, zero, suc, _+_, _-_, _*_, _<_, _≤_}
+use mathlib.Core.List.{List}
+use Prim.Native.Nat.{ℕ, suc, _+_, _-_, _<_, _≤_}
 use native.Mathlib.Omega.{arith}
 use mathlib.Core.Logic.{_⊎_, inl, inr}
 use borrow.Author.Tests.{eq-eqb, ne-eqb, lt-ltb, le-ltb}
 use lib.Dec.{eqb, ltb}
-use lib.ListN.{length, getD}
+use lib.ListN.{getD}
 use lib.Ieee.{Float, nan, binary64, add, sub, mul, div, ofBits}
-use Rattle.lanes.specs.Lists.{at}
-use Rattle.lanes.specs.Lanes.{lanes, quad, cell as here}
-use Rattle.lanes.proofs.Quads.{lanes-ext, lanes-at}
-use Rattle.lanes.specs.Lists.{fold}
-use Rattle.lanes.specs.Arithmetic.{null}
-use Rattle.factor.proofs.Sizes.{null-bits}
-use Rattle.ranks.specs.Kernel.{Summed, normalStep, productStep, frontStep}
+use Rattle.lanes.specs.Lists.{at, fold}
+use Rattle.lanes.specs.Lanes.{lanes, each1, each2, quad, cell as here}
+use Rattle.lanes.proofs.Quads.{lanes-at}
+use Rattle.lanes.specs.Arithmetic.{√, magnitude, null}
+use Rattle.lanes.proofs.Consts.{null-bits}
+use Rattle.ranks.specs.Factoring.{Summed, normalStep, productStep, NormalIn, ProductIn}
 
 module _ (step : ℕ → ℕ → Float → Float) (start : List Float) (from : ℕ) where
   pub summed-none : Summed step start from from start
@@ -28,11 +27,17 @@ module _ (step : ℕ → ℕ → Float → Float) (start : List Float) (from : �
       let z : p + 1 - from ≡ suc (p - from) = omega arith in
       rw z (e l b ∙ ap (step l (p - from)) (s l b))
 
+-- what the two calls of a product's turn leave
+
+pub product-value : (acc a b : List Float) {p r : List Float} → p ≡ each2 (mul binary64) a b → r ≡ each2 (sub binary64) acc p
+    → r ≡ lanes (λ l. sub binary64 (at acc l) (mul binary64 (at a l) (at b l)))
+product-value acc a b ep er = rw (er, ep)
+
 -- ---- a turn of each of the two sums
 
 pub product-turn : {a b t : List Float} (acc : List Float) (left right : List ℕ) (work : List Float) (lo from p i j : ℕ) (start : List Float) → from ≤ p
     → Summed (productStep left right work lo from) start from p acc
-    → i ≡ getD left p 0 → j ≡ getD right p 0 → a ≡ entry work (lo + i) → b ≡ entry work (lo + j) → t ≡ lanes (λ l. sub binary64 (at acc l) (mul binary64 (at a l) (at b l)))
+    → i ≡ getD left p 0 → j ≡ getD right p 0 → a ≡ quad work (lo + i) → b ≡ quad work (lo + j) → t ≡ lanes (λ l. sub binary64 (at acc l) (mul binary64 (at a l) (at b l)))
     → Summed (productStep left right work lo from) start from (p + 1) t
 product-turn {a} {b} {t} acc left right work lo from p i j start h s ei ej ea eb et =
     let z : p ≡ from + (p - from) = omega arith in
@@ -46,7 +51,7 @@ product-turn {a} {b} {t} acc left right work lo from p i j start h s ei ej ea eb
 
 pub normal-turn : {xe ze t : List Float} (acc : List Float) (vals : List Float) (left right cols : List ℕ) (work : List Float) (x z from p i j e : ℕ) (start : List Float) → from ≤ p
     → Summed (normalStep vals left right cols work x z from) start from p acc
-    → i ≡ getD left p 0 → j ≡ getD right p 0 → e ≡ getD cols p 0 → xe ≡ entry work (x + e) → ze ≡ entry work (z + e)
+    → i ≡ getD left p 0 → j ≡ getD right p 0 → e ≡ getD cols p 0 → xe ≡ quad work (x + e) → ze ≡ quad work (z + e)
     → t ≡ lanes (λ l. add binary64 (at acc l) (div binary64 (mul binary64 (mul binary64 (getD vals i nan) (getD vals j nan)) (at xe l)) (at ze l)))
     → Summed (normalStep vals left right cols work x z from) start from (p + 1) t
 normal-turn {xe} {ze} {t} acc vals left right cols work x z from p i j e start h s ei ej ee ex ez et =
@@ -64,8 +69,19 @@ normal-turn {xe} {ze} {t} acc vals left right cols work x z from p i j e start h
     (ap (λ (v : List Float). at v l) ex ∙ lanes-at (here 4 work (x + e)) l c ∙ ap (λ (k : ℕ). here 4 work (x + k) l) fe)
     (ap (λ (v : List Float). at v l) ez ∙ lanes-at (here 4 work (z + e)) l c ∙ ap (λ (k : ℕ). here 4 work (z + k) l) fe))
 
-pub summed-end : (step : ℕ → ℕ → Float → Float) (start acc : List Float) (from p to : ℕ) → p ≡ to → Summed step start from p acc → Summed step start from to acc
-summed-end step start acc from p to e s = subst (λ (k : ℕ). Summed step start from k acc) e s
+-- at the loop's end, by the ends as the list has them
+pub summed-end : (step : ℕ → ℕ → ℕ → Float → Float) (start acc : List Float) {from from′ p to to′ : ℕ} → from ≡ from′ → to ≡ to′ → p ≡ to
+    → Summed (step from) start from p acc → Summed (step from′) start from′ to′ acc
+summed-end step start acc {from} {from′} {p} {to} {to′} a b c s =
+    subst (λ (t : ℕ). Summed (step t) start t to′ acc) a (subst (λ (t : ℕ). Summed (step from) start from t acc) (c ∙ b) s)
+
+pub normal-here : {vals : List Float} {left right cols : List ℕ} {work : List Float} {x z from from′ to to′ : ℕ} → from ≡ from′ → to ≡ to′
+    → NormalIn vals left right cols work x z from′ to′ → NormalIn vals left right cols work x z from to
+normal-here p q h = rw (p, q) h
+
+pub product-here : {left right : List ℕ} {work : List Float} {lo from from′ to to′ : ℕ} → from ≡ from′ → to ≡ to′
+    → ProductIn left right work lo from′ to′ → ProductIn left right work lo from to
+product-here p q h = rw (p, q) h
 
 -- ---- where an entry starts, and how it is finished
 
@@ -83,22 +99,11 @@ pub start-off : (i j s : ℕ) (F : ℕ → Float) → ((i ≡ j → ⊥) ⊎ (s 
 start-off i j s F (inl n) = rw (and-false-l (eqb i j) (ltb i s) (ne-eqb i j n)) (rw null-bits refl)
 start-off i j s F (inr h) = rw (and-false-r (eqb i j) (ltb i s) (le-ltb i s h)) (rw null-bits refl)
 
+pub root-value : (v : List Float) {a r : List Float} → a ≡ each1 magnitude v → r ≡ each1 √ a → r ≡ lanes (λ l. √ (magnitude (at v l)))
+root-value v ea er = rw (er, ea)
+
 pub finish-on : (i j : ℕ) (F G : ℕ → Float) → i ≡ j → lanes F ≡ lanes (λ l. cond (eqb i j) (F l) (G l))
 finish-on i j F G e = rw (eq-eqb i j e) refl
 
 pub finish-off : (i j : ℕ) (F G : ℕ → Float) → (i ≡ j → ⊥) → lanes G ≡ lanes (λ l. cond (eqb i j) (F l) (G l))
 finish-off i j F G n = rw (ne-eqb i j n) refl
-
-pub front-row-turn : {a b t : List Float} (acc : List Float) (js : List ℕ) (work : List Float) (dy lo from p j : ℕ) (start : List Float) → from ≤ p
-    → Summed (frontStep js work dy lo from) start from p acc
-    → j ≡ getD js p 0 → a ≡ entry work (dy + j) → b ≡ entry work (lo + p) → t ≡ lanes (λ l. sub binary64 (at acc l) (mul binary64 (at a l) (at b l)))
-    → Summed (frontStep js work dy lo from) start from (p + 1) t
-front-row-turn {a} {b} {t} acc js work dy lo from p j start h s ej ea eb et =
-    let z : p ≡ from + (p - from) = omega arith in
-    summed-more (frontStep js work dy lo from) start from p acc t h s
-    (λ l c.
-    ap (λ (v : List Float). at v l) et
-    ∙ lanes-at (λ l. sub binary64 (at acc l) (mul binary64 (at a l) (at b l))) l c
-    ∙ ap₂ (λ (u v : Float). sub binary64 (at acc l) (mul binary64 u v))
-    (ap (λ (v : List Float). at v l) ea ∙ lanes-at (here 4 work (dy + j)) l c ∙ ap (λ (k : ℕ). here 4 work (dy + k) l) (ej ∙ ap (λ (k : ℕ). getD js k 0) z))
-    (ap (λ (v : List Float). at v l) eb ∙ lanes-at (here 4 work (lo + p)) l c ∙ ap (λ (k : ℕ). here 4 work (lo + k) l) z))

@@ -6,7 +6,7 @@ ghost use lib.Dec.{ltb};
 ghost use lib.ListN.{length};
 ghost use lib.Ieee.{neg};
 ghost use Rattle.lanes.specs.Lists.{at, lane, vec};
-ghost use Rattle.lanes.specs.Arithmetic.{_⊕_, _⊖_, _⊗_, _⊘_, null, one, whole, larger, Σ};
+ghost use Rattle.lanes.specs.Arithmetic.{_⊕_, _⊖_, _⊗_, _⊘_, null, one, larger, Σ};
 ghost use Rattle.machine.specs.Machine.{complement, largestRatio, moved};
 ghost use Rattle.lanes.specs.Lanes.{lanes};
 ghost use Rattle.lanes.specs.Region.{reg, Fills, Apart};
@@ -36,12 +36,6 @@ pub fn one4() -> [f64; 4]
     ensures { λ r. ⌜ r ≡ lanes (λ t. one) ⌝ }
 {
     splat(1.0)
-}
-
-pub fn thousand4() -> [f64; 4]
-    ensures { λ r. ⌜ r ≡ lanes (λ t. whole 1000) ⌝ }
-{
-    splat(1000.0)
 }
 
 // ---- entries by value

@@ -2,3 +2,4 @@ pub mod Lists
 pub mod Regions
 pub mod Quads
 pub mod Consts
+pub mod Magnitude

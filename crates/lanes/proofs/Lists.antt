@@ -1,14 +1,13 @@
 -- Laws of `grow`, `vec`, `lane` and `first`. Assumes nothing.
 use mathlib.Core.Path.{_≡_, refl, sym, ap, _∙_, subst}
 use mathlib.Core.Logic.{_⊎_, inl, inr}
-use mathlib.Core.Bool.{Bool, true, false, cond, true≢false, false≢true}
-use mathlib.Core.List.{List, [], _∷_, _++_}
+use mathlib.Core.Bool.{Bool, true, false, cond, true≢false}
+use mathlib.Core.List.{List, [], _∷_}
 use Prim.Native.Nat.{ℕ, zero, suc, _+_, _*_, _≤_, _<_}
 use native.Mathlib.Nat.{eq-or-lt-of-le}
-use native.Mathlib.Numerals.{add-one}
 use native.Mathlib.Omega.{arith}
 use lib.ListN.{getD, length, length-append, take, List·getD-append}
-use lib.Seq.{getD-at, take-at, take-append-le, ext-getD}
+use lib.Seq.{getD-at, take-append-le, ext-getD}
 use lib.Ieee.{Float, nan}
 use Rattle.lanes.specs.Lists.{at, grow, vec, first, lane}
 

@@ -1,6 +1,6 @@
 -- The four lanes of an array by value, and the laws of regions at four lanes. Assumes nothing.
 use mathlib.Core.Path.{_≡_, refl, sym, ap, _∙_}
-use mathlib.Core.List.{List}
+use mathlib.Core.List.{List, map}
 use Prim.Native.Nat.{ℕ, zero, suc, _+_, _*_, _≤_, _<_}
 use native.Mathlib.Nat.{add-zero}
 use native.Mathlib.Numerals.{add-one}
@@ -9,7 +9,7 @@ use lib.ListN.{length, set}
 use lib.Seq.{ext-getD}
 use lib.Ieee.{Float, nan}
 use Rattle.lanes.specs.Lists.{at, grow, fold}
-use Rattle.lanes.specs.Lanes.{lanes, cell, quad, put, putTo}
+use Rattle.lanes.specs.Lanes.{lanes, each1, cell, quad, put, putTo}
 use Rattle.lanes.specs.Region.{reg, Kept, Grows, Apart}
 use Rattle.lanes.proofs.Regions.{reg-at, other-cell, own-cell, grows-more}
 
@@ -35,6 +35,9 @@ lane-of {v} f e l h = ap (λ (u : List Float). at u l) e ∙ lanes-at f l h
 -- an array of four is its lanes
 pub array-lanes : (v : List Float) → length v ≡ 4 → v ≡ lanes (at v)
 array-lanes v h = ext-getD nan v (lanes (at v)) h (λ i b. sym (lanes-at (at v) i (omega arith)))
+
+pub map-lanes : (f : Float → Float) (v : List Float) → length v ≡ 4 → map f v ≡ each1 f v
+map-lanes f v h = ap (map f) (array-lanes v h)
 
 -- ---- entries of four lanes
 

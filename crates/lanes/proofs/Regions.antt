@@ -1,16 +1,16 @@
 -- The laws of regions, over the number of lanes K. Assumes nothing.
 use mathlib.Core.Path.{_≡_, refl, sym, ap, _∙_, subst}
-use mathlib.Core.Logic.{_⊎_, inl, inr, ⊎-elim, _≢_}
+use mathlib.Core.Logic.{_⊎_, inl, inr, ⊎-elim}
 use mathlib.Core.List.{List, [], _∷_, _++_}
 use Prim.Native.Nat.{ℕ, zero, suc, _+_, _-_, _*_, _≤_, _<_}
-use native.Mathlib.Nat.{add-zero, mul-le-mul-left, mul-suc}
+use native.Mathlib.Nat.{mul-le-mul-left, mul-suc}
 use native.Mathlib.Numerals.{add-one}
 use native.Mathlib.Decide.{ℕ-discrete, decLt}
 use native.Mathlib.Omega.{arith}
-use lib.ListN.{getD, length, set, length-set}
+use lib.ListN.{length, set, length-set}
 use lib.Seq.{getD-set-same, getD-set-other, ext-getD}
 use lib.Ieee.{Float, nan}
-use Rattle.lanes.specs.Lists.{at, vec, grow, fold, lane}
+use Rattle.lanes.specs.Lists.{at, vec, grow, lane}
 use Rattle.lanes.specs.Lanes.{cell, putTo, put}
 use Rattle.lanes.specs.Region.{reg, Kept, Fills, Grows, Apart, before, after}
 use Rattle.lanes.proofs.Lists.{vec-length, vec-at, vec-same}

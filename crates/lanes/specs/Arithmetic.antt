@@ -1,7 +1,7 @@
 -- The lane's arithmetic of document 01: each operation rounds once, to nearest even, and is never fused. Definitions only.
-use mathlib.Core.Bool.{Bool, true, false, cond}
+use mathlib.Core.Bool.{false, cond}
 use mathlib.Core.List.{List}
-use Prim.Native.Nat.{ℕ, zero, suc}
+use Prim.Native.Nat.{ℕ}
 use lib.IntN.{pos}
 use lib.Ieee.{Float, nan, inf, fin, binary64, add, sub, mul, div, lt, ofInt}
 use Rattle.root.specs.Root.{root}

@@ -1,10 +1,12 @@
 // An entry's four lanes: an array of four, passed and returned by value.
 ghost use mathlib.Core.Path.{_≡_};
 ghost use Prim.Native.Nat.{ℕ, _+_, _<_, _≤_, _*_};
+ghost use mathlib.Core.Bool.{true};
 ghost use lib.ListN.{length};
 ghost use lib.Ieee as Ieee;
 ghost use lib.Ieee.{binary64};
-ghost use Rattle.lanes.specs.Arithmetic.{larger, smaller};
+ghost use Rattle.lanes.specs.Lists.{at};
+ghost use Rattle.lanes.specs.Arithmetic.{√, magnitude, larger, smaller};
 ghost use Rattle.lanes.specs.Constants.{startValue};
 ghost use Rattle.lanes.specs.Lanes.{lanes, each1, each2, quad, put};
 
@@ -42,6 +44,47 @@ pub fn neg4(a: [f64; 4]) -> [f64; 4]
     ensures { λ r. ⌜ r ≡ each1 Ieee.neg a ⌝ }
 {
     [-a[0], -a[1], -a[2], -a[3]]
+}
+
+// The absolute value. A zero is answered by +0.0, whatever its sign.
+fn abs1(x: f64) -> f64
+    ensures { λ r. ⌜ r ≡ magnitude x ⌝ }
+{
+    if x < 0.0 {
+        return -x;
+    }
+    if x == 0.0 {
+        return 0.0;
+    }
+    x
+}
+
+// Whether every lane is above zero.
+fn above_zero(a: [f64; 4]) -> bool
+    ensures { λ r. ⌜ (r ≡ true → (l : ℕ) → l < 4 → Ieee.lt (Ieee.ofBits binary64 0) (at a l) ≡ true) ⌝ }
+{
+    if 0.0 < a[0] && 0.0 < a[1] {
+        if 0.0 < a[2] && 0.0 < a[3] {
+            return true;
+        }
+    }
+    false
+}
+
+// The absolute values. Lanes above zero, the common case, are handed back at once.
+pub fn abs4(a: [f64; 4]) -> [f64; 4]
+    ensures { λ r. ⌜ r ≡ each1 magnitude a ⌝ }
+{
+    if above_zero(a) {
+        return a;
+    }
+    [abs1(a[0]), abs1(a[1]), abs1(a[2]), abs1(a[3])]
+}
+
+pub fn root4(a: [f64; 4]) -> [f64; 4]
+    ensures { λ r. ⌜ r ≡ each1 √ a ⌝ }
+{
+    root4::root4(a)
 }
 
 fn larger1(p: f64, q: f64) -> f64

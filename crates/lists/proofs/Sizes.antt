@@ -151,7 +151,7 @@ module _ (off cols : List ℕ) (m : ℕ) where
 
 -- ---- columns
 
-length-columns : (mem : ℕ → ℕ → Bool) (v : ℕ → ℕ → ℕ) (m n : ℕ) → length (columns mem m v n) ≡ sum m (λ i. sum n (λ e. one (mem i e)))
+pub length-columns : (mem : ℕ → ℕ → Bool) (v : ℕ → ℕ → ℕ) (m n : ℕ) → length (columns mem m v n) ≡ sum m (λ i. sum n (λ e. one (mem i e)))
 unfolding columns column
 length-columns mem v m n =
     length-cat n (λ e. cat m (λ i. pick (mem i e) (v i e)))
@@ -159,7 +159,7 @@ length-columns mem v m n =
     (λ e l. length-cat m (λ i. pick (mem i e) (v i e)) ∙ sum-ext m (λ i. length (pick (mem i e) (v i e))) (λ i. one (mem i e)) (λ i k. length-pick (mem i e) (v i e)))
     ∙ sum-swap n m (λ i e. one (mem i e))
 
-length-ends : (mem : ℕ → ℕ → Bool) (m n : ℕ) → length (columnEnds mem m n) ≡ n + 1
+pub length-ends : (mem : ℕ → ℕ → Bool) (m n : ℕ) → length (columnEnds mem m n) ≡ n + 1
 unfolding columnEnds
 length-ends mem m n =
     omega (arith, length-cat n (λ e. sum (suc e) (inColumn mem m) ∷ []), sum-ext n (λ e. length (sum (suc e) (inColumn mem m) ∷ [])) (λ e. 1) (λ k l. refl), sum-ones n)
@@ -191,13 +191,13 @@ module _ (off cols : List ℕ) (m n : ℕ) (ok : Accepted off cols m n) where
       let s = span off cols m i (getD off i 0) (getD off (i + 1) 0) (ok .csr) (omega arith) refl refl in
       omega (arith, rows-long i (omega arith), s .order, s .size, ap length (row-is off cols i (getD off i 0) (getD off (i + 1) 0) refl refl), ap (λ (k : ℕ). getD off k 0) (add-one i))
 
-  matrix-entries : sum m (λ i. sum n (λ e. one (has (row off cols i) e))) ≡ length cols
+  pub matrix-entries : sum m (λ i. sum n (λ e. one (has (row off cols i) e))) ≡ length cols
   matrix-entries =
       sum-ext m (λ i. sum n (λ e. one (has (row off cols i) e))) (λ i. length (row off cols i)) (λ i l. row-ones n (row off cols i) (ok .csr .rising i l) (ok .within i l))
       ∙ rows-long m (omega arith)
       ∙ ok .last
 
-  factor-entries : sum m (λ i. sum m (λ e. one ((shape off cols) .held i e))) ≡ countE off cols m
+  pub factor-entries : sum m (λ i. sum m (λ e. one ((shape off cols) .held i e))) ≡ countE off cols m
   unfolding countE
   factor-entries = sum-ext m (λ i. sum m (λ e. one ((shape off cols) .held i e))) (λ i. sum (suc i) (λ j. one (isStored off cols i j))) (λ i l. cut i l)
     where

@@ -1,9 +1,9 @@
 -- Demand 3 from what a solve's contract says. Assumes nothing.
 use mathlib.Core.Path.{_≡_, refl, sym, ap, _∙_, subst}
 use mathlib.Core.Logic.{_⊎_, inl, inr, _↔_, _≢_}
-use mathlib.Core.Bool.{Bool, true, false, cond, true≢false, false≢true}
-use mathlib.Core.List.{List, [], _∷_, _++_}
-use Prim.Native.Nat.{ℕ, zero, suc, _+_, _-_, _*_, _≤_, _<_}
+use mathlib.Core.Bool.{Bool, true, cond}
+use mathlib.Core.List.{List, _++_}
+use Prim.Native.Nat.{ℕ, _+_, _-_, _*_, _≤_, _<_}
 use native.Mathlib.Nat.{eq-or-lt-of-le}
 use native.Mathlib.Omega.{arith}
 use lib.Ieee.{Float}
@@ -11,30 +11,29 @@ use lib.ListN.{length, drop, replicate, getD}
 use Rattle.csr.specs.Pattern.{neighbours, stored}
 use Rattle.csr.specs.Chain.{Chain, factor-stored, stored↔chain, neighbours-sym}
 use Rattle.lanes.specs.Lists.{at}
-use Rattle.machine.specs.Machine.{Status, spoilt, Machine, live, lost, status, next, yields, machine, left, start, inFactor}
+use Rattle.machine.specs.Machine.{Problem, Status, spoilt, live, status, next, yields, machine, left, start, inFactor}
 use Rattle.lanes.specs.Arithmetic.{null}
-use Rattle.machine.specs.Outcome.{Outcome, accepted, noAt11, noAt12, testsMade, outcome, Call, laneData, laneMachine, laneStatus, solved, xOf, xAt}
+use Rattle.machine.specs.Outcome.{Outcome, accepted, noAt11, noAt12, largestLimit, testsMade, Call, laneData, laneMachine, laneStatus, solved}
 use Rattle.machine.specs.Ends.{Ends}
 use Rattle.machine.specs.Demand3.{Memory, Buffers, isLost, Has, numbers, fresh, Moved, AtTest, Made, once, again, outputAfter, leaves, Demand3}
-use Rattle.machine.specs.Work.{Says, Stepped, stepOf, stepBy, Ran}
-use Rattle.machine.proofs.Ends.{ends, larger}
+use Rattle.machine.specs.Work.{Says}
+use Rattle.machine.proofs.Ends.{ends, ends-once, larger}
+use Rattle.machine.proofs.Output.{no-nan}
 use Rattle.machine.proofs.Machines.{others, output-at, fresh-has, moved-has, said-of, lane-next}
+
+-- the machine's factor below the diagonal, by chains
+pub factor-chain : (A : Problem) (i j : ℕ) → j < i → (inFactor A i j ≡ true) ↔ Chain (neighbours (A .off) (A .cols)) i j
+unfolding inFactor
+factor-chain A i j h =
+    let e = factor-stored (A .off) (A .cols) i j (omega arith) in
+    let s = stored↔chain (neighbours (A .off) (A .cols)) (neighbours-sym (A .off) (A .cols)) i j h in
+    (λ t. s .0 (sym e ∙ t), λ w. e ∙ s .1 w)
 
 module _ (C : Call) where
   not-accepted : (o : Outcome) (v : List Float) → ((k : ℕ) → o ≢ accepted k) → outputAfter C o v ≡ v
   not-accepted (accepted k) v n = absurd (n k refl)
   not-accepted (noAt11 k l) v n = refl
   not-accepted (noAt12 k) v n = refl
-
-  -- the machine's factor below the diagonal, by chains
-  pub factor-chain : (i j : ℕ) → j < i → (inFactor (C .problem) i j ≡ true) ↔ Chain (neighbours (C .problem .off) (C .problem .cols)) i j
-  unfolding inFactor
-  factor-chain i j h =
-      let off = C .problem .off in
-      let cols = C .problem .cols in
-      let e = factor-stored off cols i j (omega arith) in
-      let s = stored↔chain (neighbours off cols) (neighbours-sym off cols) i j h in
-      (λ t. s .0 (sym e ∙ t), λ w. e ∙ s .1 w)
 
   pub solved-larger : (N N' : ℕ) → N ≤ N' → solved C N ≢ noAt12 N → solved C N' ≡ solved C N
   unfolding solved
@@ -70,7 +69,7 @@ module _ (C : Call) where
         says = λ l b. h l b ∙ ap (λ (Z : Memory). status (C .problem) (C .settings) (laneData C l) (numbers C Z l)) e ∙ sym (fresh-says l b);
       })
 
-  -- each further one: the step moves every lane as its own machine does, and the test says spoilt of a lane that the step lost, and of any complement what its numbers yield
+  -- each further one: the step moves every lane as its own machine does, and the test says spoilt of a lane that the step lost, and of any other what its numbers yield
   pub made-again : (k : ℕ) (M M' : Memory) (said said' : List Status)
       → Made C k M said
       → ((l : ℕ) → l < C .K → laneStatus C l k ≢ spoilt)
@@ -122,15 +121,32 @@ module _ (C : Call) where
           factor = λ i j h b. (
             let s = stored↔chain (neighbours (C .problem .off) (C .problem .cols)) (neighbours-sym (C .problem .off) (C .problem .cols)) i j h in
                 (λ t. s .0 (sym (p i j h b) ∙ t), λ w. p i j h b ∙ s .1 w),
-            factor-chain i j h,
+            factor-chain (C .problem) i j h,
           );
           ends = subst (Ends (C .K) (laneStatus C) N) (sym e) (solved-ends N);
           output = λ k l x a h b.
               ap (λ (Z : Buffers). at (Z .output) (C .K * x + l)) f
               ∙ ap (λ (z : Outcome). at (outputAfter C z (B .output)) (C .K * x + l)) (sym e ∙ a)
               ∙ output-at C k l x h b;
+          bits = λ k l x a h b z.
+              no-nan C l k x b (solved-ends N .reported k (sym e ∙ a) .0 .all l h)
+              (sym (output-at C k l x h b) ∙ ap (λ (y : Outcome). at (outputAfter C y (B .output)) (C .K * x + l)) (sym (sym e ∙ a)) ∙ ap (λ (Z : Buffers). at (Z .output) (C .K * x + l)) (sym f) ∙ z);
+          buffers = f;
           kept = λ n. ap (λ (Z : Buffers). Z .output) f ∙ not-accepted (solved C N) (B .output) (λ k a. n k (e ∙ a));
           larger = λ N' h u n.
               let z : solved C N' ≡ solved C N = solved-larger N N' h (λ a. n (e ∙ a)) in
               (z ∙ sym e, leaves-same N' z ∙ sym f);
         }
+
+  -- two solves that meet it, the second under a larger limit: one answer, the same buffers
+  pub two-limits : (plan : List ℕ) (F : ℕ) (planned : ℕ → ℕ → Bool) (N N' : ℕ) (B B₁ B₂ : Buffers) (o₁ o₂ : Outcome)
+      → Demand3 C plan F planned N B B₁ o₁
+      → Demand3 C plan F planned N' B B₂ o₂
+      → N ≤ N'
+      → N' ≤ largestLimit
+      → o₁ ≢ noAt12 N
+      → (o₂ ≡ o₁) × (B₂ ≡ B₁)
+  unfolding solved
+  two-limits plan F planned N N' B B₁ B₂ o₁ o₂ p q h u n =
+      let r = p .larger N' h u n in
+      (ends-once (C .K) (laneStatus C) N' o₂ (q .ends) ∙ r .0, q .buffers ∙ r .1)

@@ -1,13 +1,12 @@
 -- `outcome` ends as document 01 says, and a larger limit keeps an acceptance and a no at 11. Assumes nothing.
 use mathlib.Core.Path.{_≡_, refl, sym, ap, _∙_, subst}
-use mathlib.Core.Logic.{_⊎_, inl, inr, _↔_, _≢_}
+use mathlib.Core.Logic.{_≢_}
 use mathlib.Core.Bool.{Bool, true, false, cond, not, _||_, true≢false, false≢true}
 use Prim.Native.Nat.{ℕ, zero, suc, _+_, _≤_, _<_}
-use native.Mathlib.Nat.{eq-or-lt-of-le}
-use native.Mathlib.Decide.{ℕ-discrete, decLt}
+use native.Mathlib.Decide.{decLt}
 use native.Mathlib.Omega.{arith}
-use lib.Dec.{eqb, ltb}
-use borrow.Author.Tests.{ne-eqb, eq-eqb, eqb-true, lt-ltb, le-ltb, ltb-true}
+use lib.Dec.{eqb}
+use borrow.Author.Tests.{ne-eqb, eq-eqb, eqb-true, lt-ltb, ltb-true}
 use Rattle.lanes.specs.Lists.{first}
 use Rattle.machine.specs.Machine.{Status, spoilt, done, steps}
 use Rattle.machine.specs.Outcome.{Outcome, accepted, noAt11, noAt12, isSpoilt, isDone, lowestSpoilt, lowestUndone, someSpoilt, allDone, outcome, testsMade}
@@ -199,6 +198,25 @@ module _ (K : ℕ) (says : ℕ → ℕ → Status) where
   -- THE OUTCOME ENDS AS IT SHOULD
   pub ends : (N : ℕ) → Ends K says N (outcome K says N)
   ends N = ends-of N (outcome K says N) (found N)
+
+  -- AND NOTHING ELSE ENDS SO
+  pub ends-once : (N : ℕ) (o : Outcome) → Ends K says N o → o ≡ outcome K says N
+  ends-once N o d = go (found N)
+    where
+      go : Found N (outcome K says N) → o ≡ outcome K says N
+      go (finished k e f q) =
+          let a = d .accepted-when .1 (k, f) in
+          let r = d .reported (a .0) (a .1) in
+          let z : a .0 ≡ k = omega (arith, r .1 k f, earliest N k (a .0) q (r .0)) in
+          a .1 ∙ ap accepted z ∙ sym e
+      go (ruined k l e r s low q) =
+          let a = d .at-11-when .1 (k, r) in
+          let w = d .named (a .0) (a .1) (a .2) in
+          let z : a .0 ≡ k = omega (arith, w .1 k r, earliest-bad N k (a .0) q (w .0)) in
+          let y : a .1 ≡ l = omega (arith, w .3 l (subst (λ (j : ℕ). SpoiltAt K says j l) (sym z) s), low (a .1) (subst (λ (j : ℕ). SpoiltAt K says j (a .1)) z (w .2))) in
+          a .2 ∙ ap (λ (j : ℕ). noAt11 j (a .1)) z ∙ ap (noAt11 k) y ∙ sym e
+      go (spent e s a) =
+          d .otherwise .0 (λ k f. a k (f .from) (f .upTo) (f .all), λ k r. s k (r .from) (r .upTo) (r .some .0) (r .some .1)) ∙ sym e
 
   stopped : (N : ℕ) → outcome K says N ≢ noAt12 N → first N stops < N
   stopped N n = go (decLt (first N stops) N)

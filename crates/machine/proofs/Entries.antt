@@ -1,16 +1,13 @@
 -- The entries of a row, for a program that goes through the stored lists from one offset to the next. Assumes nothing.
 use mathlib.Core.Path.{_≡_, refl, sym, ap, _∙_, subst}
-use mathlib.Core.Logic.{_⊎_, inl, inr}
-use mathlib.Core.Bool.{Bool, true, false, cond, true≢false, false≢true}
-use mathlib.Core.List.{List, [], _∷_, _++_}
+use mathlib.Core.Bool.{Bool, cond}
+use mathlib.Core.List.{List, [], _∷_}
 use Prim.Native.Nat.{ℕ, zero, suc, _+_, _-_, _≤_, _<_}
-use native.Mathlib.Nat.{eq-or-lt-of-le}
 use native.Mathlib.Omega.{arith}
 use borrow.Author.Tests.{ne-eqb, eq-eqb}
-use lib.Dec.{eqb}
-use lib.ListN.{getD, length, take, drop, length-take, length-drop}
+use lib.ListN.{getD, length, take, drop, length-drop}
 use lib.Seq.{take-suc, take-length, getD-take, getD-drop, length-take-le}
-use lib.Ieee.{Float, nan}
+use lib.Ieee.{Float}
 use Rattle.csr.specs.Pattern.{has, row}
 use Rattle.lanes.specs.Lists.{at, fold, each, Between}
 use Rattle.machine.specs.Machine.{Problem, place, holds, entry}
@@ -88,7 +85,7 @@ module _ (A : Problem) (i : ℕ) where
         (λ j h r.
         ap (λ (e : ℕ). F e (entry A i e) r) (row-at j h) ∙ ap (λ (a : Float). F (getD (A .cols) (from + j) 0) a r) (entry-at j h))
 
--- ---- through any list: a column's rows, the columns that two rows stepLength, the k of D, a row or a column of the factor
+-- ---- through any list: a column's rows, the columns that two rows share, the k of D, a row or a column of the factor
 
 pub each-pick : (n : ℕ) (p q : ℕ → Bool) (f : ℕ → Float → Float) (v : Float) → ((k : ℕ) → k < n → p k ≡ q k) → each n p f v ≡ each n q f v
 unfolding each

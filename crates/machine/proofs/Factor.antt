@@ -1,22 +1,21 @@
 -- The factor's and the substitutions' own equations: for a program that keeps them in lists of its own. Assumes nothing.
 use mathlib.Core.Path.{_≡_, refl, sym, ap, _∙_, subst}
 use mathlib.Core.Logic.{_⊎_, inl, inr}
-use mathlib.Core.Bool.{Bool, true, false, cond, _&&_, _||_, true≢false, false≢true}
+use mathlib.Core.Bool.{Bool, true, false, cond, _&&_, true≢false, false≢true}
 use mathlib.Core.List.{List, [], _∷_, _++_}
-use Prim.Native.Nat.{ℕ, zero, suc, _+_, _-_, _*_, _≤_, _<_}
+use Prim.Native.Nat.{ℕ, zero, suc, _+_, _-_, _≤_, _<_}
 use native.Mathlib.Nat.{eq-or-lt-of-le}
-use native.Mathlib.Decide.{ℕ-discrete, decLt}
+use native.Mathlib.Decide.{ℕ-discrete}
 use native.Mathlib.Omega.{arith}
-use borrow.Author.Tests.{ne-eqb, eq-eqb}
+use borrow.Author.Tests.{eq-eqb}
 use lib.Dec.{eqb, ltb}
-use lib.ListN.{getD, length, take, List·getD-append}
-use lib.Seq.{getD-at, getD-take}
+use lib.ListN.{getD, List·getD-append}
+use lib.Seq.{getD-at}
 use lib.Ieee.{Float, nan, binary64, add, sub, mul, div}
-use Rattle.root.specs.Root.{root}
-use Rattle.lanes.specs.Lists.{at, grow, vec, fold, each}
-use Rattle.machine.specs.Machine.{Problem, State, cell, holds, entry, inFactor, reduced, factorEntry, factor, forward, backward}
+use Rattle.lanes.specs.Lists.{at, grow, fold, each}
+use Rattle.machine.specs.Machine.{Problem, State, cell, holds, entry, inFactor, reduced, factorEntry, factor, forward}
 use Rattle.lanes.specs.Arithmetic.{null, √, magnitude}
-use Rattle.lanes.proofs.Lists.{grow-length, grow-take, grow-at}
+use Rattle.lanes.proofs.Lists.{grow-length, grow-at}
 
 -- ---- folds that do the same
 

@@ -1,19 +1,19 @@
 -- The machine from test to test, and the lanes of a memory. Assumes nothing.
 use mathlib.Core.Path.{_≡_, refl, sym, ap, _∙_, subst}
-use mathlib.Core.Logic.{_⊎_, inl, inr, _↔_, _≢_}
-use mathlib.Core.Bool.{Bool, true, false, cond, true≢false, false≢true}
-use mathlib.Core.List.{List, [], _∷_, _++_}
+use mathlib.Core.Logic.{_≢_}
+use mathlib.Core.Bool.{Bool, true, false, cond}
+use mathlib.Core.List.{List}
 use Prim.Native.Nat.{ℕ, zero, suc, _+_, _-_, _*_, _/_, _%_, _≤_, _<_}
 use native.Mathlib.Nat.{mul-suc, mul-le-mul-left, mul-add-div, mul-add-mod-self-left, mod-eq-of-lt, div-eq-of-lt, add-zero}
 use native.Mathlib.Omega.{arith}
-use lib.ListN.{getD, length, replicate, getD-replicate}
+use lib.ListN.{replicate, getD-replicate}
 use lib.Ieee.{Float, nan}
 use Rattle.lanes.specs.Lists.{at, lane, vec}
-use Rattle.machine.specs.Machine.{Problem, LaneData, Settings, State, Machine, live, lost, Status, spoilt, done, steps, status, mu, direction, allFinite, after, next, left, machine, yields, start}
-use Rattle.lanes.specs.Arithmetic.{whole}
+use Rattle.machine.specs.Machine.{Problem, LaneData, Settings, State, Machine, live, lost, Status, spoilt, done, status, mu, direction, allFinite, after, next, left, machine, yields, start}
+use Rattle.lanes.specs.Constants.{startValue}
 use Rattle.machine.specs.Outcome.{Call, laneData, laneMachine, laneStatus, xOf, xAt}
 use Rattle.machine.specs.Demand3.{Memory, isLost, Has, numbers, fresh, Moved, AtTest}
-use Rattle.lanes.proofs.Lists.{vec-length, vec-at, vec-same, lane-at}
+use Rattle.lanes.proofs.Lists.{vec-at, vec-same}
 
 pub slot : (K n k l : ℕ) → l < K → k < n → K * k + l < K * n
 slot K n k l h b = omega (arith, mul-suc K k, mul-le-mul-left K b)
@@ -36,6 +36,12 @@ module _ (A : Problem) (H : Settings) (d : LaneData) where
   pub spoilt-next : (k : ℕ) → 1 ≤ k → yields A H d (machine A H d k) ≡ spoilt → yields A H d (machine A H d (k + 1)) ≡ spoilt
   unfolding yields
   spoilt-next k h e = ap (yields A H d) (machine-next k h ∙ lost-next (machine A H d k) e)
+
+  pub spoilt-on : (k : ℕ) → 1 ≤ k → yields A H d (machine A H d k) ≡ spoilt → (j : ℕ) → yields A H d (machine A H d (k + j)) ≡ spoilt
+  spoilt-on k h e zero = let z : k + 0 ≡ k = omega arith in ap (λ (i : ℕ). yields A H d (machine A H d i)) z ∙ e
+  spoilt-on k h e (suc j) =
+      let z : k + suc j ≡ k + j + 1 = omega arith in
+      ap (λ (i : ℕ). yields A H d (machine A H d i)) z ∙ spoilt-next (k + j) (omega arith) (spoilt-on k h e j)
 
   -- the wait: a done machine whose step is finite keeps its numbers, and is done at every later test
   pub wait-next : (q : State) → status A H d q ≡ done → allFinite A (direction A H d q (mu A H d q)) ≡ true → next A H d (live q) ≡ live q
@@ -60,7 +66,7 @@ module _ (A : Problem) (H : Settings) (d : LaneData) where
   wait-lost q e t = ap (after A H d q) e ∙ ap (λ (b : Bool). cond b (live q) lost) t
 
 module _ (C : Call) where
-  -- whatever the complement lanes hold: a lane's machine is made of the problem, the settings and its own lane
+  -- whatever the other lanes hold: a lane's machine is made of the problem, the settings and its own lane
   pub others : (b c t : List Float) (l k : ℕ)
       → let C' : Call = record { K = C .K; problem = C .problem; settings = C .settings; b = b; c = c; tolerances = t } in
       laneData C' l ≡ laneData C l → laneMachine C' l k ≡ laneMachine C l k
@@ -101,11 +107,11 @@ module _ (C : Call) where
 
   -- ---- test 1
 
-  fresh-lane : (n l : ℕ) → l < C .K → lane (C .K) n l (replicate (C .K * n) (whole 1000)) ≡ vec n (λ _. whole 1000)
+  fresh-lane : (n l : ℕ) → l < C .K → lane (C .K) n l (replicate (C .K * n) (startValue)) ≡ vec n (λ _. startValue)
   unfolding lane
   fresh-lane n l h =
-      vec-same n (λ k. at (replicate (C .K * n) (whole 1000)) (C .K * k + l)) (λ _. whole 1000)
-      (λ k b. getD-replicate (C .K * n) (C .K * k + l) (whole 1000) nan (slot (C .K) n k l h b))
+      vec-same n (λ k. at (replicate (C .K * n) (startValue)) (C .K * k + l)) (λ _. startValue)
+      (λ k b. getD-replicate (C .K * n) (C .K * k + l) (startValue) nan (slot (C .K) n k l h b))
 
   pub fresh-has : (l : ℕ) → l < C .K → Has (laneMachine C l 1) (numbers C (fresh (C .K) (C .problem .m) (C .problem .n) (C .problem .s)) l)
   unfolding laneMachine machine left start

@@ -1,25 +1,24 @@
 -- The loop over the tests of a solve. Assumes nothing.
 use mathlib.Core.Path.{_≡_, refl, sym, ap, _∙_, subst}
 use mathlib.Core.Logic.{_⊎_, inl, inr, _≢_}
-use mathlib.Core.Bool.{Bool, true, false, not, cond, true≢false}
-use mathlib.Core.List.{List, [], _∷_}
-use Prim.Native.Nat.{ℕ, zero, suc, _+_, _-_, _≤_, _<_}
+use mathlib.Core.Bool.{Bool, true, false, not}
+use mathlib.Core.List.{List}
+use Prim.Native.Nat.{ℕ, suc, _+_, _-_, _≤_, _<_}
 use native.Mathlib.Nat.{eq-or-lt-of-le}
-use native.Mathlib.Decide.{decLt}
 use native.Mathlib.Omega.{arith}
 use borrow.Author.Tests.{ne-eqb, eq-eqb, lt-ltb, le-ltb}
 use lib.Dec.{eqb, ltb}
 use lib.ListN.{getD}
-use lib.Ieee.{Float}
 use Rattle.lanes.specs.Lists.{first}
-use Rattle.machine.specs.Machine.{Problem, LaneData, Settings, State, Machine, live, lost, Status, spoilt, done, steps, status, next, after, yields, machine}
-use Rattle.machine.specs.Outcome.{Outcome, accepted, noAt11, noAt12, isSpoilt, isDone, lowestSpoilt, lowestUndone, someSpoilt, allDone, testsMade, Call, laneData, laneMachine, laneStatus, solved}
-use Rattle.machine.specs.Demand3.{Memory, isLost, Has, numbers, fresh, Moved, Reads, AtTest, Made}
-use Rattle.machine.specs.Work.{Says, Stepped, stepOf, Ran}
-use Rattle.lanes.proofs.Lists.{first-le, first-same}
+use Rattle.machine.specs.Machine.{State, live, Status, spoilt, status, next, after, yields, machine}
+use Rattle.machine.specs.Outcome.{accepted, noAt11, noAt12, isSpoilt, isDone, lowestSpoilt, lowestUndone, someSpoilt, allDone, Call, laneData, laneMachine, laneStatus, solved}
+use Rattle.machine.specs.Demand3.{Memory, Has, numbers, fresh, Reads, AtTest, Made}
+use Rattle.machine.specs.Work.{Says, Stepped, Ran}
+use Rattle.lanes.proofs.Lists.{first-same}
 use Rattle.machine.proofs.Ends.{Quiet, some-no, stop-spoilt, stop-done, stop-spent}
 use Rattle.machine.proofs.Machines.{lane-live, said-of, fresh-has, moved-has}
-use Rattle.machine.proofs.Wait.{SoundState, SoundMachine, left-sound, rust-next}
+use Rattle.machine.specs.Theorems.{SoundState}
+use Rattle.machine.proofs.Wait.{SoundMachine, left-sound, rust-next}
 use Rattle.machine.proofs.Demand3.{made-once, made-again, made-test, made-from}
 
 module _ (C : Call) where

@@ -1,26 +1,27 @@
--- The wait, where a program adds 0 * dp to every number of a done lane, as the Rust does: a finite step leaves the numbers as they are, and any complement leaves a NaN,
+-- The wait, where a program adds 0 * dp to every number of a done lane, as the Rust does: a finite step leaves the numbers as they are, and any other leaves a NaN,
 -- of which the next test's G is a NaN. Assumes nothing.
 use mathlib.Core.Path.{_≡_, refl, sym, ap, _∙_, subst}
 use mathlib.Core.Logic.{_⊎_, inl, inr, ⊎-elim, _≢_}
 use mathlib.Core.Bool.{Bool, true, false, not, cond, _&&_, true≢false, false≢true}
-use mathlib.Core.List.{List, [], _∷_, _++_}
-use Prim.Native.Nat.{ℕ, zero, suc, _+_, _-_, _*_, _≤_, _<_}
+use mathlib.Core.List.{List}
+use Prim.Native.Nat.{ℕ, zero, suc, _-_, _<_}
 use native.Mathlib.Nat.{eq-or-lt-of-le}
 use native.Mathlib.Omega.{arith}
 use lib.Dec.{T}
 use lib.IntN.{pos}
-use lib.ListN.{length}
 use lib.Seq.{ext-getD}
-use lib.Ieee.{Float, nan, inf, fin, binary64, add, mul, div, ofInt, isNan, fits}
+use lib.Ieee.{Float, nan, inf, fin, binary64, add, mul, div, ofInt, isNan}
 use lib.Ieee.Scale.{finite}
 use Rattle.root.specs.Root.{root}
 use Rattle.lanes.specs.Lists.{at, vec, fold}
 use Rattle.machine.specs.Machine.{Problem, LaneData, Settings, State, Direction, Machine, live, lost, Status, spoilt, done, steps, g, G, mu, status, direction, stepLength, moved, stepped, finiteTo, allFinite, start, after, next, left, yields}
-use Rattle.lanes.specs.Arithmetic.{null, one, whole, Σ, norm}
+use Rattle.lanes.specs.Arithmetic.{null, one, Σ, norm}
+use Rattle.lanes.specs.Constants.{startValue}
 use Rattle.machine.specs.Demand3.{Has}
 use Rattle.machine.specs.Work.{stepOf, stepBy}
+use Rattle.machine.specs.Theorems.{Sound, SoundList, SoundState}
 use Rattle.lanes.proofs.Lists.{vec-length, vec-at}
-use Rattle.machine.proofs.Floats.{Sound, minusZero, moved-sound, parked, parked-nan, add-nan}
+use Rattle.machine.proofs.Floats.{moved-sound, unmoved, unmoved-nan, add-nan}
 
 -- ---- a NaN goes through
 
@@ -63,17 +64,6 @@ norm-nan n v k h e = ap (root binary64) (Σ-nan n (λ j. mul binary64 (at v j) (
 
 -- ---- the numbers of a machine
 
--- n numbers, each held and none of them -0
-pub record SoundList (n : ℕ) (v : List Float) : Type 0 where
-  pub size : length v ≡ n
-  pub each : (k : ℕ) → k < n → Sound (at v k)
-
-pub record SoundState (A : Problem) (q : State) : Type 0 where
-  pub x : SoundList (A .n) (q .x)
-  pub z : SoundList (A .n) (q .z)
-  pub y : SoundList (A .m) (q .y)
-  pub w : SoundList (A .s) (q .w)
-
 moved-list : (n : ℕ) (h : Float) (p dp : List Float) → SoundList n p → SoundList n (moved n h p dp)
 unfolding moved
 moved-list n h p dp s =
@@ -83,11 +73,11 @@ moved-list n h p dp s =
           subst Sound (sym (vec-at n (λ e. add binary64 (mul binary64 one (at p e)) (mul binary64 h (at dp e))) k b)) (moved-sound (at p k) h (at dp k) (s .each k b));
     }
 
-thousand : Sound (whole 1000)
+thousand : Sound (startValue)
 thousand = record { held = lib.Ieee.Fits.ofInt-fits binary64 (pos 1000); plus = unfold ofInt in refl }
 
-start-list : (n : ℕ) → SoundList n (vec n (λ _. whole 1000))
-start-list n = record { size = vec-length n (λ _. whole 1000); each = λ k b. subst Sound (sym (vec-at n (λ _. whole 1000) k b)) thousand }
+start-list : (n : ℕ) → SoundList n (vec n (λ _. startValue))
+start-list n = record { size = vec-length n (λ _. startValue); each = λ k b. subst Sound (sym (vec-at n (λ _. startValue) k b)) thousand }
 
 -- ---- finite lists
 
@@ -119,23 +109,23 @@ finite-not (suc n) v e = go (finite-not n v) (and-false (finiteTo n v) (finite (
     go ih (inr p) = (n, omega arith, p)
 
 -- 1 * p + 0 * dp, all along a list
-pub parked-list : (n : ℕ) (p dp : List Float) → SoundList n p → finiteTo n dp ≡ true → moved n null p dp ≡ p
+pub unmoved-list : (n : ℕ) (p dp : List Float) → SoundList n p → finiteTo n dp ≡ true → moved n null p dp ≡ p
 unfolding moved
-parked-list n p dp s e =
+unmoved-list n p dp s e =
     let f : ℕ → Float = (λ k. add binary64 (mul binary64 one (at p k)) (mul binary64 null (at dp k))) in
     ext-getD nan (vec n f) p (vec-length n f ∙ sym (s .size))
     (λ k b.
     let h : k < n = omega (arith, vec-length n f) in
-    vec-at n f k h ∙ parked (at p k) (at dp k) (s .each k h) (subst T (sym (finite-at n dp e k h)) tt))
+    vec-at n f k h ∙ unmoved (at p k) (at dp k) (s .each k h) (subst T (sym (finite-at n dp e k h)) tt))
 
-pub parked-list-nan : (n : ℕ) (p dp : List Float) → finiteTo n dp ≡ false → (k : ℕ) × (k < n) × (at (moved n null p dp) k ≡ nan)
+pub unmoved-list-nan : (n : ℕ) (p dp : List Float) → finiteTo n dp ≡ false → (k : ℕ) × (k < n) × (at (moved n null p dp) k ≡ nan)
 unfolding moved
-parked-list-nan n p dp e =
+unmoved-list-nan n p dp e =
     let r = finite-not n dp e in (
       r .0,
       r .1,
       vec-at n (λ k. add binary64 (mul binary64 one (at p k)) (mul binary64 null (at dp k))) (r .0) (r .1)
-          ∙ parked-nan (at p (r .0)) (at dp (r .0)) (subst (λ (b : Bool). T (not b)) (sym (r .2)) tt),
+          ∙ unmoved-nan (at p (r .0)) (at dp (r .0)) (subst (λ (b : Bool). T (not b)) (sym (r .2)) tt),
     )
 
 module _ (A : Problem) (H : Settings) (d : LaneData) where
@@ -207,39 +197,39 @@ module _ (A : Problem) (H : Settings) (d : LaneData) where
 
   -- ---- the Rust's wait
 
-  abbrev pub parkedState : State → Direction → State
-  parkedState q r = stepBy A q null r
+  abbrev pub waited : State → Direction → State
+  waited q r = stepBy A q null r
 
-  pub park-keeps : (q : State) (r : Direction) → SoundState A q → allFinite A r ≡ true → parkedState q r ≡ q
+  pub waited-keeps : (q : State) (r : Direction) → SoundState A q → allFinite A r ≡ true → waited q r ≡ q
   unfolding allFinite
-  park-keeps q r s e =
+  waited-keeps q r s e =
       let a = and-true (finiteTo (A .n) (r .dx) && finiteTo (A .n) (r .dz) && finiteTo (A .m) (r .dy)) (finiteTo (A .s) (r .dw)) e in
       let b = and-true (finiteTo (A .n) (r .dx) && finiteTo (A .n) (r .dz)) (finiteTo (A .m) (r .dy)) (a .0) in
       let c = and-true (finiteTo (A .n) (r .dx)) (finiteTo (A .n) (r .dz)) (b .0) in
       λ i. record {
-        x = parked-list (A .n) (q .x) (r .dx) (s .x) (c .0) i;
-        z = parked-list (A .n) (q .z) (r .dz) (s .z) (c .1) i;
-        y = parked-list (A .m) (q .y) (r .dy) (s .y) (b .1) i;
-        w = parked-list (A .s) (q .w) (r .dw) (s .w) (a .1) i;
+        x = unmoved-list (A .n) (q .x) (r .dx) (s .x) (c .0) i;
+        z = unmoved-list (A .n) (q .z) (r .dz) (s .z) (c .1) i;
+        y = unmoved-list (A .m) (q .y) (r .dy) (s .y) (b .1) i;
+        w = unmoved-list (A .s) (q .w) (r .dw) (s .w) (a .1) i;
       }
 
-  pub park-spoils : (q : State) (r : Direction) → allFinite A r ≡ false → G A H d (parkedState q r) ≡ nan
+  pub waited-spoils : (q : State) (r : Direction) → allFinite A r ≡ false → G A H d (waited q r) ≡ nan
   unfolding allFinite
-  park-spoils q r e =
+  waited-spoils q r e =
       ⊎-elim
       (λ (a : finiteTo (A .n) (r .dx) && finiteTo (A .n) (r .dz) && finiteTo (A .m) (r .dy) ≡ false).
       ⊎-elim
       (λ (b : finiteTo (A .n) (r .dx) && finiteTo (A .n) (r .dz) ≡ false).
       ⊎-elim
-      (λ (c : finiteTo (A .n) (r .dx) ≡ false). let k = parked-list-nan (A .n) (q .x) (r .dx) c in nan-x (parkedState q r) (k .0) (k .1) (k .2))
-      (λ (c : finiteTo (A .n) (r .dz) ≡ false). let k = parked-list-nan (A .n) (q .z) (r .dz) c in nan-z (parkedState q r) (k .0) (k .1) (k .2))
+      (λ (c : finiteTo (A .n) (r .dx) ≡ false). let k = unmoved-list-nan (A .n) (q .x) (r .dx) c in nan-x (waited q r) (k .0) (k .1) (k .2))
+      (λ (c : finiteTo (A .n) (r .dz) ≡ false). let k = unmoved-list-nan (A .n) (q .z) (r .dz) c in nan-z (waited q r) (k .0) (k .1) (k .2))
       (and-false (finiteTo (A .n) (r .dx)) (finiteTo (A .n) (r .dz)) b))
-      (λ (c : finiteTo (A .m) (r .dy) ≡ false). let k = parked-list-nan (A .m) (q .y) (r .dy) c in nan-y (parkedState q r) (k .0) (k .1) (k .2))
+      (λ (c : finiteTo (A .m) (r .dy) ≡ false). let k = unmoved-list-nan (A .m) (q .y) (r .dy) c in nan-y (waited q r) (k .0) (k .1) (k .2))
       (and-false (finiteTo (A .n) (r .dx) && finiteTo (A .n) (r .dz)) (finiteTo (A .m) (r .dy)) a))
-      (λ (c : finiteTo (A .s) (r .dw) ≡ false). let k = parked-list-nan (A .s) (q .w) (r .dw) c in nan-w (parkedState q r) (k .0) (k .1) (k .2))
+      (λ (c : finiteTo (A .s) (r .dw) ≡ false). let k = unmoved-list-nan (A .s) (q .w) (r .dw) c in nan-w (waited q r) (k .0) (k .1) (k .2))
       (and-false (finiteTo (A .n) (r .dx) && finiteTo (A .n) (r .dz) && finiteTo (A .m) (r .dy)) (finiteTo (A .s) (r .dw)) e)
 
-  G-spoilt : (q : State) → G A H d q ≡ nan → status A H d q ≡ spoilt
+  pub G-spoilt : (q : State) → G A H d q ≡ nan → status A H d q ≡ spoilt
   unfolding status isNan
   G-spoilt q e = rw e refl
 
@@ -255,6 +245,6 @@ module _ (A : Problem) (H : Settings) (d : LaneData) where
       r = direction A H d q (mu A H d q)
 
       go : (b : Bool) → allFinite A r ≡ b
-          → Has (cond b (live q) lost) (parkedState q r) × (status A H d (parkedState q r) ≡ yields A H d (cond b (live q) lost))
-      go true z = (park-keeps q r s z, ap (status A H d) (park-keeps q r s z))
-      go false z = (tt, G-spoilt (parkedState q r) (park-spoils q r z))
+          → Has (cond b (live q) lost) (waited q r) × (status A H d (waited q r) ≡ yields A H d (cond b (live q) lost))
+      go true z = (waited-keeps q r s z, ap (status A H d) (waited-keeps q r s z))
+      go false z = (tt, G-spoilt (waited q r) (waited-spoils q r z))

@@ -2,16 +2,17 @@
 use mathlib.Core.Path.{_≡_}
 use mathlib.Core.Logic.{_↔_, _≢_}
 use mathlib.Core.Bool.{Bool, true, false}
-use mathlib.Core.List.{List, [], _∷_, _++_}
-use Prim.Native.Nat.{ℕ, zero, suc, _+_, _*_, _≤_, _<_}
+use mathlib.Core.List.{List, _++_}
+use Prim.Native.Nat.{ℕ, _+_, _*_, _≤_, _<_}
 use lib.ListN.{getD, length, drop, replicate}
-use lib.Ieee.{Float}
+use lib.Ieee.{Float, nan}
 use Rattle.csr.specs.Pattern.{neighbours}
 use Rattle.csr.specs.Chain.{Chain}
+use Rattle.lanes.specs.Arithmetic.{null}
+use Rattle.lanes.specs.Constants.{startValue}
 use Rattle.lanes.specs.Lists.{at, lane}
-use Rattle.machine.specs.Machine.{Problem, LaneData, Settings, State, Machine, live, lost, Status, spoilt, done, steps, status, next, inFactor}
-use Rattle.lanes.specs.Arithmetic.{whole, null}
-use Rattle.machine.specs.Outcome.{Outcome, accepted, noAt11, noAt12, testsMade, Call, laneData, laneMachine, laneStatus, solved, xOf, xAt}
+use Rattle.machine.specs.Machine.{State, Machine, live, lost, Status, spoilt, next, inFactor}
+use Rattle.machine.specs.Outcome.{Outcome, accepted, noAt11, noAt12, largestLimit, testsMade, Call, laneData, laneMachine, laneStatus, solved, xOf, xAt}
 use Rattle.machine.specs.Ends.{Ends}
 
 -- the lists in which a solve keeps the numbers of all its lanes
@@ -21,7 +22,7 @@ pub record Memory : Type 0 where
   pub y : List Float
   pub w : List Float
 
--- the lent lists that a solve may direction
+-- the lent lists that a solve may change
 pub record Buffers : Type 0 where
   pub output : List Float
   pub index : List ℕ
@@ -31,10 +32,10 @@ pub record Buffers : Type 0 where
 abbrev pub fresh : ℕ → ℕ → ℕ → ℕ → Memory
 fresh K m n s =
     record {
-      x = replicate (K * n) (whole 1000);
-      z = replicate (K * n) (whole 1000);
-      y = replicate (K * m) (whole 1000);
-      w = replicate (K * s) (whole 1000);
+      x = replicate (K * n) startValue;
+      z = replicate (K * n) startValue;
+      y = replicate (K * m) startValue;
+      w = replicate (K * s) startValue;
     }
 
 abbrev pub isLost : Machine → Bool
@@ -76,12 +77,13 @@ module _ (C : Call) where
     again : {k : ℕ} {M M' : Memory} {said said' : List Status}
         → Made k M said → Moved M M' → AtTest (k + 1) M' said' → Made (k + 1) M' said'
 
-  -- what a solve leaves in the output, and in all lent lists: W words of plan, F zeros
+  -- 'The output changes only on acceptance, when it holds the four machines' x'
   abbrev pub outputAfter : Outcome → List Float → List Float
   outputAfter (accepted k) v = xAt C k
   outputAfter (noAt11 k l) v = v
   outputAfter (noAt12 k) v = v
 
+  -- 'After 11, 12 or acceptance the first W index words hold the plan, the first F working numbers are +0.0, and the rest is as before.'
   abbrev pub leaves : List ℕ → ℕ → ℕ → Buffers → Buffers
   leaves plan F N B =
       record {
@@ -90,27 +92,31 @@ module _ (C : Call) where
         work = replicate F null ++ drop F (B .work);
       }
 
-  -- `plan` and F are the matrix's; `planned i j`: the plan's factor has an entry (i, j)
+  -- `plan` and F are the matrix's; `planned i j`: the plan's factor has an entry (i, j). The lent lists were B and are B', and the answer is o
   pub record Demand3 (plan : List ℕ) (F : ℕ) (planned : ℕ → ℕ → Bool) (N : ℕ) (B B' : Buffers) (o : Outcome) : Type 0 where
-    -- at every test made each lane has its machine's numbers, and is done or spoilt exactly when the machine is
+    -- 'at every test made each lane has the numbers of document 01's one-lane machine and is done or spoilt exactly when that machine is':
+    -- the contract of the loop over the tests ties the last of these memories to the working memory, and the step's each one to the next
     pub tests : (M : Memory) × (said : List Status) × Made (testsMade (C .K) (laneStatus C) N) M said
-    -- whatever the complement lanes hold
+    -- 'whatever the other three lanes hold'
     pub others :
         (b c t : List Float) (l k : ℕ)
         → let C' : Call = record { K = C .K; problem = C .problem; settings = C .settings; b = b; c = c; tolerances = t } in
         laneData C' l ≡ laneData C l
         → laneMachine C' l k ≡ laneMachine C l k
-    -- the planned factor's entries and the machine's, by chains
+    -- 'The planned factor and the machine's have an entry (i, j), j below i, exactly when rows i and j are joined by a chain'
     pub factor :
         (i j : ℕ)
         → j < i
         → i < C .problem .m
         → ((planned i j ≡ true) ↔ Chain (neighbours (C .problem .off) (C .problem .cols)) i j)
         × ((inFactor (C .problem) i j ≡ true) ↔ Chain (neighbours (C .problem .off) (C .problem .cols)) i j)
-    -- accepted, at 11, at 12
+    -- from 'The solve is accepted exactly when' to 'Otherwise the no is at 12': a field of Ends for each sentence
     pub ends : Ends (C .K) (laneStatus C) N o
-    -- the output is each machine's x there, bit for bit; else it is as before
+    -- 'the output is each machine's x there, bit for bit': no NaN, whose bits would be free, is among them
     pub output : (k l e : ℕ) → o ≡ accepted k → l < C .K → e < C .problem .n → at (B' .output) (C .K * e + l) ≡ xOf C (laneMachine C l k) e
+    pub bits : (k l e : ℕ) → o ≡ accepted k → l < C .K → e < C .problem .n → at (B' .output) (C .K * e + l) ≢ nan
+    -- without acceptance it is as before; and the three lent lists are as document 01 leaves them
     pub kept : ((k : ℕ) → o ≢ accepted k) → B' .output ≡ B .output
-    -- a larger limit
-    pub larger : (N' : ℕ) → N ≤ N' → N' ≤ 10000 → o ≢ noAt12 N → (solved C N' ≡ o) × (leaves plan F N' B ≡ B')
+    pub buffers : B' ≡ leaves plan F N B
+    -- 'Under every larger limit up to 10,000 an acceptance and a no at 11 stay the same, buffers too.'
+    pub larger : (N' : ℕ) → N ≤ N' → N' ≤ largestLimit → o ≢ noAt12 N → (solved C N' ≡ o) × (leaves plan F N' B ≡ B')

@@ -3,4 +3,5 @@ pub mod Outcome
 pub mod Ends
 pub mod Demand3
 pub mod Work
+pub mod Theorems
 pub mod Examples

@@ -1,11 +1,12 @@
--- Document 01's one-lane machine: the lane's arithmetic, a test, a step, the wait, and what test k reads. Definitions only.
-use mathlib.Core.Bool.{Bool, true, false, not, cond, _&&_}
+-- Document 01's one-lane machine, sentence by sentence in its order: a test, a step, the wait, and what test k reads. Definitions only.
+-- 'In what follows a is a stored value, i a row and e a column; sums, differences, products and quotients go left to right, sums inside a row by rising index.'
+-- The operators associate to the left, products and quotients before sums and differences; `each` and `fold` go through their index rising.
+use mathlib.Core.Bool.{Bool, true, cond, _&&_}
 use mathlib.Core.List.{List, [], _∷_, _++_}
-use Prim.Native.Nat.{ℕ, zero, suc, _+_, _-_, _*_}
+use Prim.Native.Nat.{ℕ, zero, suc, _+_, _-_}
 use lib.Dec.{eqb, ltb}
-use lib.IntN.{pos}
-use lib.ListN.{getD, length, set}
-use lib.Ieee.{Float, nan, inf, fin, binary64, add, sub, mul, div, neg, lt, isNan, ofInt, round}
+use lib.ListN.{getD, set}
+use lib.Ieee.{Float, lt, neg, isNan}
 use lib.Ieee.Scale.{finite}
 pub use Rattle.machine.specs.declared.Status.{Status}
 pub use Rattle.machine.specs.declared.Status.the-variants.{Spoilt as spoilt, Done as done, Step as steps}
@@ -16,7 +17,7 @@ use Rattle.lanes.specs.Lists.{at, grow, vec, fold, each}
 use Rattle.lanes.specs.Constants.{startValue, centringValue, dampingValue}
 use Rattle.lanes.specs.Arithmetic.{_⊕_, _⊖_, _⊗_, _⊘_, √, whole, null, one, larger, smaller, magnitude, Σ, norm}
 
--- ---- what the machine is fed
+-- ---- 'The machine is fed the matrix, s and its own lane's b, c and three tolerances, and nothing of another lane.'
 
 -- the matrix, by its lists, and s: the same for every lane
 pub record Problem : Type 0 where
@@ -35,7 +36,7 @@ pub record LaneData : Type 0 where
   pub dual : Float
   pub gap : Float
 
--- its numbers
+-- 'State: x and z (n each), y (m), w (s) .. These are its numbers.'
 pub record State : Type 0 where
   pub x : List Float
   pub z : List Float
@@ -49,7 +50,7 @@ pub record Settings : Type 0 where
   pub divisorR : Problem → LaneData → State → Float
   pub divisorQ : Problem → LaneData → State → Float
 
--- document 01's: 0.1, 0.9995, 1 + the magnitude of x, 1 + the magnitude of y
+-- 'R = root(Σr²)/(1 + root(Σx²))', 'Q = root(Σq²)/(1 + root(Σy²))', 'mu = 0.1·g/(n + s)', 'h = smaller(0.9995/theta, 1)'
 abbrev pub standard : Settings
 standard = record {
   centring = centringValue;
@@ -58,7 +59,7 @@ standard = record {
   divisorQ = λ A d q. one ⊕ norm (A .m) (q .y);
 }
 
--- what a step works out
+-- what a step works out: 'all its dx, dz, dy, dw'
 pub record Direction : Type 0 where
   pub dx : List Float
   pub dz : List Float
@@ -67,17 +68,17 @@ pub record Direction : Type 0 where
 
 -- ---- what a step does list by list
 
--- dz of z, x, dx, and dw of w, y, dy
+-- 'dz = (mu − z·dx)/x − z', of z, x, dx; 'dw = (mu − w·dy)/y − w', of w, y, dy
 unfoldable pub complement : ℕ → Float → List Float → List Float → List Float → List Float
 unfolding vec
 complement k t p r dr = vec k (λ e. (t ⊖ at p e ⊗ at dr e) ⊘ at r e ⊖ at p e)
 
--- the larger in turn of - da / a and - db / b
+-- 'from +0.0 the larger in turn with −dx/x and −dz/z, column by column'
 unfoldable pub largestRatio : ℕ → List Float → List Float → List Float → List Float → Float
 unfolding fold larger neg
 largestRatio k a da b db = fold k (λ e v. larger (larger v (neg (at da e) ⊘ at a e)) (neg (at db e) ⊘ at b e)) null
 
--- each number p becomes 1 * p + h * dp
+-- 'Each number p becomes 1·p + h·dp.'
 unfoldable pub moved : ℕ → Float → List Float → List Float → List Float
 unfolding vec
 moved k h p dp = vec k (λ e. one ⊗ at p e ⊕ h ⊗ at dp e)
@@ -106,23 +107,24 @@ module _ (A : Problem) where
   unfolding row place
   entry i e = at (A .vals) (getD (A .off) i 0 + place (row (A .off) (A .cols) i) e)
 
-  -- (i, j) is in the factor, by the chain rule
+  -- 'The machine's factor has (i, j), j ≤ i, exactly when i = j or there is a chain from i to j.'
   unfoldable pub inFactor : ℕ → ℕ → Bool
   unfolding factorHas
   inFactor i j = factorHas (A .off) (A .cols) i j
 
-  -- (Au)_i and (Aᵀy)_e
+  -- '(Au)_i is Σa·u_e over the entries of row i'
   unfoldable pub rowProduct : List Float → ℕ → Float
   unfolding each holds entry
   rowProduct u i = each (A .n) (holds i) (λ e v. v ⊕ entry i e ⊗ at u e) null
 
+  -- '(Aᵀy)_e is Σa·y_i over the entries of column e, (Aᵀdy)_e the same with dy'
   unfoldable pub columnProduct : List Float → ℕ → Float
   unfolding each holds entry
   columnProduct y e = each (A .m) (λ i. holds i e) (λ i v. v ⊕ entry i e ⊗ at y i) null
 
   -- ---- the factor: a list of rows, of which row i has i + 1 places; what is not in the factor is never read
 
-  -- (i, j) of the factor, of l (i, k) and l (j, k) for k below j, and l (j, j): what is left of the normal matrix, then the root or the division
+  -- 'start w_i/y_i if i = j < s, else 0; add a_ie·a_je·x_e/z_e for each shared e; subtract l_ik·l_jk for each k counted in D'
   unfoldable pub reduced : State → (ℕ → ℕ → Float) → ℕ → ℕ → Float
   unfolding each holds entry inFactor
   reduced q l i j =
@@ -130,20 +132,22 @@ module _ (A : Problem) where
       let shared = each (A .n) (λ e. holds i e && holds j e) (λ e v. v ⊕ entry i e ⊗ entry j e ⊗ at (q .x) e ⊘ at (q .z) e) start in
       each j (λ k. inFactor i k && inFactor j k) (λ k v. v ⊖ l i k ⊗ l j k) shared
 
+  -- 'then the root of the absolute value if i = j, else divide by l_jj'
   unfoldable pub factorEntry : State → (ℕ → ℕ → Float) → ℕ → ℕ → Float
   unfolding reduced magnitude root
   factorEntry q l i j = cond (eqb i j) (√ (magnitude (reduced q l i j))) (reduced q l i j ⊘ l j j)
 
-  -- rows then columns rising: row i of the rows before it, and in it (i, j) of what stands before
+  -- 'Factor l, rows then columns rising': row i is made from the rows before it, and in it (i, j) from what stands before
   unfoldable pub factor : State → List (List Float)
   unfolding grow factorEntry inFactor
   factor q = grow (A .m) (λ rows i. grow (suc i) (λ r j. cond (inFactor i j) (factorEntry q (cell (rows ++ (r ∷ []))) i j) null))
 
-  -- forward, i rising; then backward, i falling from the last row, in the same list
+  -- 'Forward, i rising: dy_i = f_i less dy_j·l_ij for stored j < i, over l_ii.'
   unfoldable pub forward : (ℕ → ℕ → Float) → List Float → List Float
   unfolding grow each inFactor
   forward l f = grow (A .m) (λ d i. each i (λ j. inFactor i j) (λ j v. v ⊖ at d j ⊗ l i j) (at f i) ⊘ l i i)
 
+  -- 'Backward, i falling: less dy_j·l_ji for stored j > i rising, over l_ii': rows i - 1, .., 0 of the list
   unfoldable pub backward : (ℕ → ℕ → Float) → ℕ → List Float → List Float
   unfolding each inFactor
   backward l zero d = d
@@ -151,71 +155,85 @@ module _ (A : Problem) where
       backward l i
       (set d i (each (A .m) (λ j. ltb i j && inFactor j i) (λ j v. v ⊖ at d j ⊗ l j i) (at d i) ⊘ l i i))
 
-  -- all its dx, dz, dy, dw are finite
+  -- 'all its dx, dz, dy, dw are finite'
   unfoldable pub allFinite : Direction → Bool
   unfolding finiteTo
   allFinite r = finiteTo (A .n) (r .dx) && finiteTo (A .n) (r .dz) && finiteTo (A .m) (r .dy) && finiteTo (A .s) (r .dw)
 
   module _ (H : Settings) (d : LaneData) where
-    -- ---- the test
+    -- ---- 'Test.'
 
+    -- 'r_i = b_i, less w_i if i < s, less each a·x_e in turn'
     unfoldable pub primalResidual : State → ℕ → Float
     unfolding each holds entry
     primalResidual q i =
         each (A .n) (holds i) (λ e v. v ⊖ entry i e ⊗ at (q .x) e)
         (cond (ltb i (A .s)) (at (d .b) i ⊖ at (q .w) i) (at (d .b) i))
 
+    -- 'q_e = z_e + c_e, less each a·y_i'
     unfoldable pub dualResidual : State → ℕ → Float
     unfolding each holds entry
     dualResidual q e = each (A .m) (λ i. holds i e) (λ i v. v ⊖ entry i e ⊗ at (q .y) i) (at (q .z) e ⊕ at (d .c) e)
 
+    -- 'R = root(Σr²)/(1 + root(Σx²))'
     unfoldable pub R : State → Float
     unfolding primalResidual norm vec
     R q = norm (A .m) (vec (A .m) (primalResidual q)) ⊘ H .divisorR A d q
 
+    -- 'Q = root(Σq²)/(1 + root(Σy²))'
     unfoldable pub Q : State → Float
     unfolding dualResidual norm vec
     Q q = norm (A .n) (vec (A .n) (dualResidual q)) ⊘ H .divisorQ A d q
 
+    -- 'g = Σz·x + Σw·y over the s slack rows'
     unfoldable pub g : State → Float
     unfolding Σ
     g q = Σ (A .n) (λ e. at (q .z) e ⊗ at (q .x) e) ⊕ Σ (A .s) (λ i. at (q .w) i ⊗ at (q .y) i)
 
+    -- 'mu = 0.1·g/(n + s)'
     unfoldable pub mu : State → Float
     unfolding g
     mu q = H .centring ⊗ g q ⊘ whole (A .n + A .s)
 
+    -- 'G = g/(1 + root(Σx²) + root(Σy²))'
     unfoldable pub G : State → Float
     unfolding g norm
     G q = g q ⊘ (one ⊕ norm (A .n) (q .x) ⊕ norm (A .m) (q .y))
 
+    -- 'Spoilt if G is NaN ..; else done if R, Q and G are each strictly below their tolerance; else it steps.'
     unfoldable pub status : State → Status
     unfolding R Q G mu lt isNan
     status q = cond (isNan (G q)) spoilt (cond (lt (R q) (d .primal) && lt (Q q) (d .dual) && lt (G q) (d .gap)) done (steps (mu q)))
 
-    -- ---- the step
+    -- ---- 'Step.'
 
+    -- 'u_e = x_e·(c_e − (Aᵀy)_e + mu/x_e)/z_e'
     unfoldable pub uOf : State → Float → List Float
     unfolding vec columnProduct
     uOf q t = vec (A .n) (λ e. at (q .x) e ⊗ (at (d .c) e ⊖ columnProduct (q .y) e ⊕ t ⊘ at (q .x) e) ⊘ at (q .z) e)
 
+    -- 'v_i = mu/y_i if i < s, else 0, plus each a·x_e'
     unfoldable pub vOf : State → Float → ℕ → Float
     unfolding each holds entry
     vOf q t i = each (A .n) (holds i) (λ e v. v ⊕ entry i e ⊗ at (q .x) e) (cond (ltb i (A .s)) (t ⊘ at (q .y) i) null)
 
+    -- 'f_i = −((b_i − v_i) − (Au)_i)'
     unfoldable pub fOf : State → Float → List Float
     unfolding vec vOf uOf rowProduct
     fOf q t = let u = uOf q t in vec (A .m) (λ i. neg ((at (d .b) i ⊖ vOf q t i) ⊖ rowProduct u i))
 
+    -- the factor, then forward and backward
     unfoldable pub dyOf : State → Float → List Float
     unfolding factor forward backward fOf
     dyOf q t = let l = factor q in backward (cell l) (A .m) (forward (cell l) (fOf q t))
 
+    -- 'dx_e = (c_e − (Aᵀy)_e − (Aᵀdy)_e + mu/x_e)·x_e/z_e'
     unfoldable pub dxOf : State → Float → List Float → List Float
     unfolding vec columnProduct
     dxOf q t dy =
         vec (A .n) (λ e. (at (d .c) e ⊖ columnProduct (q .y) e ⊖ columnProduct dy e ⊕ t ⊘ at (q .x) e) ⊗ at (q .x) e ⊘ at (q .z) e)
 
+    -- dy, then dx of dy, then 'dz ..', and 'For i < s, dw ..'
     unfoldable pub direction : State → Float → Direction
     unfolding dyOf dxOf complement
     direction q t =
@@ -223,14 +241,17 @@ module _ (A : Problem) where
         let dx = dxOf q t dy in
         record { dx = dx; dz = complement (A .n) t (q .z) (q .x) dx; dy = dy; dw = complement (A .s) t (q .w) (q .y) dy }
 
+    -- 'Theta: .. with −dx/x and −dz/z, column by column; separately from +0.0 with −dw/w and −dy/y over slack rows; then the larger of both.'
     unfoldable pub theta : State → Direction → Float
     unfolding largestRatio larger
     theta q r = larger (largestRatio (A .n) (q .x) (r .dx) (q .z) (r .dz)) (largestRatio (A .s) (q .w) (r .dw) (q .y) (r .dy))
 
+    -- 'h = smaller(0.9995/theta, 1)'
     unfoldable pub stepLength : State → Direction → Float
     unfolding theta smaller
     stepLength q r = smaller (H .damping ⊘ theta q r) one
 
+    -- 'Each number p becomes 1·p + h·dp.'
     unfoldable pub stepped : State → Float → State
     unfolding direction stepLength moved
     stepped q t =
@@ -243,12 +264,13 @@ module _ (A : Problem) where
           w = moved (A .s) h (q .w) (r .dw);
         }
 
--- a machine has its numbers, or is spoilt at this test and every later one, and then its numbers are free
+-- a machine has its numbers, or 'it is spoilt at every later test, and its numbers there are free'
 pub data Machine : Type 0 where
   live : State → Machine
   lost : Machine
 
 module _ (A : Problem) (H : Settings) (d : LaneData) where
+  -- 'all 1000.0'
   unfoldable pub start : Machine
   unfolding vec
   start =
@@ -259,7 +281,8 @@ module _ (A : Problem) (H : Settings) (d : LaneData) where
         w = vec (A .s) (λ _. startValue);
       })
 
-  -- the step or the wait after a test
+  -- the step or the wait after a test: 'Spoilt .. and then at every later test too'; 'A done machine works out its step too. If all its dx, dz, dy, dw are finite
+  -- it keeps its numbers, bit for bit; otherwise it is spoilt at every later test'
   unfoldable pub after : State → Status → Machine
   unfolding direction allFinite stepped mu
   after q spoilt = lost
@@ -277,7 +300,7 @@ module _ (A : Problem) (H : Settings) (d : LaneData) where
   left zero = start
   left (suc j) = next (left j)
 
-  -- what test k reads, k from 1
+  -- 'Test 1 reads them so; each later test reads what the step or the wait before it left.'
   unfoldable pub machine : ℕ → Machine
   unfolding left
   machine k = left (k - 1)

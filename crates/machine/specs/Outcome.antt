@@ -1,14 +1,13 @@
--- A solve of K lanes up to a limit: which test stops it, and with what. Definitions only.
-use mathlib.Core.Bool.{Bool, true, false, cond, _&&_, _||_, not}
-use mathlib.Core.List.{List, [], _∷_, _++_}
-use Prim.Native.Nat.{ℕ, zero, suc, _+_, _-_, _*_, _/_, _%_}
+-- A solve of K lanes up to a limit: 'Solve runs the four machines test by test, stopping at the first no to 11 or the first all-done.' Definitions only.
+use mathlib.Core.Bool.{Bool, true, false, cond, _||_, not}
+use mathlib.Core.List.{List}
+use Prim.Native.Nat.{ℕ, _+_, _*_, _/_, _%_}
 use lib.Dec.{eqb, ltb}
-use lib.ListN.{getD, length}
-use lib.Ieee.{Float}
+use lib.Ieee.{Float, nan}
 pub use Rattle.machine.specs.declared.Outcome.{Outcome}
 pub use Rattle.machine.specs.declared.Outcome.the-variants.{Accepted as accepted, NoAt11 as noAt11, NoAt12 as noAt12}
 use Rattle.lanes.specs.Lists.{at, vec, first, lane}
-use Rattle.machine.specs.Machine.{Problem, LaneData, Settings, State, Machine, live, lost, Status, spoilt, done, steps, machine, yields}
+use Rattle.machine.specs.Machine.{Problem, LaneData, Settings, Machine, live, lost, Status, spoilt, done, steps, machine, yields}
 
 abbrev pub isSpoilt : Status → Bool
 isSpoilt spoilt = true
@@ -20,13 +19,18 @@ isDone spoilt = false
 isDone done = true
 isDone (steps t) = false
 
+-- question 10: 'Is N from 1 to 10,000?'
+abbrev pub largestLimit : ℕ
+largestLimit = 10000
+
 -- `says l k`: what test k of lane l yields
 module _ (K : ℕ) (says : ℕ → ℕ → Status) where
-  -- the lowest spoilt lane at test k, or K; the lowest lane that is not done, or K
+  -- question 11's 'Lane: lowest spoilt', at test k; K where none is spoilt
   unfoldable pub lowestSpoilt : ℕ → ℕ
   unfolding first
   lowestSpoilt k = first K (λ l. isSpoilt (says l k))
 
+  -- the lowest lane that is not done at test k; K where all are
   unfoldable pub lowestUndone : ℕ → ℕ
   unfolding first
   lowestUndone k = first K (λ l. not (isDone (says l k)))
@@ -39,7 +43,7 @@ module _ (K : ℕ) (says : ℕ → ℕ → Status) where
   unfolding lowestUndone
   allDone k = eqb (lowestUndone k) K
 
-  -- the solve stops at the first test that yields a spoilt lane or all lanes done; where there is none up to N it is a no at 12
+  -- question 11: 'At this test, is no lane spoilt? Place: the test, counted from 1'; question 12: 'Were all lanes done at some test up to N? Place: N'
   unfoldable pub outcome : ℕ → Outcome
   unfolding first someSpoilt allDone
   outcome N =
@@ -64,7 +68,7 @@ pub record Call : Type 0 where
   pub tolerances : List Float
 
 module _ (C : Call) where
-  -- what lane l is fed
+  -- what lane l is fed: 'Lane l of entry k is at 4k + l'; 'four primal, four dual, four optimality' tolerances
   abbrev pub laneData : ℕ → LaneData
   laneData l =
       record {
@@ -88,17 +92,12 @@ module _ (C : Call) where
   unfolding outcome laneStatus
   solved N = outcome (C .K) laneStatus N
 
-  -- the verdict of lane l's machine run alone (for a solve in which each lane drops out by itself)
-  unfoldable pub alone : ℕ → ℕ → Outcome
-  unfolding outcome laneStatus
-  alone l N = outcome 1 (λ _. laneStatus l) N
-
-  -- entry e lane l of the output: each machine's x
+  -- entry e of a machine's x; no lost machine has an output
   abbrev pub xOf : Machine → ℕ → Float
   xOf (live q) e = at (q .x) e
-  xOf lost e = lib.Ieee.nan
+  xOf lost e = nan
 
-  -- the machines' x at test k, entry e lane l at K * e + l
+  -- 'the four machines' x' at test k, lane l of entry e at K * e + l
   unfoldable pub xAt : ℕ → List Float
   unfolding vec laneMachine
   xAt k = vec (C .K * C .problem .n) (λ p. xOf (laneMachine (p % C .K) k) (p / C .K))

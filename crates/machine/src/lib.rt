@@ -1,9 +1,6 @@
 ghost use mathlib.Core.Path.{_≡_};
-ghost use mathlib.Core.Bool.{Bool, true, false, not};
-ghost use mathlib.Core.Logic.{_≢_};
-ghost use Prim.Native.Nat.{ℕ, _+_, _*_, _<_, _≤_};
-ghost use lib.Dec.{eqb};
-ghost use lib.ListN.{length, getD};
+ghost use mathlib.Core.Bool.{not};
+ghost use lib.ListN.{getD};
 ghost use Rattle.lanes.specs.Lists.{first};
 ghost use Rattle.machine.specs.Machine.{spoilt};
 ghost use Rattle.machine.specs.Outcome.{isSpoilt, isDone};

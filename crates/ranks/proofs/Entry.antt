@@ -1,6 +1,6 @@
 -- An entry of the factor, as the code works it out from the plan's lists. Assumes nothing.
-use mathlib.Core.Path.{_≡_, refl, sym, ap, ap₂, _∙_, subst}
-use mathlib.Core.Bool.{Bool, true, false, cond, _&&_}
+use mathlib.Core.Path.{_≡_, refl, ap, ap₂, _∙_}
+use mathlib.Core.Bool.{cond, _&&_}
 use mathlib.Core.List.{List}
 use Prim.Native.Nat.{ℕ, suc, _+_, _-_, _*_, _<_, _≤_}
 use native.Mathlib.Omega.{arith}
@@ -8,15 +8,15 @@ use lib.Dec.{eqb, ltb}
 use lib.ListN.{length, getD}
 use lib.Ieee.{Float, binary64, div}
 use Rattle.lists.specs.Lists.{Shape, shape, lplace, before, weight, listOf}
-use Rattle.lists.specs.declared.Which.the-variants.{AnormIndptr, AnormIndptrI, AnormIndptrJ, AnormIndices, LdecompIndptr, LdecompIndptrI, LdecompIndptrJ, Lindptr, LdiagIndptr, Lindices}
-use Rattle.root.specs.Root.{root}
+use Rattle.lists.specs.declared.Which.the-variants.{AnormIndptr, AnormIndptrI, AnormIndptrJ, AnormIndices, LdecompIndptr}
 use Rattle.lanes.specs.Lists.{at}
 use Rattle.lanes.specs.Lanes.{lanes, cell as here}
-use Rattle.lanes.proofs.Quads.{lanes-at, lanes-ext}
+use Rattle.lanes.proofs.Quads.{lanes-ext, lane-of}
 use Rattle.lanes.specs.Lists.{fold}
-use Rattle.machine.specs.Machine.{Problem, State, reduced, factorEntry}
+use Rattle.machine.specs.Machine.{reduced, factorEntry}
 use Rattle.lanes.specs.Arithmetic.{null, √, magnitude}
-use Rattle.ranks.specs.Kernel.{normalStep, productStep, NormalIn, ProductIn, Summed, Planned, Regions, Given, Stands, stateOf, matrixOf, entries}
+use Rattle.machine.specs.Work.{problemOf}
+use Rattle.ranks.specs.Factoring.{normalStep, productStep, NormalIn, ProductIn, Summed, Given, Stands, stateOf}
 use Rattle.ranks.proofs.Turn.{anorm-from, anorm-to, ldecomp-from, ldecomp-to, anorm-room, ldecomp-room, diag-is, diag-room, diag-entry, normal-ready, product-ready, rest-is, first}
 
 module _ {off cols : List ℕ} {vals work : List Float} {m n s : ℕ} {aends aleft aright acols dends dleft dright lends ldiag lcols : List ℕ} {x z y w lo : ℕ}
@@ -29,15 +29,6 @@ module _ {off cols : List ℕ} {vals work : List Float} {m n s : ℕ} {aends ale
 
   abbrev wD : ℕ → ℕ → ℕ
   wD = weight g LdecompIndptr
-
-  pub aends-room : e + 1 < length aends
-  aends-room = rw (G .lists .anorm-ends) (anorm-room m n s off cols vals (G .ok) i j e st)
-
-  pub dends-room : e + 1 < length dends
-  dends-room = rw (G .lists .ldecomp-ends) (ldecomp-room m n s off cols vals (G .ok) i j e st)
-
-  pub ldiag-room : j < length ldiag
-  ldiag-room = rw (G .lists .diag) (diag-room m n s off cols vals (G .ok) i j e st)
 
   a-from : getD aends e 0 ≡ before wA i j
   a-from = rw (G .lists .anorm-ends) (anorm-from m n s off cols vals (G .ok) i j e st)
@@ -54,50 +45,59 @@ module _ {off cols : List ℕ} {vals work : List Float} {m n s : ℕ} {aends ale
   d-at : getD ldiag j 0 ≡ lplace g j j
   d-at = rw (G .lists .diag) (diag-is m n s off cols vals (G .ok) i j e st)
 
-  pub normal-needs : (from to : ℕ) → from ≡ getD aends e 0 → to ≡ getD aends (e + 1) 0 → NormalIn vals aleft aright acols work x z from to
-  normal-needs from to p q =
-      rw (p ∙ a-from, q ∙ a-to, G .lists .anorm-i, G .lists .anorm-j, G .lists .anorm-e)
-      (normal-ready m n s off cols vals (G .ok) i j e st work x z y w lo (G .values) (G .regions))
-
-  pub product-needs : (from to : ℕ) → from ≡ getD dends e 0 → to ≡ getD dends (e + 1) 0 → ProductIn dleft dright work lo from to
-  product-needs from to p q =
-      rw (p ∙ d-from, q ∙ d-to, G .lists .ldecomp-i, G .lists .ldecomp-j)
-      (product-ready m n s off cols vals (G .ok) i j e st work x z y w lo (G .values) (G .regions))
-
-  pub finish-needs : (d : ℕ) → d ≡ getD ldiag j 0 → 4 * (lo + d) + 4 ≤ length work
-  finish-needs d p = omega (arith, p, d-at, diag-entry m n s off cols vals (G .ok) i j e st, G .regions .l-in)
+  -- ---- what each of the four calls needs
 
   pub start-needs : (4 * (w + s) ≤ length work) × (4 * (y + i) + 4 ≤ length work)
   start-needs = (G .regions .w-in, omega (arith, G .regions .y-in, st .row))
 
-  -- THE ENTRY: what the five calls leave is the machine's entry, of the factor as it stands in the memory
-  pub value : (start sum left r : List Float) (from to first′ last d : ℕ)
+  pub normal-needs : (e + 1 < length aends) × NormalIn vals aleft aright acols work x z (getD aends e 0) (getD aends (e + 1) 0)
+  normal-needs = (
+    rw (G .lists .anorm-ends) (anorm-room m n s off cols vals (G .ok) i j e st),
+    rw (a-from, a-to, G .lists .anorm-left, G .lists .anorm-right, G .lists .anorm-cols)
+        (normal-ready m n s off cols vals (G .ok) i j e st work x z y w lo (G .values) (G .regions)),
+  )
+
+  pub product-needs : (e + 1 < length dends) × ProductIn dleft dright work lo (getD dends e 0) (getD dends (e + 1) 0)
+  product-needs = (
+    rw (G .lists .ldecomp-ends) (ldecomp-room m n s off cols vals (G .ok) i j e st),
+    rw (d-from, d-to, G .lists .ldecomp-left, G .lists .ldecomp-right)
+        (product-ready m n s off cols vals (G .ok) i j e st work x z y w lo (G .values) (G .regions)),
+  )
+
+  pub finish-needs : (j < length ldiag) × (4 * (lo + getD ldiag j 0) + 4 ≤ length work)
+  finish-needs = (
+    rw (G .lists .diag) (diag-room m n s off cols vals (G .ok) i j e st),
+    omega (arith, d-at, diag-entry m n s off cols vals (G .ok) i j e st, G .regions .l-in),
+  )
+
+  -- THE ENTRY: what the four calls leave is the machine's entry, of the factor as it stands in the memory
+  pub value : {start r : List Float} (sum left : List Float)
       → start ≡ lanes (λ l. cond (eqb i j && ltb i s) (div binary64 (here 4 work (w + i) l) (here 4 work (y + i) l)) null)
-      → from ≡ getD aends e 0 → to ≡ getD aends (e + 1) 0 → Summed (normalStep vals aleft aright acols work x z from) start from to sum
-      → first′ ≡ getD dends e 0 → last ≡ getD dends (e + 1) 0 → Summed (productStep dleft dright work lo first′) sum first′ last left
-      → d ≡ getD ldiag j 0 → r ≡ lanes (λ l. cond (eqb i j) (√ (magnitude (at left l))) (div binary64 (at left l) (here 4 work (lo + d) l)))
-      → r ≡ lanes (λ l. factorEntry (matrixOf m n s off cols vals) (stateOf work x z y w m n s l) (λ a b. here 4 work (lo + lplace g a b) l) i j)
+      → Summed (normalStep vals aleft aright acols work x z (getD aends e 0)) start (getD aends e 0) (getD aends (e + 1) 0) sum
+      → Summed (productStep dleft dright work lo (getD dends e 0)) sum (getD dends e 0) (getD dends (e + 1) 0) left
+      → r ≡ lanes (λ l. cond (eqb i j) (√ (magnitude (at left l))) (div binary64 (at left l) (here 4 work (lo + getD ldiag j 0) l)))
+      → r ≡ lanes (λ l. factorEntry (problemOf m n s off cols vals) (stateOf work x z y w m n s l) (λ a b. here 4 work (lo + lplace g a b) l) i j)
   unfolding factorEntry
-  value start sum left r from to first′ last d es ef et en ep eq ed ei er =
+  value {start} sum left es en ed er =
       er
-      ∙ lanes-ext (λ l. cond (eqb i j) (√ (magnitude (at left l))) (div binary64 (at left l) (here 4 work (lo + d) l)))
+      ∙ lanes-ext (λ l. cond (eqb i j) (√ (magnitude (at left l))) (div binary64 (at left l) (here 4 work (lo + getD ldiag j 0) l)))
       (λ l. cond (eqb i j) (√ (magnitude (R l))) (div binary64 (R l) (here 4 work (lo + lplace g j j) l)))
-      (λ l c. ap₂ (λ (v : Float) (k : ℕ). cond (eqb i j) (√ (magnitude v)) (div binary64 v (here 4 work (lo + k) l))) (left-is l c) (ei ∙ d-at))
+      (λ l c. ap₂ (λ (v : Float) (k : ℕ). cond (eqb i j) (√ (magnitude v)) (div binary64 v (here 4 work (lo + k) l))) (left-is l c) d-at)
     where
       R : ℕ → Float
-      R l = reduced (matrixOf m n s off cols vals) (stateOf work x z y w m n s l) (λ a b. here 4 work (lo + lplace g a b) l) i j
+      R l = reduced (problemOf m n s off cols vals) (stateOf work x z y w m n s l) (λ a b. here 4 work (lo + lplace g a b) l) i j
 
       sum-is : (l : ℕ) → l < 4
           → at sum l ≡ fold (before wA i (suc j) - before wA i j) (normalStep vals (listOf g AnormIndptrI m) (listOf g AnormIndptrJ m) (listOf g AnormIndices m) work x z (before wA i j) l)
           (first m n s off cols vals (G .ok) i j e st work x z y w lo (G .values) (G .regions) l)
       sum-is l c =
           en l c
-          ∙ ap (λ (v : Float). fold (to - from) (normalStep vals aleft aright acols work x z from l) v)
-          (ap (λ (v : List Float). at v l) es ∙ lanes-at (first m n s off cols vals (G .ok) i j e st work x z y w lo (G .values) (G .regions)) l c)
-          ∙ rw (ef ∙ a-from, et ∙ a-to, G .lists .anorm-i, G .lists .anorm-j, G .lists .anorm-e) refl
+          ∙ ap (λ (v : Float). fold (getD aends (e + 1) 0 - getD aends e 0) (normalStep vals aleft aright acols work x z (getD aends e 0) l) v)
+          (lane-of (first m n s off cols vals (G .ok) i j e st work x z y w lo (G .values) (G .regions)) es l c)
+          ∙ rw (a-from, a-to, G .lists .anorm-left, G .lists .anorm-right, G .lists .anorm-cols) refl
 
       left-is : (l : ℕ) → l < 4 → at left l ≡ R l
       left-is l c =
           ed l c
-          ∙ ap (λ (v : Float). fold (last - first′) (productStep dleft dright work lo first′ l) v) (sum-is l c)
-          ∙ rw (ep ∙ d-from, eq ∙ d-to, G .lists .ldecomp-i, G .lists .ldecomp-j) (rest-is m n s off cols vals (G .ok) i j e st work x z y w lo (G .values) (G .regions) l)
+          ∙ ap (λ (v : Float). fold (getD dends (e + 1) 0 - getD dends e 0) (productStep dleft dright work lo (getD dends e 0) l) v) (sum-is l c)
+          ∙ rw (d-from, d-to, G .lists .ldecomp-left, G .lists .ldecomp-right) (rest-is m n s off cols vals (G .ok) i j e st work x z y w lo (G .values) (G .regions) l)

@@ -1,34 +1,33 @@
 -- The two sums of an entry: by the plan's lists as by the machine's definition. Assumes nothing.
-use mathlib.Core.Path.{_≡_, refl, sym, ap, ap₂, _∙_, subst}
-use mathlib.Core.Bool.{Bool, true, false, cond, _&&_, _||_, false≢true}
-use mathlib.Core.List.{List, [], _∷_, _++_, map}
-use Prim.Native.Nat.{ℕ, zero, suc, _+_, _-_, _*_, _<_, _≤_}
+use mathlib.Core.Path.{_≡_, refl, sym, ap, ap₂, _∙_}
+use mathlib.Core.Bool.{Bool, true, false, _&&_, false≢true}
+use mathlib.Core.List.{List, [], _∷_, map}
+use Prim.Native.Nat.{ℕ, zero, suc, _+_, _-_, _<_, _≤_}
 use native.Mathlib.Omega.{arith}
-use lib.Dec.{eqb, ltb}
-use lib.ListN.{length, getD, length-map, take, drop, length-drop}
+use lib.ListN.{length, getD, length-map, drop, length-drop}
 use lib.Seq.{length-take-le}
-use lib.Ieee.{Float, nan, binary64, add, sub, mul, div}
-use Rattle.csr.specs.Pattern.{has, row}
+use lib.Ieee.{Float, binary64, add, sub, mul, div}
+use Rattle.csr.specs.Pattern.{row}
 use Rattle.csr.specs.Chain.{factorHas}
-use Rattle.csr.specs.Counts.{sum, one, common}
-use Rattle.lists.specs.Cat.{cat, pick, pairs}
-use Rattle.lists.specs.Lists.{Shape, shape, both, find, place, lplace, before, weight, products, shared, piece, listOf}
+use Rattle.csr.specs.Counts.{one}
+use Rattle.lists.specs.Cat.{pick}
+use Rattle.lists.specs.Lists.{Shape, shape, find, place, lplace, before, weight, products, shared, piece, listOf}
 use Rattle.lists.specs.Ready.{Accepted}
-use Rattle.lists.specs.declared.Which.the-variants.{AnormIndptr, AnormIndptrI, AnormIndptrJ, AnormIndices, LdecompIndptr, LdecompIndptrI, LdecompIndptrJ, Lindptr, LdiagIndptr, Lindices}
+use Rattle.lists.specs.declared.Which.the-variants.{AnormIndptr, AnormIndptrI, AnormIndptrJ, AnormIndices, LdecompIndptr, LdecompIndptrI, LdecompIndptrJ}
 use Rattle.lists.proofs.Write.{length-cat, length-pick}
 use Rattle.lists.proofs.Merge.{length-both}
 use Rattle.pattern.proofs.Digits.{sum-ext}
 use Rattle.lanes.specs.Lanes.{cell as here}
 use Rattle.lanes.specs.Region.{reg}
 use Rattle.lanes.proofs.Regions.{reg-at}
-use Rattle.lanes.specs.Lists.{at, fold, each, Between}
-use Rattle.machine.specs.Machine.{Problem, State, holds, entry, inFactor, reduced, factorEntry}
-use Rattle.lanes.specs.Arithmetic.{null}
+use Rattle.lanes.specs.Lists.{at, fold, each}
+use Rattle.machine.specs.Machine.{Problem, holds, entry, inFactor}
 use Rattle.machine.proofs.Factor.{fold-same}
 use Rattle.machine.proofs.Entries.{each-pick}
-use Rattle.ranks.specs.Kernel.{normalStep, productStep, NormalIn, ProductIn, stateOf, matrixOf, entries}
-use Rattle.ranks.proofs.Ranks.{pairs-at, pairs-in, pairs-long, before-next, ranked, ranked-in, ends-at, lplace-next, lplace-lt}
-use Rattle.ranks.proofs.Picks.{picks, picks-all, both-each, between, find-place, find-lt, both-all, below-has, held-factor, held-stored, anorm-none, ldecomp-none}
+use Rattle.machine.specs.Work.{problemOf}
+use Rattle.ranks.specs.Factoring.{normalStep, productStep}
+use Rattle.ranks.proofs.Ranks.{pairs-at, pairs-long, lplace-lt}
+use Rattle.ranks.proofs.Picks.{picks, picks-all, both-each, between, find-place, find-lt, both-all, below-has, held-factor}
 
 map-at : (f : ℕ → ℕ) (l : List ℕ) (k : ℕ) → k < length l → getD (map f l) k 0 ≡ f (getD l k 0)
 map-at f [] k h = absurd (omega arith)
@@ -40,9 +39,9 @@ module _ (m n s : ℕ) (off cols : List ℕ) (vals : List Float) (ok : Accepted 
   g = shape off cols
 
   abbrev A : Problem
-  A = matrixOf m n s off cols vals
+  A = problemOf m n s off cols vals
 
-  -- ---- what two rows stepLength
+  -- ---- what two rows share
 
   abbrev wA : ℕ → ℕ → ℕ
   wA = weight g AnormIndptr
@@ -130,7 +129,7 @@ module _ (m n s : ℕ) (off cols : List ℕ) (vals : List Float) (ok : Accepted 
             rw (anorm-i-at k h, anorm-j-at k h, anorm-e-at k h)
             (rw (sym (entry-place i e), sym (entry-place j e), sym (reg-at 4 work x n l e (shared-lt k h)), sym (reg-at 4 work z n l e (shared-lt k h))) refl)
 
-  -- ---- what two rows of the factor stepLength
+  -- ---- what two rows of the factor share
 
   abbrev wD : ℕ → ℕ → ℕ
   wD = weight g LdecompIndptr

@@ -1,25 +1,23 @@
 -- The machine goes through all indices and picks; the plan lists what is picked. Assumes nothing.
-use mathlib.Core.Path.{_≡_, refl, sym, ap, ap₂, _∙_, subst}
-use mathlib.Core.Logic.{_⊎_, inl, inr}
+use mathlib.Core.Path.{_≡_, refl, sym, ap, _∙_, subst}
+use mathlib.Core.Logic.{inl, inr}
 use mathlib.Core.Bool.{Bool, true, false, cond, _&&_, _||_, true≢false, false≢true}
-use mathlib.Core.List.{List, [], _∷_, _++_, map, append-nil}
-use Prim.Native.Nat.{ℕ, zero, suc, _+_, _-_, _<_, _≤_}
+use mathlib.Core.List.{List, [], _∷_, _++_, append-nil}
+use Prim.Native.Nat.{ℕ, zero, suc, _+_, _<_, _≤_}
 use native.Mathlib.Omega.{arith}
 use native.Mathlib.Decide.{ℕ-discrete, decLt}
-use lib.Dec.{eqb, leb}
-use lib.ListN.{length, getD, length-append, length-map, List·getD-append}
+use lib.Dec.{eqb}
+use lib.ListN.{length, getD, length-append, List·getD-append}
 use lib.Seq.{getD-at}
 use borrow.Author.Tests.{eq-eqb, ne-eqb}
 use lib.Ieee.{Float}
 use Rattle.csr.specs.Pattern.{has, row, shares, neighbours, stored}
-use Rattle.csr.specs.Chain.{Below, stored-rule, Meets, factorHas, factor-stored, stored-diag}
+use Rattle.csr.specs.Chain.{Below, stored-rule, factorHas, factor-stored, stored-diag}
 use Rattle.csr.specs.Csr.{Under, Rising}
 use Rattle.csr.specs.Counts.{sum, one, common, isStored}
-use Rattle.pattern.proofs.Digits.{sum-ext}
-use Rattle.lists.specs.Cat.{cat, pick, pairs}
-use Rattle.lists.specs.Lists.{Shape, shape, both, find, zeroIf, weight, products}
+use Rattle.lists.specs.Cat.{cat, pick}
+use Rattle.lists.specs.Lists.{Shape, shape, both, find, zeroIf, weight}
 use Rattle.lists.specs.declared.Which.the-variants.{AnormIndptr, LdecompIndptr}
-use Rattle.lists.proofs.Write.{length-cat, length-pick}
 use Rattle.lanes.specs.Lists.{fold, each, Between}
 use Rattle.machine.specs.Machine.{place}
 use Rattle.machine.proofs.Walks.{walk, walk-more, each-walk}
@@ -58,7 +56,7 @@ picks-all P p (suc n) h t l = go (p n) refl l (picks-all P p n (λ k b. h k (ome
         at (yes b) = subst P (sym (List·getD-append xs (n ∷ []) 0 t b)) (ih t b)
         at (no b) = subst P (sym (getD-at xs n [] 0 t (omega (arith, length-append xs (n ∷ []))))) (h n (omega arith) e)
 
--- ---- through what two rows stepLength
+-- ---- through what two rows share
 both-walk : (xs ys : List ℕ) (f : ℕ → Float → Float) (v : Float) → walk xs (λ e r. cond (has ys e) (f e r) r) v ≡ walk (both xs ys) f v
 unfolding walk both
 both-walk [] ys f v = refl

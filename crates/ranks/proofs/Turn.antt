@@ -1,41 +1,44 @@
--- An entry of the factor: what its sums read is there, what they make is the machine's, and it is put where it belongs. Assumes nothing.
-use mathlib.Core.Path.{_≡_, refl, sym, ap, ap₂, _∙_, subst}
-use mathlib.Core.Logic.{_⊎_, inl, inr}
-use mathlib.Core.Bool.{Bool, true, false, cond, _&&_, _||_, true≢false, false≢true}
-use mathlib.Core.List.{List, [], _∷_, _++_, map}
-use Prim.Native.Nat.{ℕ, zero, suc, _+_, _-_, _*_, _<_, _≤_}
+-- An entry of the factor by the lists: what its sums read is there, and what they make is the machine's. Assumes nothing.
+use mathlib.Core.Path.{_≡_, refl, sym, ap, _∙_, subst}
+use mathlib.Core.Bool.{Bool, true, false, cond, _&&_}
+use mathlib.Core.List.{List}
+use Prim.Native.Nat.{ℕ, suc, _+_, _-_, _*_, _<_, _≤_}
 use native.Mathlib.Omega.{arith}
 use native.Mathlib.Numerals.{add-one}
-use native.Mathlib.Decide.{decLt}
-use borrow.Author.Tests.{lt-ltb, le-ltb, ltb-true}
+use borrow.Author.Tests.{ltb-true}
 use lib.Dec.{eqb, ltb}
 use lib.ListN.{length, getD}
-use lib.Ieee.{Float, nan, binary64, add, sub, mul, div}
-use Rattle.csr.specs.Counts.{sum, one}
-use Rattle.csr.specs.Chain.{factorHas}
-use Rattle.lists.specs.Cat.{cat, pick, pairs}
-use Rattle.lists.specs.Lists.{Shape, shape, lplace, before, weight, products, shared, piece, listOf}
+use lib.Ieee.{Float, binary64, div}
+use Rattle.lists.specs.Lists.{Shape, shape, lplace, before, weight, piece, listOf}
 use Rattle.lists.specs.Ready.{Accepted}
-use Rattle.lists.specs.declared.Which.the-variants.{AnormIndptr, AnormIndptrI, AnormIndptrJ, AnormIndices, LdecompIndptr, LdecompIndptrI, LdecompIndptrJ, Lindptr, LdiagIndptr, Lindices}
-use Rattle.lanes.specs.Lanes.{lanes, quad as entry4, cell as here}
-use Rattle.lanes.specs.Region.{reg, Wrote, Apart, before as ahead, after}
-use Rattle.lanes.proofs.Regions.{reg-at, wrote-apart, apart-front}
-use Rattle.lanes.proofs.Quads.{lanes-at, lanes-ext}
-use Rattle.lanes.specs.Lists.{at, fold, each}
-use Rattle.machine.specs.Machine.{Problem, State, holds, entry, inFactor, reduced, factorEntry, factor, cell}
+use Rattle.lists.specs.declared.Which.the-variants.{AnormIndptr, AnormIndptrI, AnormIndptrJ, AnormIndices, LdecompIndptr, LdecompIndptrI, LdecompIndptrJ, LdiagIndptr}
+use Rattle.lanes.specs.Lanes.{cell as here}
+use Rattle.lanes.specs.Region.{reg}
+use Rattle.lanes.proofs.Regions.{reg-at}
+use Rattle.lanes.specs.Lists.{at, fold}
+use Rattle.machine.specs.Machine.{Problem, reduced}
 use Rattle.lanes.specs.Arithmetic.{null}
-use Rattle.machine.proofs.Factor.{entry-same, factor-is, Before}
-use Rattle.ranks.specs.Kernel.{normalStep, productStep, NormalIn, ProductIn, Planned, Regions, Given, Stands, Factored, stateOf, matrixOf, entries}
-use Rattle.ranks.proofs.Ranks.{pairs-at, pairs-in, before-next, ranked, ranked-in, ends-at, lplace-next, lplace-lt, lplace-lt-row, byEntry, by-entry-length, by-row-at, by-row-in, Entry, entry-of}
-use Rattle.ranks.proofs.Picks.{picks-all, held-factor, held-diag, anorm-none, ldecomp-none}
-use Rattle.ranks.proofs.Meets.{shared-length, products-length, anorm-i-at, anorm-j-at, anorm-e-at, anorm-i-long, anorm-j-long, anorm-e-long, ldecomp-i-long, ldecomp-j-long, products-in, shared-lt, left-lt, right-lt, ldecomp-i-at, ldecomp-j-at, normal-is, products-is}
+use Rattle.machine.specs.Work.{problemOf}
+use Rattle.ranks.specs.Factoring.{normalStep, productStep, NormalIn, ProductIn, Regions, Stands, stateOf, entries}
+use Rattle.ranks.proofs.Ranks.{before-next, ranked, ranked-in, ends-at, lplace-lt, by-row-at, by-row-in}
+use Rattle.ranks.proofs.Picks.{held-diag, anorm-none, ldecomp-none}
+use Rattle.ranks.proofs.Meets.{anorm-i-at, anorm-j-at, anorm-e-at, anorm-i-long, anorm-j-long, anorm-e-long, ldecomp-i-long, ldecomp-j-long, products-in, shared-lt, left-lt, right-lt, ldecomp-i-at, ldecomp-j-at, normal-is, products-is}
+
+-- what holds of each number of (i, j) holds between its ends in the list
+numbers-all : (P : ℕ → Type 0) (w : ℕ → ℕ → ℕ) (i j : ℕ) (xs : List ℕ) {f : ℕ → ℕ}
+    → ((k : ℕ) → k < w i j → getD xs (before w i j + k) 0 ≡ f k) → ((k : ℕ) → k < w i j → P (f k))
+    → (p : ℕ) → before w i j ≤ p → p < before w i (suc j) → P (getD xs p 0)
+numbers-all P w i j xs {f} e h p a b =
+    let z : p ≡ before w i j + (p - before w i j) = omega arith in
+    let c : p - before w i j < w i j = omega (arith, before-next w i j) in
+    subst P (sym (ap (λ (q : ℕ). getD xs q 0) z ∙ e (p - before w i j) c)) (h (p - before w i j) c)
 
 module _ (m n s : ℕ) (off cols : List ℕ) (vals : List Float) (ok : Accepted off cols m n) where
   abbrev g : Shape
   g = shape off cols
 
   abbrev A : Problem
-  A = matrixOf m n s off cols vals
+  A = problemOf m n s off cols vals
 
   abbrev wA : ℕ → ℕ → ℕ
   wA = weight g AnormIndptr
@@ -89,39 +92,23 @@ module _ (m n s : ℕ) (off cols : List ℕ) (vals : List Float) (ok : Accepted 
       pub normal-ready : NormalIn vals (listOf g AnormIndptrI m) (listOf g AnormIndptrJ m) (listOf g AnormIndices m) work x z (before wA i j) (before wA i (suc j))
       normal-ready = record {
         order = omega (arith, before-next wA i j);
-        is-long = anorm-i-long m n s off cols vals ok i j (st .row) (st .low);
-        js-long = anorm-j-long m n s off cols vals ok i j (st .row) (st .low);
-        es-long = anorm-e-long m n s off cols vals ok i j (st .row) (st .low);
-        is-in = λ p a b. omega (arith, ap (λ (k : ℕ). getD (listOf g AnormIndptrI m) k 0) (from-on p a), anorm-i-at m n s off cols vals ok i j (st .row) (st .low) (p - before wA i j) (near p a b), left-lt m n s off cols vals ok i j (st .row) (st .low) (p - before wA i j) (near p a b));
-        js-in = λ p a b. omega (arith, ap (λ (k : ℕ). getD (listOf g AnormIndptrJ m) k 0) (from-on p a), anorm-j-at m n s off cols vals ok i j (st .row) (st .low) (p - before wA i j) (near p a b), right-lt m n s off cols vals ok i j (st .row) (st .low) (p - before wA i j) (near p a b));
-        x-in = λ p a b. omega (arith, column p a b, R .x-in);
-        z-in = λ p a b. omega (arith, column p a b, R .z-in);
+        left-long = anorm-i-long m n s off cols vals ok i j (st .row) (st .low);
+        right-long = anorm-j-long m n s off cols vals ok i j (st .row) (st .low);
+        cols-long = anorm-e-long m n s off cols vals ok i j (st .row) (st .low);
+        left-in = numbers-all (λ v. v < length vals) wA i j (listOf g AnormIndptrI m) (anorm-i-at m n s off cols vals ok i j (st .row) (st .low)) (λ k b. omega (arith, left-lt m n s off cols vals ok i j (st .row) (st .low) k b));
+        right-in = numbers-all (λ v. v < length vals) wA i j (listOf g AnormIndptrJ m) (anorm-j-at m n s off cols vals ok i j (st .row) (st .low)) (λ k b. omega (arith, right-lt m n s off cols vals ok i j (st .row) (st .low) k b));
+        x-in = numbers-all (λ v. 4 * (x + v) + 4 ≤ length work) wA i j (listOf g AnormIndices m) (anorm-e-at m n s off cols vals ok i j (st .row) (st .low)) (λ k b. omega (arith, shared-lt m n s off cols vals ok i j (st .row) (st .low) k b, R .x-in));
+        z-in = numbers-all (λ v. 4 * (z + v) + 4 ≤ length work) wA i j (listOf g AnormIndices m) (anorm-e-at m n s off cols vals ok i j (st .row) (st .low)) (λ k b. omega (arith, shared-lt m n s off cols vals ok i j (st .row) (st .low) k b, R .z-in));
       }
-        where
-          from-on : (p : ℕ) → before wA i j ≤ p → before wA i j + (p - before wA i j) ≡ p
-          from-on p a = omega arith
-
-          near : (p : ℕ) → before wA i j ≤ p → p < before wA i (suc j) → p - before wA i j < wA i j
-          near p a b = omega (arith, before-next wA i j)
-
-          column : (p : ℕ) → before wA i j ≤ p → p < before wA i (suc j) → getD (listOf g AnormIndices m) p 0 < n
-          column p a b =
-              omega (arith, ap (λ (k : ℕ). getD (listOf g AnormIndices m) k 0) (from-on p a), anorm-e-at m n s off cols vals ok i j (st .row) (st .low) (p - before wA i j) (near p a b), shared-lt m n s off cols vals ok i j (st .row) (st .low) (p - before wA i j) (near p a b))
 
       pub product-ready : ProductIn (listOf g LdecompIndptrI m) (listOf g LdecompIndptrJ m) work lo (before wD i j) (before wD i (suc j))
       product-ready = record {
         order = omega (arith, before-next wD i j);
-        is-long = ldecomp-i-long m n s off cols vals ok i j (st .row) (st .low);
-        js-long = ldecomp-j-long m n s off cols vals ok i j (st .row) (st .low);
-        is-in = λ p a b. omega (arith, ap (λ (k : ℕ). getD (listOf g LdecompIndptrI m) k 0) (from-on p a), ldecomp-i-at m n s off cols vals ok i j (st .row) (st .low) (p - before wD i j) (near p a b), products-in m n s off cols vals ok i j (st .row) (st .low) (p - before wD i j) (near p a b) .0, R .l-in);
-        js-in = λ p a b. omega (arith, ap (λ (k : ℕ). getD (listOf g LdecompIndptrJ m) k 0) (from-on p a), ldecomp-j-at m n s off cols vals ok i j (st .row) (st .low) (p - before wD i j) (near p a b), products-in m n s off cols vals ok i j (st .row) (st .low) (p - before wD i j) (near p a b) .1, R .l-in);
+        left-long = ldecomp-i-long m n s off cols vals ok i j (st .row) (st .low);
+        right-long = ldecomp-j-long m n s off cols vals ok i j (st .row) (st .low);
+        left-in = numbers-all (λ v. 4 * (lo + v) + 4 ≤ length work) wD i j (listOf g LdecompIndptrI m) (ldecomp-i-at m n s off cols vals ok i j (st .row) (st .low)) (λ k b. omega (arith, products-in m n s off cols vals ok i j (st .row) (st .low) k b .0, R .l-in));
+        right-in = numbers-all (λ v. 4 * (lo + v) + 4 ≤ length work) wD i j (listOf g LdecompIndptrJ m) (ldecomp-j-at m n s off cols vals ok i j (st .row) (st .low)) (λ k b. omega (arith, products-in m n s off cols vals ok i j (st .row) (st .low) k b .1, R .l-in));
       }
-        where
-          from-on : (p : ℕ) → before wD i j ≤ p → before wD i j + (p - before wD i j) ≡ p
-          from-on p a = omega arith
-
-          near : (p : ℕ) → before wD i j ≤ p → p < before wD i (suc j) → p - before wD i j < wD i j
-          near p a b = omega (arith, before-next wD i j)
 
       -- ---- what they make is the machine's, of the factor as it stands in the memory
 

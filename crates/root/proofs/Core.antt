@@ -1,27 +1,28 @@
 -- From the whole root of N and what is left to the float: the root of N * 4 ^ h of the smallest values, and its bit pattern. Assumes nothing.
 use mathlib.Core.Path.{_≡_, refl, sym, ap, _∙_, subst}
 use mathlib.Core.Logic.{_⊎_, inl, inr}
-use Prim.Native.Nat.{ℕ, zero, suc, _+_, _-_, _*_, _/_, _%_, _^_, _≤_, _<_, compare}
-use native.Mathlib.Nat.{le-trans, le-of-eq, lt-of-lt-of-le, lt-of-le-of-lt, le-antisymm, lt-irrefl, lt-of-not-le, le-of-suc-le-suc, eq-or-lt-of-le, zero-lt-suc, zero-mul, mul-pos, mul-assoc, mul-comm, mul-mul-mul-comm, mul-le-mul-right, mul-lt-mul-of-pos-right, mul-div-cancel, div-eq-of-lt-le, pow-suc}
+use Prim.Native.Nat.{ℕ, zero, suc, _+_, _-_, _*_, _/_, _^_, _≤_, _<_, compare}
+use native.Mathlib.Nat.{le-trans, le-of-eq, lt-of-lt-of-le, lt-of-le-of-lt, le-antisymm, le-of-suc-le-suc, eq-or-lt-of-le, zero-mul, mul-pos, mul-assoc, mul-le-mul-right, mul-lt-mul-of-pos-right, mul-div-cancel, div-eq-of-lt-le, pow-suc}
 use native.Mathlib.Omega.{arith}
-use mathlib.Core.Bool.{Bool, true, false, not, cond, true≢false}
-use lib.Dec.{T, lit<, lit≤}
+use mathlib.Core.Bool.{true, false, true≢false}
+use lib.Dec.{lit<, lit≤}
 use lib.Pow.{pow-add, pow-pos, pow-mono, pow-lt}
-use lib.Ieee.{Float, nan, inf, fin, Format, binary64, prec, low, up, down, size, nearest, units, toBits, fits, odd}
+use lib.Ieee.{Float, nan, inf, fin, binary64, up, down, size, nearest, units, toBits, ofBits}
 use lib.Ieee.Digits.{size-lt, size-le}
 use lib.Ieee.Fits.{down-pos, nearest-le}
 use lib.Ieee.Nearest.{nearest-ge}
 use lib.Ieee.Exact.{HasValue, units-val}
-use Rattle.root.specs.Root.{wholeRoot, rootUnits, root}
-use Rattle.root.proofs.Squares.{sq-next, sq-lt-back}
+use Rattle.root.specs.Root.{wholeRoot, rootUnits, root, rootBits}
+use Rattle.root.specs.Steps.{Halved, Digits, roundedRoot}
+use Rattle.root.proofs.Squares.{sq-next, sq-lt-back, sq-scaled, pow-lt-back, no-zero}
 use Rattle.root.proofs.Whole.{whole-root}
 use Rattle.root.proofs.Compares.{compare-scaled}
 
-pow-lt-back : (i p : ℕ) → 2 ^ i < 2 ^ p → i < p
-pow-lt-back i p h = lt-of-not-le (λ (g : p ≤ i). lt-irrefl (2 ^ i) (lt-of-lt-of-le h (pow-mono g)))
-
 pub size-exact : (a n : ℕ) → 2 ^ a ≤ n → n < 2 ^ suc a → size n ≡ suc a
 size-exact a n lo hi = le-antisymm (size-le n (suc a) hi) (pow-lt-back a (size n) (lt-of-le-of-lt lo (size-lt n)))
+
+regroup : (p : ℕ) → 2 ^ 52 * p * 2 ≡ 2 ^ 53 * p
+regroup p = omega arith
 
 -- ---- the root in units
 
@@ -32,20 +33,17 @@ pub made-is : (n : ℕ) → rootUnits binary64 n ≡ made (wholeRoot n / 2 ^ (si
 unfolding rootUnits
 made-is n = refl
 
-squared : (q p : ℕ) → q * p * (q * p) ≡ q * q * (p * p)
-squared q p = mul-mul-mul-comm q p q p
-
 module _ (n N q r h : ℕ) (is : q * q + r ≡ N) (rest : r ≤ 2 * q) (least : 2 ^ 52 ≤ q) (most : q < 2 ^ 53) (scaled : n ≡ N * (2 ^ h * 2 ^ h)) where
   from : q * 2 ^ h ≤ wholeRoot n
   from =
       le-of-suc-le-suc (sq-lt-back (q * 2 ^ h) (suc (wholeRoot n))
-      (lt-of-le-of-lt (le-trans (le-of-eq (squared q (2 ^ h))) (le-trans (mul-le-mul-right (2 ^ h * 2 ^ h) (omega arith)) (le-of-eq (sym scaled)))) (whole-root n .1)))
+      (lt-of-le-of-lt (le-trans (le-of-eq (sq-scaled q (2 ^ h))) (le-trans (mul-le-mul-right (2 ^ h * 2 ^ h) (omega arith)) (le-of-eq (sym scaled)))) (whole-root n .1)))
 
   to : wholeRoot n < (q + 1) * 2 ^ h
   to =
       sq-lt-back (wholeRoot n) ((q + 1) * 2 ^ h)
       (lt-of-le-of-lt (le-trans (whole-root n .0) (le-of-eq scaled))
-      (lt-of-lt-of-le (mul-lt-mul-of-pos-right (omega (arith, sq-next q)) (mul-pos (pow-pos h) (pow-pos h))) (le-of-eq (sym (squared (q + 1) (2 ^ h))))))
+      (lt-of-lt-of-le (mul-lt-mul-of-pos-right (omega (arith, sq-next q)) (mul-pos (pow-pos h) (pow-pos h))) (le-of-eq (sym (sq-scaled (q + 1) (2 ^ h))))))
 
   the-size : size (wholeRoot n) - 53 ≡ h
   the-size =
@@ -54,9 +52,6 @@ module _ (n N q r h : ℕ) (is : q * q + r ≡ N) (rest : r ≤ 2 * q) (least : 
       (le-trans (le-of-eq (pow-add 2 52 h)) (le-trans (mul-le-mul-right (2 ^ h) least) from))
       (lt-of-lt-of-le to (le-trans (mul-le-mul-right (2 ^ h) (omega arith)) (le-of-eq (sym (pow-suc 2 (52 + h) ∙ ap (λ (x : ℕ). x * 2) (pow-add 2 52 h) ∙ regroup (2 ^ h)))))) in
       omega arith
-    where
-      regroup : (p : ℕ) → 2 ^ 52 * p * 2 ≡ 2 ^ 53 * p
-      regroup p = omega arith
 
   pub root-units : rootUnits binary64 n ≡ units binary64 false (nearest q (compare (4 * N) ((2 * q + 1) * (2 * q + 1)))) h
   root-units =
@@ -65,12 +60,12 @@ module _ (n N q r h : ℕ) (is : q * q + r ≡ N) (rest : r ≤ 2 * q) (least : 
       ∙ ap (λ (x : ℕ). made x n h) (div-eq-of-lt-le (2 ^ h) from to)
       ∙ ap (λ (x : ℕ). units binary64 false (nearest q (compare (4 * x) ((2 * q + 1) * 2 ^ h * ((2 * q + 1) * 2 ^ h)))) h) scaled
       ∙ ap (λ (x : ℕ). units binary64 false (nearest q (compare x ((2 * q + 1) * 2 ^ h * ((2 * q + 1) * 2 ^ h)))) h) (sym (mul-assoc 4 N (2 ^ h * 2 ^ h)))
-      ∙ ap (λ (x : ℕ). units binary64 false (nearest q (compare (4 * N * (2 ^ h * 2 ^ h)) x)) h) (squared (2 * q + 1) (2 ^ h))
+      ∙ ap (λ (x : ℕ). units binary64 false (nearest q (compare (4 * N * (2 ^ h * 2 ^ h)) x)) h) (sq-scaled (2 * q + 1) (2 ^ h))
       ∙ ap (λ o. units binary64 false (nearest q o) h) (compare-scaled (4 * N) ((2 * q + 1) * (2 * q + 1)) (2 ^ h * 2 ^ h) (mul-pos (pow-pos h) (pow-pos h)))
 
 -- ---- the bits of a value
 
-bits-of : (x : Float) (a : ℕ) → HasValue x false a (2 ^ 1074) → toBits binary64 x ≡ (size a - 53) * 2 ^ 52 + a / 2 ^ (size a - 53)
+pub bits-of : (x : Float) (a : ℕ) → HasValue x false a (2 ^ 1074) → toBits binary64 x ≡ (size a - 53) * 2 ^ 52 + a / 2 ^ (size a - 53)
 unfolding toBits
 bits-of nan a v = absurd v
 bits-of (inf s) a v = absurd v
@@ -94,9 +89,6 @@ bits-at x v h l u k =
     ∙ ap (λ (y : ℕ). h * 2 ^ 52 + y) (mul-div-cancel v (pow-pos h))
     ∙ turned (h * 2 ^ 52) v
   where
-    regroup : (p : ℕ) → 2 ^ 52 * p * 2 ≡ 2 ^ 53 * p
-    regroup p = omega arith
-
     turned : (a b : ℕ) → a + b ≡ b + a
     turned a b = omega arith
 
@@ -121,9 +113,6 @@ units-bits v h l u t = go (eq-or-lt-of-le u)
 
 -- ---- the root of a value
 
-no-zero : (a d : ℕ) → 0 ≡ a * d → 0 < a → 0 < d → ⊥
-no-zero a d e p q = lt-irrefl 0 (subst (λ (x : ℕ). 0 < x) (sym e) (mul-pos p q))
-
 pub root-of : (x : Float) (a : ℕ) → HasValue x false a (2 ^ 2148) → 0 < a → root binary64 x ≡ rootUnits binary64 a
 unfolding root
 root-of nan a v p = absurd v
@@ -132,22 +121,29 @@ root-of (fin true m e) a v p = absurd (true≢false (v .0))
 root-of (fin false zero e) a v p = absurd (no-zero a (down e) (sym (ap (λ (x : ℕ). x * 2 ^ 2148) (zero-mul (up e)) ∙ zero-mul (2 ^ 2148)) ∙ v .1) p (down-pos e))
 root-of (fin false (suc m) e) a v p = ap (rootUnits binary64) (ap (λ (x : ℕ). x / down e) (v .1) ∙ mul-div-cancel a (down-pos e))
 
--- ---- of a pattern whose number is d * 2 ^ 52 * 4 ^ h / 4 ^ 1074
+-- ---- the pattern of the root
 
-module _ (x : Float) (d h q r : ℕ) (v : HasValue x false (d * 2 ^ 52 * (2 ^ h * 2 ^ h)) (2 ^ 2148)) (least : 2 ^ 52 ≤ d) (most : d < 2 ^ 54) (high : h ≤ 1533)
-    (is : q * q + r ≡ d * 2 ^ 52) (rest : r ≤ 2 * q) where
+pub rootBits-is : (b : ℕ) → rootBits b ≡ toBits binary64 (root binary64 (ofBits binary64 b))
+unfolding rootBits
+rootBits-is b = refl
+
+module _ (b d h q r : ℕ) (s : Halved b d h) (p : Digits (d * 2 ^ 52) q r) where
   pub whole-lt : q < 2 ^ 53
-  whole-lt = sq-lt-back q (2 ^ 53) (omega arith)
+  whole-lt = sq-lt-back q (2 ^ 53) (omega (arith, s .most, p .is))
 
   pub whole-ge : 2 ^ 52 ≤ q
   whole-ge =
-      let z : 2 ^ 52 < q + 1 = sq-lt-back (2 ^ 52) (q + 1) (omega (arith, sq-next q)) in
+      let z : 2 ^ 52 < q + 1 = sq-lt-back (2 ^ 52) (q + 1) (omega (arith, sq-next q, s .least, p .is, p .rest)) in
       omega arith
 
-  pub root-at : toBits binary64 (root binary64 x) ≡ nearest q (compare (4 * (q * q + r)) ((2 * q + 1) * (2 * q + 1))) + h * 2 ^ 52
-  root-at =
-      let o = compare (4 * (q * q + r)) ((2 * q + 1) * (2 * q + 1)) in
+  pub root-is : root binary64 (ofBits binary64 b) ≡ units binary64 false (roundedRoot q r) h
+  root-is =
       let n = d * 2 ^ 52 * (2 ^ h * 2 ^ h) in
-      ap (toBits binary64) (root-of x n v (mul-pos (omega arith) (mul-pos (pow-pos h) (pow-pos h))))
-      ∙ ap (toBits binary64) (root-units n (q * q + r) q r h refl rest whole-ge whole-lt (ap (λ (y : ℕ). y * (2 ^ h * 2 ^ h)) (sym is)))
-      ∙ units-bits (nearest q o) h (le-trans whole-ge (nearest-ge q o)) (le-trans (nearest-le q o) whole-lt) high
+      root-of (ofBits binary64 b) n (s .is) (mul-pos (omega (arith, s .least)) (mul-pos (pow-pos h) (pow-pos h)))
+      ∙ root-units n (q * q + r) q r h refl (p .rest) whole-ge whole-lt (ap (λ (y : ℕ). y * (2 ^ h * 2 ^ h)) (sym (p .is)))
+
+  pub rounded-bits : (v : ℕ) → v ≡ roundedRoot q r → v + h * 2 ^ 52 ≡ rootBits b
+  rounded-bits v e =
+      let o = compare (4 * (q * q + r)) ((2 * q + 1) * (2 * q + 1)) in
+      ap (λ (x : ℕ). x + h * 2 ^ 52) e
+      ∙ sym (rootBits-is b ∙ ap (toBits binary64) root-is ∙ units-bits (nearest q o) h (le-trans whole-ge (nearest-ge q o)) (le-trans (nearest-le q o) whole-lt) (s .high))

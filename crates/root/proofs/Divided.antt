@@ -1,7 +1,7 @@
 -- The other 26 digits of the root by one division (Zimmermann, Karatsuba Square Root): from w * w + r = d to the root of d * 2 ^ 52. Assumes nothing.
-use mathlib.Core.Path.{_≡_, refl, sym, ap, _∙_, subst}
-use Prim.Native.Nat.{ℕ, zero, suc, _+_, _-_, _*_, _/_, _%_, _^_, _≤_, _<_}
-use native.Mathlib.Nat.{mul-add, add-mul, mul-comm, mul-assoc, mul-mul-mul-comm, mul-le-mul, mul-le-mul-right, div-add-mod', div-le-of-le-mul, mod-lt}
+use mathlib.Core.Path.{_≡_, sym, subst}
+use Prim.Native.Nat.{ℕ, _+_, _-_, _*_, _/_, _%_, _^_, _≤_, _<_}
+use native.Mathlib.Nat.{mul-add, add-mul, mul-le-mul, div-add-mod', div-le-of-le-mul, mod-lt}
 use native.Mathlib.Omega.{arith}
 use Rattle.root.specs.Steps.{Digits}
 use Rattle.root.proofs.Squares.{sq-next, sq-lt-back}

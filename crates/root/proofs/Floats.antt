@@ -1,17 +1,17 @@
 -- The root of an f64 is a value that an f64 holds, and what its bit pattern says of it. Assumes nothing.
 use mathlib.Core.Path.{_≡_, refl, sym, ap, _∙_, subst}
-use Prim.Native.Nat.{ℕ, zero, suc, _+_, _-_, _*_, _/_, _^_, _≤_, _<_, compare}
+use Prim.Native.Nat.{ℕ, zero, suc, _+_, _-_, _*_, _/_, _%_, _^_, _≤_, _<_, compare}
 use native.Mathlib.Nat.{le-trans, le-refl, lt-of-le-of-lt}
 use mathlib.Core.Bool.{Bool, true, false, not, cond, true≢false}
 use lib.Dec.{T, ltb, ltb→lt}
 use lib.Pow.{pow-lt}
 use lib.Ieee.{Float, nan, inf, fin, binary64, up, down, ne, div, size, nearest, units, odd, toBits, ofBits, nanBits, isNan, fits}
 use lib.Ieee.Fits.{odd-fits, nan-fits, inf-fits, nearest-le, kept-lt}
-use lib.Ieee.Bits.{ofBits-toBits, nanBits-is}
+use lib.Ieee.Bits.{ofBits-toBits, nanBits-is, nanBits-above}
+use borrow.Author.Tests.{lt-ltb, le-ltb}
 use lib.Ieee.Compare.{differs-from-itself}
 use Rattle.root.specs.Root.{wholeRoot, rootUnits, root, rootBits}
-use Rattle.root.proofs.Core.{made-is}
-use Rattle.root.proofs.Patterns.{rootBits-is}
+use Rattle.root.proofs.Core.{made-is, rootBits-is}
 
 units-fits : (s : Bool) (q k : ℕ) → q ≤ 2 ^ 53 → T (fits binary64 (units binary64 s q k))
 unfolding units
@@ -37,8 +37,9 @@ root-fits (fin s zero e) h = h
 root-fits (fin true (suc m) e) h = nan-fits binary64
 root-fits (fin false (suc m) e) h = root-units-fits (suc m * up e * 2 ^ 2148 / down e)
 
--- ---- a NaN
+-- ---- a NaN, as a test, as a value and as a pattern
 
+-- x != x is true at a NaN alone
 pub only-nan : (x : Float) → ne x x ≡ true → x ≡ nan
 only-nan x e = differs-from-itself x (subst T (sym e) tt)
 
@@ -56,29 +57,26 @@ pub nan-made : div binary64 (ofBits binary64 0) (ofBits binary64 0) ≡ nan
 unfolding div ofBits
 nan-made = refl
 
-nan-read : ofBits binary64 0x7FF8_0000_0000_0000 ≡ nan
-unfolding ofBits
-nan-read = refl
+pub nan-pattern : 0x7FF8_0000_0000_0000 ≡ toBits binary64 nan
+unfolding toBits
+nan-pattern = refl
 
-other : (v : Float) → (toBits binary64 v ≡ 0x7FF8_0000_0000_0000 → ⊥) → T (not (isNan v))
-unfolding isNan toBits
-other nan k = absurd (k refl)
-other (inf s) k = tt
-other (fin s m e) k = tt
+is-nan : (x : Float) → isNan x ≡ true → nan ≡ x
+unfolding isNan
+is-nan nan h = refl
+is-nan (inf s) h = cc
+is-nan (fin s m e) h = cc
 
--- ---- r is what `root_bits` gives for x's pattern
+-- a pattern above an infinity's is a NaN's, and any other is not
+pub above-infinity : (n : ℕ) → 0x7FF0_0000_0000_0000 < n % 2 ^ 63 → nan ≡ ofBits binary64 n
+above-infinity n h = is-nan (ofBits binary64 n) (sym (nanBits-is binary64 n) ∙ nanBits-above binary64 n ∙ lt-ltb _ _ h)
 
-module _ (x : Float) (h : T (fits binary64 x)) (r : ℕ) (e : r ≡ rootBits (toBits binary64 x)) where
-  pattern-is : r ≡ toBits binary64 (root binary64 x)
-  pattern-is = e ∙ rootBits-is (toBits binary64 x) ∙ ap (λ (y : Float). toBits binary64 (root binary64 y)) (ofBits-toBits binary64 x h)
+pub up-to-infinity : (n : ℕ) → n % 2 ^ 63 ≤ 0x7FF0_0000_0000_0000 → T (not (nanBits binary64 n))
+up-to-infinity n h = subst (λ (b : Bool). T (not b)) (sym (nanBits-above binary64 n ∙ le-ltb _ _ h)) tt
 
-  pub read-back : ofBits binary64 r ≡ root binary64 x
-  read-back = ap (ofBits binary64) pattern-is ∙ ofBits-toBits binary64 (root binary64 x) (root-fits x h)
+-- ---- from a value's pattern to its root
 
-  pub if-nan : r ≡ 0x7FF8_0000_0000_0000 → nan ≡ root binary64 x
-  if-nan k = sym nan-read ∙ ap (ofBits binary64) (sym k) ∙ read-back
-
-  pub if-none : (r ≡ 0x7FF8_0000_0000_0000 → ⊥) → T (not (nanBits binary64 r))
-  if-none k =
-      subst (λ (b : Bool). T (not b)) (sym (nanBits-is binary64 r ∙ ap isNan read-back))
-      (other (root binary64 x) (λ (z : toBits binary64 (root binary64 x) ≡ 0x7FF8_0000_0000_0000). k (pattern-is ∙ z)))
+pub read-back : (x : Float) → T (fits binary64 x) → (r : ℕ) → r ≡ rootBits (toBits binary64 x) → ofBits binary64 r ≡ root binary64 x
+read-back x h r e =
+    ap (ofBits binary64) (e ∙ rootBits-is (toBits binary64 x) ∙ ap (λ (y : Float). toBits binary64 (root binary64 y)) (ofBits-toBits binary64 x h))
+    ∙ ofBits-toBits binary64 (root binary64 x) (root-fits x h)

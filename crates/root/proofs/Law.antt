@@ -1,31 +1,28 @@
--- `root` is the nearest: of all numbers that an f64 holds, none is as near to √x as the root of x, for every finite x above zero. It is said in the smallest values of an f64:
--- x is n / 4 ^ 1074, so √x is √n of them; the root is R of them, and any other number that an f64 holds is p * 2 ^ j of them with p below 2 ^ 53.
--- R is nearer to √n than a smaller Y if √n is above the middle between the two: (R + Y) * (R + Y) < 4 * n. Assumes nothing.
+-- `root` is IEEE 754's: for every finite x above zero the root of x is the value of the format nearest to √x (`RootNearest`). Assumes nothing.
+-- All is counted in the smallest value: x is n / 4 ^ 1074, so √x is √n of them, and a value of the format is p * 2 ^ j of them with p below 2 ^ 53.
 use mathlib.Core.Path.{_≡_, refl, sym, ap, _∙_, subst}
 use mathlib.Core.Logic.{_⊎_, inl, inr}
-use Prim.Native.Nat.{ℕ, zero, suc, _+_, _-_, _*_, _/_, _%_, _^_, _≤_, _<_, compare}
-use native.Mathlib.Nat.{le-trans, le-of-eq, lt-of-lt-of-le, lt-of-le-of-lt, lt-of-mul-lt-mul-right, mul-pos, mul-assoc, add-mul, mul-mul-mul-comm, mul-le-mul, mul-le-mul-right, mul-lt-mul-of-pos-right}
+use Prim.Native.Nat.{ℕ, _+_, _-_, _*_, _/_, _%_, _^_, _≤_, _<_}
+use native.Mathlib.Nat.{le-trans, le-of-eq, lt-of-lt-of-le, lt-of-le-of-lt, lt-of-mul-lt-mul-right, mul-pos, mul-assoc, add-mul, mul-le-mul, mul-le-mul-right, mul-lt-mul-of-pos-right}
 use native.Mathlib.Decide.{decLe}
 use native.Mathlib.Numerals.{add-one}
 use native.Mathlib.Omega.{arith}
 use mathlib.Core.Bool.{false}
-use lib.Pow.{pow-add, pow-pos, pow-mono, pow-lt}
 use lib.Dec.{lit<}
-use lib.Ieee.{Float, binary64, nearest, units, ofBits}
+use lib.Pow.{pow-add, pow-pos, pow-mono, pow-lt}
+use lib.Ieee.{Float, binary64, nearest, units, toBits, ofBits}
+use lib.Ieee.Bits.{ofBits-toBits, ofBits-fits}
 use lib.Ieee.Exact.{HasValue, units-val}
-use Rattle.root.specs.Root.{wholeRoot, rootUnits, root}
-use Rattle.root.specs.Steps.{Lined, Halved, Digits}
-use Rattle.root.proofs.Squares.{sq-next, sq-suc, sq-odd}
+use Rattle.root.specs.Root.{wholeRoot, root}
+use Rattle.root.specs.Nearest.{Nearer, RoundedToNearest, RootNearest}
+use Rattle.root.specs.Steps.{Unpacks, Halved, Digits, roundedRoot}
+use Rattle.root.proofs.Squares.{sq-next, sq-suc, sq-odd, sq-lt, sq-scaled}
 use Rattle.root.proofs.Whole.{whole-root}
 use Rattle.root.proofs.Compares.{below-middle, above-middle}
-use Rattle.root.proofs.Core.{root-of, root-units, whole-ge, whole-lt}
+use Rattle.root.proofs.Core.{root-is, whole-ge, whole-lt}
 use Rattle.root.proofs.Patterns.{normal, subnormal, even-place, odd-place}
-
-sq-lt : (a b : ℕ) → a < b → a * a < b * b
-sq-lt a b h = omega (arith, sq-suc a, mul-le-mul h h)
-
-squared : (q p : ℕ) → q * p * (q * p) ≡ q * q * (p * p)
-squared q p = mul-mul-mul-comm q p q p
+use Rattle.root.proofs.Floats.{root-fits}
+use Rattle.root.proofs.Values.{on-grid, finite-pattern}
 
 -- what an f64 holds lies on the grid of 2 ^ h, or is below 2 ^ 52 steps of it
 grid : (p j h : ℕ) → p < 2 ^ 53 → ((g : ℕ) × (p * 2 ^ j ≡ g * 2 ^ h)) ⊎ (p * 2 ^ j < 2 ^ 52 * 2 ^ h)
@@ -39,10 +36,6 @@ grid p j h u = go (decLe h j)
     go (no l) =
         inr (lt-of-lt-of-le (mul-lt-mul-of-pos-right u (pow-pos j))
         (le-trans (le-of-eq (sym (pow-add 2 53 j))) (le-trans (pow-mono {i = 53 + j} {j = 52 + h} (omega arith)) (le-of-eq (pow-add 2 52 h)))))
-
--- R is nearer to √n than Y is
-abbrev pub Nearer : (n R Y : ℕ) → Type 0
-Nearer n R Y = (Y < R → (R + Y) * (R + Y) < 4 * n) × (R < Y → 4 * n < (R + Y) * (R + Y))
 
 module _ (N q r h : ℕ) (is : q * q + r ≡ N) (rest : r ≤ 2 * q) (least : 2 ^ 52 ≤ q) (p j : ℕ) (u : p < 2 ^ 53) where
   big : 0 < 2 ^ h * 2 ^ h
@@ -61,17 +54,17 @@ module _ (N q r h : ℕ) (is : q * q + r ≡ N) (rest : r ≤ 2 * q) (least : 2 
   less : (a b : ℕ) → a < b * 2 ^ h → b * b ≤ 4 * N → a * a < 4 * (N * (2 ^ h * 2 ^ h))
   less a b l k =
       lt-of-lt-of-le (sq-lt a (b * 2 ^ h) l)
-      (le-trans (le-of-eq (squared b (2 ^ h))) (le-trans (mul-le-mul-right (2 ^ h * 2 ^ h) k) (le-of-eq (mul-assoc 4 N (2 ^ h * 2 ^ h)))))
+      (le-trans (le-of-eq (sq-scaled b (2 ^ h))) (le-trans (mul-le-mul-right (2 ^ h * 2 ^ h) k) (le-of-eq (mul-assoc 4 N (2 ^ h * 2 ^ h)))))
 
   less' : (a b : ℕ) → a ≤ b * 2 ^ h → b * b < 4 * N → a * a < 4 * (N * (2 ^ h * 2 ^ h))
   less' a b l k =
-      lt-of-le-of-lt (le-trans (mul-le-mul l l) (le-of-eq (squared b (2 ^ h))))
+      lt-of-le-of-lt (le-trans (mul-le-mul l l) (le-of-eq (sq-scaled b (2 ^ h))))
       (lt-of-lt-of-le (mul-lt-mul-of-pos-right k big) (le-of-eq (mul-assoc 4 N (2 ^ h * 2 ^ h))))
 
   over : (a b : ℕ) → b * 2 ^ h ≤ a → 4 * N < b * b → 4 * (N * (2 ^ h * 2 ^ h)) < a * a
   over a b l k =
       lt-of-lt-of-le (lt-of-le-of-lt (le-of-eq (sym (mul-assoc 4 N (2 ^ h * 2 ^ h)))) (mul-lt-mul-of-pos-right k big))
-      (le-trans (le-of-eq (sym (squared b (2 ^ h)))) (mul-le-mul l l))
+      (le-trans (le-of-eq (sym (sq-scaled b (2 ^ h)))) (mul-le-mul l l))
 
   sum : (a b : ℕ) → (a + b) * 2 ^ h ≡ a * 2 ^ h + b * 2 ^ h
   sum a b = add-mul a b (2 ^ h)
@@ -115,7 +108,7 @@ module _ (N q r h : ℕ) (is : q * q + r ≡ N) (rest : r ≤ 2 * q) (least : 2 
 scaled-of : (b : ℕ) → 0 < b → b < 0x7FF0_0000_0000_0000 → (d : ℕ) × (h : ℕ) × Halved b d h
 scaled-of b l u = go (decLe 1 (b / 2 ^ 52))
   where
-    placed : (d p : ℕ) → Lined b d p → (d' : ℕ) × (h : ℕ) × Halved b d' h
+    placed : (d p : ℕ) → Unpacks b d p → (d' : ℕ) × (h : ℕ) × Halved b d' h
     placed d p a = pick (decLe 1 (p % 2))
       where
         pick : Dec (1 ≤ p % 2) → (d' : ℕ) × (h : ℕ) × Halved b d' h
@@ -126,70 +119,53 @@ scaled-of b l u = go (decLe 1 (b / 2 ^ 52))
     go (yes k) = placed _ _ (normal b u (λ e. omega arith))
     go (no k) = placed _ _ (subnormal b l (omega arith))
 
-abbrev Answer : (b n R : ℕ) → Type 0
-Answer b n R =
-    HasValue (ofBits binary64 b) false n (2 ^ 2148)
-    × HasValue (root binary64 (ofBits binary64 b)) false R (2 ^ 1074)
-    × ((p j : ℕ) → p < 2 ^ 53 → Nearer n R (p * 2 ^ j))
+-- the whole root of a number, with what is left
+whole-digits : (n : ℕ) → Digits n (wholeRoot n) (n - wholeRoot n * wholeRoot n)
+whole-digits n = record {
+  is = omega (arith, whole-root n .0);
+  rest = omega (arith, whole-root n .1, sq-suc (wholeRoot n));
+}
 
-pub root-nearest : (b : ℕ) → 0 < b → b < 0x7FF0_0000_0000_0000 → (n : ℕ) × (R : ℕ) × Answer b n R
-root-nearest b l u =
-    let s = scaled-of b l u in
-    at (s .0) (s .1) (s .2)
-  where
-    at : (d h : ℕ) → Halved b d h → (n : ℕ) × (R : ℕ) × Answer b n R
-    at d h s = go (decLe r q)
-      where
-        N : ℕ
-        N = d * 2 ^ 52
+module _ (b d h q r : ℕ) (s : Halved b d h) (w : Digits (d * 2 ^ 52) q r) where
+  value : (v : ℕ) → v ≤ 2 ^ 53 → HasValue (units binary64 false v h) false (v * 2 ^ h) (2 ^ 1074)
+  value v k =
+      units-val binary64 false v h
+      (lt-of-le-of-lt (le-trans (mul-le-mul-right (2 ^ h) k) (le-trans (le-of-eq (sym (pow-add 2 53 h))) (pow-mono {i = 53 + h} {j = 1586} (omega (arith, s .high))))) (pow-lt {i = 1586} {j = 2098} (lit< tt)))
 
-        n : ℕ
-        n = N * (2 ^ h * 2 ^ h)
+  -- the root is v steps of 2 ^ h, and no other value is as near to √x
+  rounded-to : (v : ℕ) → v ≤ 2 ^ 53 → roundedRoot q r ≡ v → ((p j : ℕ) → p < 2 ^ 53 → Nearer (d * 2 ^ 52 * (2 ^ h * 2 ^ h)) (v * 2 ^ h) (p * 2 ^ j))
+      → RoundedToNearest (ofBits binary64 b) (root binary64 (ofBits binary64 b))
+  rounded-to v k e near = record {
+    n = d * 2 ^ 52 * (2 ^ h * 2 ^ h);
+    a = v * 2 ^ h;
+    operand = s .is;
+    result = subst (λ (x : Float). HasValue x false (v * 2 ^ h) (2 ^ 1074)) (sym (root-is b d h q r s w ∙ ap (λ (y : ℕ). units binary64 false y h) e)) (value v k);
+    held = root-fits (ofBits binary64 b) (ofBits-fits binary64 b);
+    nearest = λ x c f g.
+        (let u = on-grid x c f g in
+        subst (Nearer (d * 2 ^ 52 * (2 ^ h * 2 ^ h)) (v * 2 ^ h)) (sym (u .3)) (near (u .0) (u .1) (u .2)));
+  }
 
-        q : ℕ
-        q = wholeRoot N
+  pattern-nearest : RoundedToNearest (ofBits binary64 b) (root binary64 (ofBits binary64 b))
+  pattern-nearest = go (decLe r q)
+    where
+      ge : 2 ^ 52 ≤ q
+      ge = whole-ge b d h q r s w
 
-        r : ℕ
-        r = N - q * q
+      lt : q < 2 ^ 53
+      lt = whole-lt b d h q r s w
 
-        is : q * q + r ≡ N
-        is = omega (arith, whole-root N .0)
+      go : Dec (r ≤ q) → RoundedToNearest (ofBits binary64 b) (root binary64 (ofBits binary64 b))
+      go (yes k) = rounded-to q (omega (arith, lt)) (ap (nearest q) (below-middle q r k)) (λ p j t. down (d * 2 ^ 52) q r h (w .is) (w .rest) ge p j t k)
+      go (no k) =
+          rounded-to (q + 1) (omega (arith, lt)) (ap (nearest q) (above-middle q r (omega arith)) ∙ sym (add-one q))
+          (λ p j t. up (d * 2 ^ 52) q r h (w .is) (w .rest) ge p j t (omega arith))
 
-        rest : r ≤ 2 * q
-        rest = omega (arith, whole-root N .1, sq-suc q)
-
-        ge : 2 ^ 52 ≤ q
-        ge = whole-ge (ofBits binary64 b) d h q r (s .is) (s .least) (s .most) (s .high) is rest
-
-        lt : q < 2 ^ 53
-        lt = whole-lt (ofBits binary64 b) d h q r (s .is) (s .least) (s .most) (s .high) is rest
-
-        fine : (v : ℕ) → v ≤ 2 ^ 53 → v * 2 ^ h < 2 ^ 2098
-        fine v k = lt-of-le-of-lt (le-trans (mul-le-mul-right (2 ^ h) k) (le-trans (le-of-eq (sym (pow-add 2 53 h))) (pow-mono {i = 53 + h} {j = 1586} (omega (arith, s .high))))) (pow-lt {i = 1586} {j = 2098} (lit< tt))
-
-        made : root binary64 (ofBits binary64 b) ≡ units binary64 false (nearest q (compare (4 * (q * q + r)) ((2 * q + 1) * (2 * q + 1)))) h
-        made =
-            root-of (ofBits binary64 b) n (s .is) (mul-pos (omega (arith, s .least)) (mul-pos (pow-pos h) (pow-pos h)))
-            ∙ root-units n (q * q + r) q r h refl rest ge lt (ap (λ (y : ℕ). y * (2 ^ h * 2 ^ h)) (sym is))
-
-        go : Dec (r ≤ q) → (n : ℕ) × (R : ℕ) × Answer b n R
-        go (yes k) = (
-          n,
-          q * 2 ^ h,
-          (
-            s .is,
-            subst (λ (x : Float). HasValue x false (q * 2 ^ h) (2 ^ 1074)) (sym (made ∙ ap (λ o. units binary64 false (nearest q o) h) (below-middle q r k))) (units-val binary64 false q h (fine q (omega (arith, lt)))),
-            λ p j t. down N q r h is rest ge p j t k,
-          ),
-        )
-        go (no k) = (
-          n,
-          (q + 1) * 2 ^ h,
-          (
-            s .is,
-            subst (λ (x : Float). HasValue x false ((q + 1) * 2 ^ h) (2 ^ 1074))
-                (sym (made ∙ ap (λ o. units binary64 false (nearest q o) h) (above-middle q r (omega arith)) ∙ ap (λ (y : ℕ). units binary64 false y h) (sym (add-one q))))
-                (units-val binary64 false (q + 1) h (fine (q + 1) (omega (arith, lt)))),
-            λ p j t. up N q r h is rest ge p j t (omega arith),
-          ),
-        )
+pub root-nearest : RootNearest
+root-nearest x f p =
+    let b = toBits binary64 x in
+    let k = finite-pattern x f p in
+    let s = scaled-of b (k .0) (k .1) in
+    let n = s .0 * 2 ^ 52 in
+    subst (λ (y : Float). RoundedToNearest y (root binary64 y)) (ofBits-toBits binary64 x f)
+    (pattern-nearest b (s .0) (s .1) (wholeRoot n) (n - wholeRoot n * wholeRoot n) (s .2) (whole-digits n))

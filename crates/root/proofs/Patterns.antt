@@ -2,21 +2,22 @@
 use mathlib.Core.Path.{_≡_, refl, sym, ap, _∙_, subst}
 use mathlib.Core.Logic.{_⊎_, inl, inr}
 use Prim.Native.Nat.{ℕ, zero, suc, _+_, _-_, _*_, _/_, _%_, _^_, _≤_, _<_}
-use native.Mathlib.Nat.{le-trans, le-of-eq, lt-of-lt-of-le, lt-of-le-of-lt, lt-irrefl, lt-of-not-le, zero-mul, mul-one, mul-pos, mul-assoc, mul-right-comm, mul-le-mul-right, mod-eq-of-lt}
+use native.Mathlib.Nat.{le-trans, le-of-eq, lt-of-le-of-lt, zero-mul, mul-one, mul-pos, mul-assoc, mul-right-comm, mul-le-mul-right, mod-eq-of-lt}
 use native.Mathlib.Decide.{decLe}
 use native.Mathlib.Omega.{arith}
 use mathlib.Core.Bool.{Bool, true, false, not, cond, false≢true}
-use lib.IntN.{pos}
-use lib.Dec.{T, leb, eqb, eqb→eq, not-T, leb→le, le→leb, lit<, lit≤}
+use lib.Dec.{T, leb, eqb, eqb→eq, le→leb}
 use lib.Arith.{lt→nleb}
-use lib.Pow.{pow-add, pow-pos, pow-mono, shl-lt, shl-exact}
+use lib.Pow.{pow-add, pow-pos, shl-lt, shl-exact}
 use lib.Count.{leadingZeros, leading-top}
-use lib.Ieee.{Float, nan, inf, fin, binary64, up, down, odd, toBits, ofBits, ofFields, isNan, fits}
+use lib.Ieee.{Float, nan, inf, fin, binary64, up, down, odd, toBits, ofBits, ofFields, isNan}
 use lib.Ieee.Fits.{down-pos}
 use lib.Ieee.Bits.{is-true, is-false, toBits-ofBits}
 use lib.Ieee.Exact.{HasValue, odd-sign}
 use Rattle.root.specs.Root.{root, rootBits}
-use Rattle.root.specs.Steps.{Lined, Halved}
+use Rattle.root.specs.Steps.{Unpacks, Halved}
+use Rattle.root.proofs.Squares.{pow-lt-back, no-zero}
+use Rattle.root.proofs.Core.{rootBits-is}
 
 -- ---- the same number, with numerator and denominator k times as large
 
@@ -72,16 +73,15 @@ mid-val b x u z =
     subst (λ (w : Float). HasValue w false ((2 ^ 52 + b % 2 ^ 52) * 2 ^ x * 2 ^ 1074) (2 ^ 2148)) (sym e)
     (scaled (ofFields binary64 false (suc x) (b % 2 ^ 52)) false ((2 ^ 52 + b % 2 ^ 52) * 2 ^ x) (2 ^ 1074) (2 ^ 1074) (mid-fields false x (b % 2 ^ 52) (omega arith)))
 
--- ---- aligned
+-- ---- unpacked
 
-pub normal : (b : ℕ) → b < 0x7FF0_0000_0000_0000 → (b / 2 ^ 52 ≡ 0 → ⊥) → Lined b (2 ^ 52 + b % 2 ^ 52) (b / 2 ^ 52 + 1073)
+pub normal : (b : ℕ) → b < 0x7FF0_0000_0000_0000 → (b / 2 ^ 52 ≡ 0 → ⊥) → Unpacks b (2 ^ 52 + b % 2 ^ 52) (b / 2 ^ 52 - 1 + 1074)
 normal b u n =
     let x = b / 2 ^ 52 - 1 in
     let z : b / 2 ^ 52 ≡ suc x = omega arith in
-    let p : b / 2 ^ 52 + 1073 ≡ x + 1074 = omega arith in
     record {
       is = subst (λ (a : ℕ). HasValue (ofBits binary64 b) false a (2 ^ 2148))
-          (mul-assoc (2 ^ 52 + b % 2 ^ 52) (2 ^ x) (2 ^ 1074) ∙ ap (λ (y : ℕ). (2 ^ 52 + b % 2 ^ 52) * y) (sym (pow-add 2 x 1074) ∙ ap (λ (y : ℕ). 2 ^ y) (sym p)))
+          (mul-assoc (2 ^ 52 + b % 2 ^ 52) (2 ^ x) (2 ^ 1074) ∙ ap (λ (y : ℕ). (2 ^ 52 + b % 2 ^ 52) * y) (sym (pow-add 2 x 1074)))
           (mid-val b x u z);
       least = omega arith;
       most = omega arith;
@@ -89,19 +89,16 @@ normal b u n =
       high = omega arith;
     }
 
-pow-lt-back : (i p : ℕ) → 2 ^ i < 2 ^ p → i < p
-pow-lt-back i p h = lt-of-not-le (λ (g : p ≤ i). lt-irrefl (2 ^ i) (lt-of-lt-of-le h (pow-mono g)))
-
 -- the leading digit of a subnormal number's pattern is at j, so u zeros bring it to place 52
 pub leading : (b : ℕ) → 0 < b → b < 2 ^ 52 → (j : ℕ) × (leadingZeros 64 b + suc j ≡ 64) × (j < 52) × (2 ^ j ≤ b) × (b < 2 ^ suc j)
 leading b p u =
     let l = leading-top 64 b p (omega arith) in
     (l .0, l .1, pow-lt-back (l .0) 52 (lt-of-le-of-lt (l .2) u), l .2, l .3)
 
-shifted : (b j u : ℕ) → j + u ≡ 52 → j < 52 → 2 ^ j ≤ b → b < 2 ^ suc j → b < 2 ^ 52 → Lined b (b * 2 ^ u % 2 ^ 64) (1074 - u)
+shifted : (b j u : ℕ) → j + u ≡ 52 → j < 52 → 2 ^ j ≤ b → b < 2 ^ suc j → b < 2 ^ 52 → Unpacks b (b * 2 ^ u % 2 ^ 64) (1074 - u)
 shifted b j u e k l h t =
     let s : suc j + u ≡ 53 = omega arith in
-    subst (λ (d : ℕ). Lined b d (1074 - u)) (sym (shl-exact (suc j) u 64 h (omega arith)))
+    subst (λ (d : ℕ). Unpacks b d (1074 - u)) (sym (shl-exact (suc j) u 64 h (omega arith)))
     (record {
       is = subst (λ (a : ℕ). HasValue (ofBits binary64 b) false a (2 ^ 2148))
           (sym (mul-assoc b (2 ^ u) (2 ^ (1074 - u)) ∙ ap (λ (y : ℕ). b * y) (sym (pow-add 2 u (1074 - u)) ∙ ap (λ (y : ℕ). 2 ^ y) (whole u (omega arith)))))
@@ -115,7 +112,7 @@ shifted b j u e k l h t =
     whole : (u : ℕ) → u ≤ 1074 → u + (1074 - u) ≡ 1074
     whole u h = omega arith
 
-pub subnormal : (b : ℕ) → 0 < b → b / 2 ^ 52 ≡ 0 → Lined b (b * 2 ^ (leadingZeros 64 b - 11) % 2 ^ 64) (1074 - (leadingZeros 64 b - 11))
+pub subnormal : (b : ℕ) → 0 < b → b / 2 ^ 52 ≡ 0 → Unpacks b (b * 2 ^ (leadingZeros 64 b - 11) % 2 ^ 64) (1074 - (leadingZeros 64 b - 11))
 subnormal b p z =
     let t : b < 2 ^ 52 = omega arith in
     let l = leading b p t in
@@ -123,7 +120,7 @@ subnormal b p z =
 
 -- ---- halved
 
-pub even-place : (b d p : ℕ) → Lined b d p → p % 2 ≡ 0 → Halved b d ((p - 52) / 2)
+pub even-place : (b d p : ℕ) → Unpacks b d p → p % 2 ≡ 0 → Halved b d ((p - 52) / 2)
 even-place b d p l e =
     let h = (p - 52) / 2 in
     let s : p ≡ 52 + (h + h) = omega (arith, l .low) in
@@ -136,7 +133,7 @@ even-place b d p l e =
       high = omega (arith, l .high);
     }
 
-pub odd-place : (b d p : ℕ) → Lined b d p → (p % 2 ≡ 0 → ⊥) → Halved b (d * 2) ((p - 52) / 2)
+pub odd-place : (b d p : ℕ) → Unpacks b d p → (p % 2 ≡ 0 → ⊥) → Halved b (d * 2) ((p - 52) / 2)
 odd-place b d p l n =
     let h = (p - 52) / 2 in
     let s : p ≡ 53 + (h + h) = omega (arith, l .low) in
@@ -151,10 +148,6 @@ odd-place b d p l n =
     }
 
 -- ---- answered at once
-
-pub rootBits-is : (b : ℕ) → rootBits b ≡ toBits binary64 (root binary64 (ofBits binary64 b))
-unfolding rootBits
-rootBits-is b = refl
 
 at-nan : (b : ℕ) → root binary64 (ofBits binary64 b) ≡ nan → 0x7FF8_0000_0000_0000 ≡ rootBits b
 unfolding toBits
@@ -182,9 +175,6 @@ there = refl
 
 pub infinity-answer : (b : ℕ) → b ≡ 0x7FF0_0000_0000_0000 → b ≡ rootBits b
 infinity-answer b e = subst (λ (y : ℕ). y ≡ rootBits y) (sym e) there
-
-no-zero : (a d : ℕ) → 0 ≡ a * d → 0 < a → 0 < d → ⊥
-no-zero a d e p q = lt-irrefl 0 (subst (λ (x : ℕ). 0 < x) (sym e) (mul-pos p q))
 
 negative : (x : Float) (a c : ℕ) → HasValue x true a c → 0 < a → root binary64 x ≡ nan
 unfolding root

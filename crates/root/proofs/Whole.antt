@@ -1,15 +1,14 @@
 -- `wholeRoot n` is the largest number whose square is no more than n. Assumes nothing.
-use mathlib.Core.Path.{_≡_, refl, sym, ap, _∙_, subst}
-use Prim.Native.Nat.{ℕ, zero, suc, _+_, _-_, _*_, _/_, _%_, _^_, _≤_, _<_}
-use native.Mathlib.Nat.{le-trans, lt-of-lt-of-le, pow-suc, mul-le-mul}
+use mathlib.Core.Path.{_≡_}
+use Prim.Native.Nat.{ℕ, zero, suc, _-_, _*_, _/_, _^_, _≤_, _<_}
+use native.Mathlib.Nat.{lt-of-lt-of-le, pow-suc}
 use native.Mathlib.Omega.{arith}
 use mathlib.Core.Bool.{Bool, true, false, not, cond}
 use lib.Dec.{T, leb, leb→le, nleb→lt}
-use lib.Pow.{pow-pos}
 use lib.Ieee.{size}
 use lib.Ieee.Digits.{size-lt}
 use Rattle.root.specs.Root.{more, rootIn, wholeRoot}
-use Rattle.root.proofs.Squares.{sq-suc, sq-twice, sq-odd}
+use Rattle.root.proofs.Squares.{sq-suc, sq-twice}
 
 -- q is the whole root of n
 abbrev pub Is : ℕ → ℕ → Type 0

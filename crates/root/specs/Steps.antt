@@ -1,35 +1,43 @@
--- What each of the root's four steps promises. Definitions only.
+-- What each step of the root promises: special operands, exponent halved, root digits, rounding. Definitions only.
 use mathlib.Core.Path.{_≡_}
 use mathlib.Core.Logic.{_⊎_}
-use Prim.Native.Nat.{ℕ, _+_, _*_, _^_, _≤_, _<_}
+use Prim.Native.Nat.{ℕ, _+_, _*_, _^_, _≤_, _<_, compare}
 use mathlib.Core.Bool.{false}
-use lib.Ieee.{binary64, ofBits}
+use lib.Ieee.{binary64, ofBits, nearest}
 use lib.Ieee.Exact.{HasValue}
 use Rattle.root.specs.Root.{rootBits}
 use Rattle.root.specs.declared.Operand.{Operand}
 use Rattle.root.specs.declared.Operand.the-variants.{Answered, Positive}
 
--- Answered at once is what is no finite number above zero: +0, and all patterns from +infinity's up, which are +infinity, the NaNs and all with a sign.
+-- the patterns of the finite numbers above zero: from the smallest value's up to that before +infinity's
+abbrev pub FinitePositive : ℕ → Type 0
+FinitePositive b = (0 < b) × (b < 0x7FF0_0000_0000_0000)
+
+-- Special operands: any other pattern is answered at once. These are +0, and all from +infinity's up: +infinity, the NaNs, and all with a sign.
 abbrev pub Special : ℕ → Operand → Type 0
 Special b (Answered a) = ((b ≡ 0) ⊎ (0x7FF0_0000_0000_0000 ≤ b)) × (a ≡ rootBits b)
-Special b Positive = (0 < b) × (b < 0x7FF0_0000_0000_0000)
+Special b Positive = FinitePositive b
 
 -- b stands for d * 2 ^ p / 4 ^ 1074, and d has 53 digits
-pub record Lined (b d p : ℕ) : Type 0 where
+pub record Unpacks (b d p : ℕ) : Type 0 where
   pub is : HasValue (ofBits binary64 b) false (d * 2 ^ p) (2 ^ 2148)
   pub least : 2 ^ 52 ≤ d
   pub most : d < 2 ^ 53
   pub low : 1022 ≤ p
   pub high : p ≤ 3119
 
--- b stands for d * 2 ^ 52 * 4 ^ h / 4 ^ 1074, and d has 53 or 54 digits
+-- Exponent halved: b stands for d * 2 ^ 52 * 4 ^ h / 4 ^ 1074, and d has 53 or 54 digits. So its root is √(d * 2 ^ 52) * 2 ^ h / 2 ^ 1074.
 pub record Halved (b d h : ℕ) : Type 0 where
   pub is : HasValue (ofBits binary64 b) false (d * 2 ^ 52 * (2 ^ h * 2 ^ h)) (2 ^ 2148)
   pub least : 2 ^ 52 ≤ d
   pub most : d < 2 ^ 54
   pub high : h ≤ 1533
 
--- q is the whole root of n, and r is what is left
+-- Root digits: q is the whole root of n, and r is what is left
 pub record Digits (n q r : ℕ) : Type 0 where
   pub is : q * q + r ≡ n
   pub rest : r ≤ 2 * q
+
+-- Rounding: √(q * q + r) to the nearest whole number, by how it compares with the middle between q and the next; a tie goes to the even one
+abbrev pub roundedRoot : ℕ → ℕ → ℕ
+roundedRoot q r = nearest q (compare (4 * (q * q + r)) ((2 * q + 1) * (2 * q + 1)))

@@ -1,15 +1,26 @@
-// The square root of an f64, worked out from its bits: special operands, exponent halved, root digits, rounding.
+// IEEE 754's squareRoot of an f64, worked out from its bits: special operands, exponent halved, root digits, rounding.
 ghost use mathlib.Core.Path.{_≡_};
-ghost use Prim.Native.Nat.{_+_, _*_, _^_, _≤_, _<_, compare};
-ghost use lib.Ieee.{binary64, nearest, ofBits};
+ghost use Prim.Native.Nat.{_*_, _^_, _≤_, _<_};
+ghost use lib.Ieee.{binary64, toBits, ofBits};
 ghost use Rattle.root.specs.Root.{root as ieeeRoot, rootBits};
-ghost use Rattle.root.specs.Steps.{Special, Lined, Halved, Digits};
+ghost use Rattle.root.specs.Steps.{FinitePositive, Special, Unpacks, Halved, Digits, roundedRoot};
 
-// the weight of the exponent's field, of the sign, and the patterns of +infinity and of the NaN that is answered
+// The weight of the exponent's field in a pattern, and of the leading digit in a significand: 2 ^ 52.
 const LEAD: u64 = 0x0010_0000_0000_0000;
 
+// The digits of a significand below its leading digit.
+const BELOW_LEAD: u64 = 52;
+
+// The bits of a u64 above a significand's leading digit.
+const ABOVE_LEAD: u64 = 11;
+
+// The smallest value of an f64 is 2 ^ -1074.
+const LOWEST: u64 = 1074;
+
+// The weight of the sign.
 const SIGN: u64 = 0x8000_0000_0000_0000;
 
+// The patterns of +infinity and of the NaN that is answered.
 const INFINITY: u64 = 0x7FF0_0000_0000_0000;
 
 const NAN: u64 = 0x7FF8_0000_0000_0000;
@@ -19,7 +30,7 @@ pub enum Operand {
     Positive,
 }
 
-// Special operands: what is answered at once. What is left is a finite number above zero.
+// Special operands: those answered at once. What is left is a finite number above zero.
 pub fn special(b: u64) -> Operand
     ensures { λ r. ⌜ Special b r ⌝ }
 {
@@ -51,64 +62,69 @@ pub fn special(b: u64) -> Operand
     }
 }
 
-// x is digits * 2 ^ place / 4 ^ 1074
-pub struct Aligned {
+// The number is digits * 2 ^ exponent / 4 ^ 1074, and digits has 53 digits.
+pub struct Unpacked {
     pub digits: u64,
-    pub place: u64,
+    pub exponent: u64,
 }
 
-pub fn aligned_at(b: u64) -> Aligned
-    requires { ⌜ (0 < b) × (b < 0x7FF0_0000_0000_0000) ⌝ }
-    ensures { λ r. ⌜ Lined b (r .digits) (r .place) ⌝ }
+// The significand of a finite number above zero, with its leading digit in place, and the exponent that goes with it.
+pub fn unpack(b: u64) -> Unpacked
+    requires { ⌜ FinitePositive b ⌝ }
+    ensures { λ r. ⌜ Unpacks b (r .digits) (r .exponent) ⌝ }
 {
     let field = b / LEAD;
     if field == 0 {
-        let up = u64::leading_zeros(b) as u64 - 11;
-        Aligned {
+        let up = u64::leading_zeros(b) as u64 - ABOVE_LEAD;
+        Unpacked {
             digits: b << up,
-            place: 1074 - up,
+            exponent: LOWEST - up,
         }
     } else {
-        Aligned {
+        Unpacked {
             digits: LEAD + b % LEAD,
-            place: field + 1073,
+            exponent: field - 1 + LOWEST,
         }
     }
 }
 
-// x is digits * 2 ^ 52 * 4 ^ half / 4 ^ 1074
+// The number is digits * 2 ^ 52 * 4 ^ half / 4 ^ 1074, and digits has 53 or 54 digits.
 pub struct Scaled {
     pub digits: u64,
     pub half: u64,
 }
 
-// Exponent halved: an exact scaling by a power of four.
+// Exponent halved: an exact scaling by a power of four. An odd exponent gives one factor of two to the digits.
 pub fn halved(b: u64) -> Scaled
-    requires { ⌜ (0 < b) × (b < 0x7FF0_0000_0000_0000) ⌝ }
+    requires { ⌜ FinitePositive b ⌝ }
     ensures { λ r. ⌜ Halved b (r .digits) (r .half) ⌝ }
 {
-    let l = aligned_at(b);
-    let half = (l.place - 52) / 2;
-    if l.place % 2 == 0 {
+    let u = unpack(b);
+    let half = (u.exponent - BELOW_LEAD) / 2;
+    if u.exponent % 2 == 0 {
         Scaled {
-            digits: l.digits,
+            digits: u.digits,
             half: half,
         }
     } else {
         Scaled {
-            digits: l.digits * 2,
+            digits: u.digits * 2,
             half: half,
         }
     }
 }
 
-pub struct Parts {
+// The whole root of a number, and what the number has above its square.
+pub struct RootDigits {
     pub whole: u64,
     pub rest: u64,
 }
 
-// The whole root of digits, and what is left, two digits of it to a turn.
-pub fn first_digits(digits: u64) -> Parts
+// The binary digits of the whole root of a number below 2 ^ 54: a turn for each, which takes two digits of the number.
+const TURNS: u64 = 27;
+
+// The whole root of digits, one digit a turn, with no branch.
+pub fn first_digits(digits: u64) -> RootDigits
     requires { ⌜ digits < 2 ^ 54 ⌝ }
     ensures { λ r. ⌜ Digits digits (r .whole) (r .rest) ⌝ }
 {
@@ -116,7 +132,7 @@ pub fn first_digits(digits: u64) -> Parts
     let mut whole: u64 = 0;
     let mut rest: u64 = 0;
     let mut turn: u64 = 0;
-    while turn < 27 {
+    while turn < TURNS {
         let now = rest * 4 + feed / LEAD;
         let trial = whole * 4 + 1;
         let digit = (trial <= now) as u64;
@@ -125,47 +141,48 @@ pub fn first_digits(digits: u64) -> Parts
         whole = whole * 2 + digit;
         turn += 1;
     }
-    Parts {
+    RootDigits {
         whole: whole,
         rest: rest,
     }
 }
 
-// 2 ^ 26
+// 2 ^ 26: the root of 2 ^ 52.
 const HALF: u64 = 0x0400_0000;
 
-// Root digits: the whole root of digits * 2 ^ 52, and what is left. The first 27 digits come one by one, and the other 26 by one division.
-pub fn digits(digits: u64) -> Parts
+// Root digits: the whole root of digits * 2 ^ 52. The first 27 digits come one by one, the other 26 by one division.
+pub fn digits(digits: u64) -> RootDigits
     requires { ⌜ (2 ^ 52 ≤ digits) × (digits < 2 ^ 54) ⌝ }
     ensures { λ r. ⌜ Digits (digits * 2 ^ 52) (r .whole) (r .rest) ⌝ }
 {
-    let p = first_digits(digits);
-    let more = p.rest * HALF;
-    let twice = p.whole * 2;
+    let first = first_digits(digits);
+    let more = first.rest * HALF;
+    let twice = first.whole * 2;
     let next = more / twice;
     let left = more % twice * HALF;
-    let whole = p.whole * HALF + next;
+    let whole = first.whole * HALF + next;
     if next * next <= left {
-        Parts {
+        RootDigits {
             whole: whole,
             rest: left - next * next,
         }
     } else {
-        Parts {
+        RootDigits {
             whole: whole - 1,
             rest: left + whole * 2 - 1 - next * next,
         }
     }
 }
 
-// Rounding: to the nearest whole number, a tie to the even one; there is no tie.
+// Rounding: once, to the nearest whole number. A tie would go to the even one, and there is none.
 pub fn rounded(whole: u64, rest: u64) -> u64
     requires { ⌜ whole < 2 ^ 53 ⌝ }
-    ensures { λ r. ⌜ r ≡ nearest whole (compare (4 * (whole * whole + rest)) ((2 * whole + 1) * (2 * whole + 1))) ⌝ }
+    ensures { λ r. ⌜ r ≡ roundedRoot whole rest ⌝ }
 {
     if rest <= whole { whole } else { whole + 1 }
 }
 
+// The root's pattern. Where rounding reaches 2 ^ 53, the sum carries into the exponent's field.
 pub fn root_bits(b: u64) -> u64
     ensures { λ r. ⌜ r ≡ rootBits b ⌝ }
 {
@@ -179,16 +196,27 @@ pub fn root_bits(b: u64) -> u64
     }
 }
 
+// The pattern of any value; to_bits takes no NaN.
+pub fn bits_of(x: f64) -> u64
+    ensures { λ r. ⌜ r ≡ toBits binary64 x ⌝ }
+{
+    if x != x { NAN } else { f64::to_bits(x) }
+}
+
+// The value of any pattern; from_bits takes no NaN's.
+pub fn value_of(b: u64) -> f64
+    ensures { λ r. ⌜ r ≡ ofBits binary64 b ⌝ }
+{
+    if b % SIGN > INFINITY {
+        0.0 / 0.0
+    } else {
+        f64::from_bits(b)
+    }
+}
+
+// The root of a value, by its pattern.
 pub fn root(x: f64) -> f64
     ensures { λ r. ⌜ r ≡ ieeeRoot binary64 x ⌝ }
 {
-    if x != x {
-        return x;
-    }
-    let r = root_bits(f64::to_bits(x));
-    if r == NAN {
-        0.0 / 0.0
-    } else {
-        f64::from_bits(r)
-    }
+    value_of(root_bits(bits_of(x)))
 }

@@ -1,11 +1,11 @@
 -- The exact test of a candidate by the squares of its halves, and the move by one. Assumes nothing.
-use mathlib.Core.Path.{_≡_, refl, sym, ap, _∙_, subst}
-use Prim.Native.Nat.{ℕ, zero, suc, _+_, _-_, _*_, _/_, _%_, _^_, _≤_, _<_}
+use mathlib.Core.Path.{_≡_, sym, ap, _∙_, subst}
+use Prim.Native.Nat.{ℕ, _+_, _-_, _*_, _/_, _%_, _^_, _≤_, _<_}
 use native.Mathlib.Nat.{mul-add, add-mul, mul-le-mul, mod-eq-of-lt}
 use native.Mathlib.Decide.{decLe}
 use native.Mathlib.Omega.{arith}
 use Rattle.root.proofs.Squares.{sq-next}
-use Rattle.root4.specs.Tests.{Nearest, Residue, Moved}
+use Rattle.root4.specs.Verified.{NearestWhole, Residual, Corrected}
 
 -- ---- a number of 53 digits in halves
 
@@ -73,10 +73,10 @@ module _ (d q h l e g z : ℕ) (v : Halves q h l) (ee : (e + h * h) % 2 ^ 64 ≡
       shifted2 : (e : ℕ) → e < 2 ^ 36 → e * 2 ^ 26 < 2 ^ 64
       shifted2 e a = omega arith
 
-  pub residue-law : e < 2 ^ 64 → g < 2 ^ 64 → Residue d q z (e / 2 ^ 37 + g / 2 ^ 36)
-  residue-law el gl = record {
+  pub residual-law : e < 2 ^ 64 → g < 2 ^ 64 → Residual d q z (e / 2 ^ 37 + g / 2 ^ 36)
+  residual-law el gl = record {
     is = λ n zl. put (first e g n) (second e g n) zl;
-    few = fewness e g el gl;
+    bound = bound-of e g el gl;
   }
     where
       first : (e g : ℕ) → e / 2 ^ 37 + g / 2 ^ 36 ≡ 0 → e < 2 ^ 37
@@ -85,18 +85,18 @@ module _ (d q h l e g z : ℕ) (v : Halves q h l) (ee : (e + h * h) % 2 ^ 64 ≡
       second : (e g : ℕ) → e / 2 ^ 37 + g / 2 ^ 36 ≡ 0 → g < 2 ^ 36
       second e g k = omega arith
 
-      fewness : (e g : ℕ) → e < 2 ^ 64 → g < 2 ^ 64 → e / 2 ^ 37 + g / 2 ^ 36 < 2 ^ 30
-      fewness e g a b = omega arith
+      bound-of : (e g : ℕ) → e < 2 ^ 64 → g < 2 ^ 64 → e / 2 ^ 37 + g / 2 ^ 36 < 2 ^ 30
+      bound-of e g a b = omega arith
 
 -- ---- moved by one
 
-near-more : (n q z : ℕ) → z + q * q ≡ n + 2 ^ 55 → 2 ^ 55 + q < z → z ≤ 2 ^ 55 + q * 3 + 2 → Nearest n (q + 1)
+near-more : (n q z : ℕ) → z + q * q ≡ n + 2 ^ 55 → 2 ^ 55 + q < z → z ≤ 2 ^ 55 + q * 3 + 2 → NearestWhole n (q + 1)
 near-more n q z e l h = record { low = omega (arith, sq-next q); high = omega (arith, sq-next q) }
 
-near-same : (n q z : ℕ) → z + q * q ≡ n + 2 ^ 55 → 2 ^ 55 < z + q → z ≤ 2 ^ 55 + q → Nearest n q
+near-same : (n q z : ℕ) → z + q * q ≡ n + 2 ^ 55 → 2 ^ 55 < z + q → z ≤ 2 ^ 55 + q → NearestWhole n q
 near-same n q z e l h = record { low = omega arith; high = omega arith }
 
-near-less : (n p z : ℕ) → z + (p + 1) * (p + 1) ≡ n + 2 ^ 55 → z + (p + 1) ≤ 2 ^ 55 → 2 ^ 55 + 2 < z + (p + 1) * 3 → Nearest n p
+near-less : (n p z : ℕ) → z + (p + 1) * (p + 1) ≡ n + 2 ^ 55 → z + (p + 1) ≤ 2 ^ 55 → 2 ^ 55 + 2 < z + (p + 1) * 3 → NearestWhole n p
 near-less n p z e l h = record { low = omega (arith, sq-next p); high = omega (arith, sq-next p) }
 
 -- the sign of each difference
@@ -151,12 +151,12 @@ moves-down q a b h k = omega (arith, bit-of b k)
 pub bits-of : (a : ℕ) → a < 2 ^ 64 → a / 2 ^ 62 ≤ 3
 bits-of a h = omega arith
 
-module _ (d q z n up down above below : ℕ) (r : Residue d q z n) (l : 2 ^ 52 ≤ q) (u : q < 2 ^ 53)
+module _ (d q z n up down above below : ℕ) (r : Residual d q z n) (l : 2 ^ 52 ≤ q) (u : q < 2 ^ 53)
     (upE : (up + z) % 2 ^ 64 ≡ q + 2 ^ 55) (upL : up < 2 ^ 64)
     (downE : (down + (2 ^ 55 + 1 - q)) % 2 ^ 64 ≡ z) (downL : down < 2 ^ 64)
     (aboveE : (above + z) % 2 ^ 64 ≡ q * 3 + (2 ^ 55 + 2)) (aboveL : above < 2 ^ 64)
     (belowE : (below + (2 ^ 55 + 3 - q * 3)) % 2 ^ 64 ≡ z) (belowL : below < 2 ^ 64) where
-  nearest-of : n + above / 2 ^ 63 + below / 2 ^ 62 ≡ 0 → Nearest (d * 2 ^ 52) (q + up / 2 ^ 63 - down / 2 ^ 63)
+  nearest-of : n + above / 2 ^ 63 + below / 2 ^ 62 ≡ 0 → NearestWhole (d * 2 ^ 52) (q + up / 2 ^ 63 - down / 2 ^ 63)
   nearest-of e = go (decLe z (2 ^ 55 + q)) (decLe (z + q) (2 ^ 55))
     where
       one-less : (q : ℕ) → 2 ^ 52 ≤ q → q - 1 + 1 ≡ q
@@ -207,35 +207,35 @@ module _ (d q z n up down above below : ℕ) (r : Residue d q z n) (l : 2 ^ 52 �
       not-under : (z q : ℕ) → (z + q ≤ 2 ^ 55 → ⊥) → 2 ^ 55 < z + q
       not-under z q k = omega arith
 
-      go : Dec (z ≤ 2 ^ 55 + q) → Dec (z + q ≤ 2 ^ 55) → Nearest (d * 2 ^ 52) (q + up / 2 ^ 63 - down / 2 ^ 63)
+      go : Dec (z ≤ 2 ^ 55 + q) → Dec (z + q ≤ 2 ^ 55) → NearestWhole (d * 2 ^ 52) (q + up / 2 ^ 63 - down / 2 ^ 63)
       go (no h) _ =
           let k = more z (2 ^ 55) q h in
-          subst (Nearest (d * 2 ^ 52))
+          subst (NearestWhole (d * 2 ^ 52))
           (by-one q (up / 2 ^ 63) (down / 2 ^ 63) 1 0 (q + 1) (up-one q z l u m up upE upL k) (down-none q z l u m down downE downL (apart z q k)) (first q))
           (near-more (d * 2 ^ 52) q z same k a)
       go (yes h) (no k) =
           let w = not-under z q k in
-          subst (Nearest (d * 2 ^ 52))
+          subst (NearestWhole (d * 2 ^ 52))
           (by-one q (up / 2 ^ 63) (down / 2 ^ 63) 0 0 q (up-none q z l u m up upE upL h) (down-none q z l u m down downE downL w) (second q))
           (near-same (d * 2 ^ 52) q z same w h)
       go (yes h) (yes k) =
           let p = one-less q l in
-          subst (Nearest (d * 2 ^ 52))
+          subst (NearestWhole (d * 2 ^ 52))
           (by-one q (up / 2 ^ 63) (down / 2 ^ 63) 0 1 (q - 1) (up-none q z l u m up upE upL h) (down-one q z l u m down downE downL k) (third q))
           (near-less (d * 2 ^ 52) (q - 1) z
           (subst (λ (x : ℕ). z + x * x ≡ d * 2 ^ 52 + 2 ^ 55) (sym p) same)
           (subst (λ (x : ℕ). z + x ≤ 2 ^ 55) (sym p) k)
           (subst (λ (x : ℕ). 2 ^ 55 + 2 < z + x * 3) (sym p) b))
 
-  pub moved-law : Moved d (q + up / 2 ^ 63 - down / 2 ^ 63) (n + above / 2 ^ 63 + below / 2 ^ 62)
-  moved-law = record {
+  pub corrected-law : Corrected d (q + up / 2 ^ 63 - down / 2 ^ 63) (n + above / 2 ^ 63 + below / 2 ^ 62)
+  corrected-law = record {
     near = nearest-of;
     most = fits q (up / 2 ^ 63) (down / 2 ^ 63) u (bit-of up upL);
-    few = few-of n (above / 2 ^ 63) (below / 2 ^ 62) (r .few) (bit-of above aboveL) (bits-of below belowL);
+    bound = bound-of n (above / 2 ^ 63) (below / 2 ^ 62) (r .bound) (bit-of above aboveL) (bits-of below belowL);
   }
     where
       fits : (q a b : ℕ) → q < 2 ^ 53 → a ≤ 1 → q + a - b ≤ 2 ^ 53
       fits q a b u k = omega arith
 
-      few-of : (n a b : ℕ) → n < 2 ^ 30 → a ≤ 1 → b ≤ 3 → n + a + b < 2 ^ 31
-      few-of n a b x y w = omega arith
+      bound-of : (n a b : ℕ) → n < 2 ^ 30 → a ≤ 1 → b ≤ 3 → n + a + b < 2 ^ 31
+      bound-of n a b x y w = omega arith

@@ -1,32 +1,32 @@
--- The calls of a step, one after the complement, leave in each lane what the machine works out. Assumes nothing.
-use mathlib.Core.Path.{_≡_, refl, sym, ap, _∙_, subst}
+-- The calls of a step, one after the other, leave in each lane what the machine works out. Assumes nothing.
+use mathlib.Core.Path.{_≡_, refl, sym, ap, _∙_}
+use mathlib.Core.Logic.{inr}
 use mathlib.Core.Bool.{Bool, cond, false}
 use mathlib.Core.List.{List}
-use Prim.Native.Nat.{ℕ, _+_, _-_, _*_, _≤_, _<_}
+use Prim.Native.Nat.{ℕ, _+_, _*_, _≤_, _<_}
 use native.Mathlib.Omega.{arith}
-use lib.Dec.{ltb}
 use lib.ListN.{length, getD}
 use lib.Ieee.{Float, neg}
-use Rattle.lanes.specs.Lists.{at, vec, fold, lane}
-use Rattle.machine.specs.Machine.{Problem, LaneData, Settings, State, Direction, cell, factor, forward, backward, primalResidual, dualResidual, uOf, vOf, fOf, dyOf, dxOf, direction, complement, largestRatio, moved, theta, stepLength, rowProduct}
-use Rattle.lanes.specs.Arithmetic.{_⊕_, _⊖_, _⊗_, _⊘_, √, Σ, norm, null, one, larger, smaller}
-use Rattle.machine.specs.Work.{stepBy}
-use Rattle.lanes.proofs.Lists.{vec-same, vec-at}
-use Rattle.machine.proofs.Factor.{fold-same}
+use Rattle.lanes.specs.Lists.{at, vec}
+use Rattle.lanes.specs.Arithmetic.{_⊖_, _⊗_, _⊘_, null, one, larger, smaller}
+use Rattle.lanes.specs.Constants.{dampingValue}
 use Rattle.lanes.specs.Region.{reg, Kept, Fills, Apart, before, after}
 use Rattle.lanes.specs.Lanes.{lanes}
-use Rattle.lanes.proofs.Regions.{reg-at, kept-apart}
+use Rattle.lanes.proofs.Lists.{vec-same}
+use Rattle.lanes.proofs.Regions.{kept-apart}
 use Rattle.lanes.proofs.Quads.{lane-of}
+use Rattle.machine.specs.Machine.{Problem, LaneData, Settings, standard, State, Direction, cell, factor, forward, backward, uOf, vOf, fOf, dyOf, dxOf, direction, complement, largestRatio, moved, theta, stepLength, rowProduct}
+use Rattle.machine.specs.Work.{stepBy}
+use Rattle.machine.proofs.Factor.{fold-same}
 use Rattle.sparse.specs.Sparse.{front, back}
-use Rattle.kernels.specs.Kernels.{uAt, dxAt, qAt, fAt, rAt}
-use Rattle.step.specs.Planned.{RowsOf, ColsOf, LowOf, HighOf, Holds}
-use Rattle.step.specs.Layout.{yAt, dyAt, rhsAt, wAt, dwAt, lAt, numbersAt, directionAt, Directed, Advanced, Took}
-use Rattle.step.proofs.ToMachine.{row-plus, row-less, col-plus, col-less, front-machine, back-machine}
+use Rattle.kernels.specs.Kernels.{uAt, dxAt, fAt}
+use Rattle.links.specs.Planned.{RowsOf, ColsOf, LowOf, HighOf, Holds}
+use Rattle.tests.specs.Layout.{yAt, dyAt, rhsAt, wAt, dwAt, lAt, numbersAt, directionAt}
+use Rattle.tests.proofs.ToMachine.{row-plus, col-plus, front-machine, back-machine}
+use Rattle.tests.proofs.Tests.{reg-front}
+use Rattle.step.specs.Steps.{numbersIn, directionIn, changes, Untouched, Still, RightSide, Changed, Directed, Advanced, Took}
 
--- the first of a region's entries
-pub reg-front : (ws : List Float) (o k n t e : ℕ) → e < k → k ≤ n → at (reg 4 ws o k t) e ≡ at (reg 4 ws o n t) e
-reg-front ws o k n t e h l = reg-at 4 ws o k t e h ∙ sym (reg-at 4 ws o n t e (omega arith))
-
+-- a shorter region of the same start
 other-front : (ws : List Float) (k n t : ℕ) (mu : Float) (p : List Float) (r dr : ℕ) → k ≤ n → complement k mu p (reg 4 ws r k t) (reg 4 ws dr k t) ≡ complement k mu p (reg 4 ws r n t) (reg 4 ws dr n t)
 unfolding complement
 other-front ws k n t mu p r dr l =
@@ -41,24 +41,33 @@ largestRatio-front ws k n t w dw r dr l =
 
 module _ (A : Problem) (H : Settings) (d : LaneData) (q : State) where
   module _ (toff rows places : List ℕ) (C : ColsOf A toff rows places) where
-    pub u-machine : (mu : Float) → vec (A .n) (uAt toff rows places (A .vals) (d .c) mu (q .x) (q .z) (q .y)) ≡ uOf A H d q mu
+    u-machine : (mu : Float) → vec (A .n) (uAt toff rows places (A .vals) (d .c) mu (q .x) (q .z) (q .y)) ≡ uOf A H d q mu
     unfolding uAt uOf
     u-machine mu = vec-same (A .n) _ _ (λ e h. rw (col-plus A toff rows places C e h (q .y)))
 
-    pub dx-machine : (mu : Float) (dy : List Float) → vec (A .n) (dxAt toff rows places (A .vals) (d .c) mu (q .x) (q .z) (q .y) dy) ≡ dxOf A H d q mu dy
+    dx-machine : (mu : Float) (dy : List Float) → vec (A .n) (dxAt toff rows places (A .vals) (d .c) mu (q .x) (q .z) (q .y) dy) ≡ dxOf A H d q mu dy
     unfolding dxAt dxOf
     dx-machine mu dy = vec-same (A .n) _ _ (λ e h. rw (col-plus A toff rows places C e h (q .y), col-plus A toff rows places C e h dy))
 
-  pub f-machine : RowsOf A → (mu : Float) → vec (A .m) (fAt (A .off) (A .cols) (A .vals) (A .s) (d .b) mu (q .x) (q .y) (uOf A H d q mu)) ≡ fOf A H d q mu
+  f-machine : RowsOf A → (mu : Float) → vec (A .m) (fAt (A .off) (A .cols) (A .vals) (A .s) (d .b) mu (q .x) (q .y) (uOf A H d q mu)) ≡ fOf A H d q mu
   unfolding fAt fOf vOf rowProduct
   f-machine R mu = vec-same (A .m) _ _ (λ i h. rw (row-plus A R i h (q .x), row-plus A R i h (uOf A H d q mu)))
 
-still : (p j : ℕ) {o k : ℕ} {old new : List Float} → Kept 4 o k old new → Apart p j o k → (t : ℕ) → t < 4 → reg 4 new p j t ≡ reg 4 old p j t
-still p j K a t b = kept-apart K a t b
+-- a region apart from the one that a call writes
+same : (p j : ℕ) {o k : ℕ} {old new : List Float} → Kept 4 o k old new → Apart p j o k → (t : ℕ) → t < 4 → reg 4 new p j t ≡ reg 4 old p j t
+same p j K a t b = kept-apart K a t b
 
--- ---- the seven calls that work a step out
-module _ (A : Problem) (H : Settings) (d : ℕ → LaneData) (mu : List Float) (toff rows places ptr ind tptr tind tmap : List ℕ) (E : ℕ)
-    (R : RowsOf A) (C : ColsOf A toff rows places) (P : LowOf A ptr ind) (T : HighOf A ptr ind tptr tind tmap) (slack : A .s ≤ A .m) where
+-- a call that writes a region below `top`
+pub untouched : {top o k : ℕ} {old new : List Float} → Kept 4 o k old new → o + k ≤ top → Untouched top old new
+untouched K h = record { size = K .size; beyond = λ j l. K .outside j (inr (omega arith)) }
+
+pub untouched-on : {top : ℕ} {a b c : List Float} → Untouched top a b → Untouched top b c → Untouched top a c
+untouched-on P Q = record { size = Q .size ∙ P .size; beyond = λ j l. Q .beyond j l ∙ P .beyond j l }
+
+pub untouched-wider : {top top′ : ℕ} {a b : List Float} → Untouched top a b → top ≤ top′ → Untouched top′ a b
+untouched-wider P h = record { size = P .size; beyond = λ j l. P .beyond j (omega arith) }
+
+module _ (A : Problem) where
   abbrev n : ℕ
   n = A .n
 
@@ -68,173 +77,201 @@ module _ (A : Problem) (H : Settings) (d : ℕ → LaneData) (mu : List Float) (
   abbrev s : ℕ
   s = A .s
 
-  abbrev nums : List Float → ℕ → State
-  nums = numbersAt m n s
+  nums-kept : (top : ℕ) {o k : ℕ} {old new : List Float} → Kept 4 o k old new → o + k ≤ top → Apart 0 n o k → Apart n n o k → Apart (yAt n) m o k → Apart (wAt n m) s o k
+      → Still A top old new
+  nums-kept top K h ax az ay aw = record {
+    frame = untouched K h;
+    kept = λ t b i. record { x = kept-apart K ax t b i; z = kept-apart K az t b i; y = kept-apart K ay t b i; w = kept-apart K aw t b i };
+  }
 
-  nums-kept : {o k : ℕ} {old new : List Float} → Kept 4 o k old new → Apart 0 n o k → Apart n n o k → Apart (yAt n) m o k → Apart (wAt n m) s o k → (t : ℕ) → t < 4
-      → nums new t ≡ nums old t
-  nums-kept K ax az ay aw t b = λ i. record { x = kept-apart K ax t b i; z = kept-apart K az t b i; y = kept-apart K ay t b i; w = kept-apart K aw t b i }
+  still-on : {top : ℕ} {a b c : List Float} → Still A top a b → Still A top b c → Still A top a c
+  still-on P Q = record { frame = untouched-on (P .frame) (Q .frame); kept = λ t b. Q .kept t b ∙ P .kept t b }
 
-  pub directed : {w0 w1 w2 w3 w4 w5 w6 w7 : List Float}
-      → Fills 4 (4 * n) n (λ t. vec n (uAt toff rows places (A .vals) (d t .c) (at mu t) (reg 4 w0 0 n t) (reg 4 w0 n n t) (reg 4 w0 (yAt n) m t))) w0 w1
-      → Fills 4 (rhsAt n m) m (λ t. vec m (fAt (A .off) (A .cols) (A .vals) s (d t .b) (at mu t) (reg 4 w1 0 n t) (reg 4 w1 (yAt n) m t) (reg 4 w1 (4 * n) n t))) w1 w2
-      → Kept 4 (lAt n m s) E w2 w3
-      → ((t : ℕ) → t < 4 → Holds A ptr ind (reg 4 w3 (lAt n m s) E t) (cell (factor A (nums w2 t))))
-      → Fills 4 (dyAt n m) m (λ t. back ptr tptr tind tmap (reg 4 w3 (lAt n m s) E t) m (front ptr ind m (reg 4 w3 (lAt n m s) E t) (reg 4 w3 (rhsAt n m) m t))) w3 w4
-      → Fills 4 (2 * n) n (λ t. vec n (dxAt toff rows places (A .vals) (d t .c) (at mu t) (reg 4 w4 0 n t) (reg 4 w4 n n t) (reg 4 w4 (yAt n) m t) (reg 4 w4 (dyAt n m) m t))) w4 w5
-      → Fills 4 (3 * n) n (λ t. complement n (at mu t) (reg 4 w5 n n t) (reg 4 w5 0 n t) (reg 4 w5 (2 * n) n t)) w5 w6
-      → Fills 4 (dwAt n m s) s (λ t. complement s (at mu t) (reg 4 w6 (wAt n m) s t) (reg 4 w6 (yAt n) s t) (reg 4 w6 (dyAt n m) s t)) w6 w7
-      → Directed A H d mu w0 w7
-  directed {w0} {w1} {w2} {w3} {w4} {w5} {w6} {w7} F1 F2 K3 L3 F4 F5 F6 F7 =
-      record {
-        size = F7 .kept .size ∙ F6 .kept .size ∙ F5 .kept .size ∙ F4 .kept .size ∙ K3 .size ∙ F2 .kept .size ∙ F1 .kept .size;
-        kept = λ t b. n7 t b ∙ n6 t b ∙ n5 t b ∙ n4 t b ∙ n3 t b ∙ n2 t b ∙ n1 t b;
-        worked = λ t b. unfold direction in λ i. record { dx = dx t b i; dz = dz t b i; dy = dy t b i; dw = dw t b i };
+  still-wider : {top top′ : ℕ} {a b : List Float} → Still A top a b → top ≤ top′ → Still A top′ a b
+  still-wider P h = record { frame = untouched-wider (P .frame) h; kept = P .kept }
+
+  module _ (H : Settings) (d : ℕ → LaneData) (mu : List Float) where
+    -- ---- the right-hand side: u, then f
+    module _ (toff rows places : List ℕ) (R : RowsOf A) (C : ColsOf A toff rows places) where
+      pub right-side : {w0 w1 w2 : List Float}
+          → Fills 4 (4 * n) n (λ t. vec n (uAt toff rows places (A .vals) (d t .c) (at mu t) (reg 4 w0 0 n t) (reg 4 w0 n n t) (reg 4 w0 (yAt n) m t))) w0 w1
+          → Fills 4 (rhsAt n m) m (λ t. vec m (fAt (A .off) (A .cols) (A .vals) s (d t .b) (at mu t) (reg 4 w1 0 n t) (reg 4 w1 (yAt n) m t) (reg 4 w1 (4 * n) n t))) w1 w2
+          → RightSide A H d mu w0 w2
+      right-side {w0} {w1} {w2} F1 F2 = record { still = still-on s1 s2; rhs = f }
+        where
+          s1 : Still A (lAt n m s) w0 w1
+          s1 = nums-kept (lAt n m s) (F1 .kept) (omega arith) (before (omega arith)) (before (omega arith)) (after (omega arith)) (after (omega arith))
+
+          s2 : Still A (lAt n m s) w1 w2
+          s2 = nums-kept (lAt n m s) (F2 .kept) (omega arith) (before (omega arith)) (before (omega arith)) (before (omega arith)) (after (omega arith))
+
+          u : (t : ℕ) → t < 4 → reg 4 w1 (4 * n) n t ≡ uOf A H (d t) (numbersIn A w0 t) (at mu t)
+          u t b = F1 .within t b ∙ u-machine A H (d t) (numbersIn A w0 t) toff rows places C (at mu t)
+
+          f : (t : ℕ) → t < 4 → reg 4 w2 (rhsAt n m) m t ≡ fOf A H (d t) (numbersIn A w0 t) (at mu t)
+          f t b =
+              F2 .within t b
+              ∙ ap (λ (q : State). vec m (fAt (A .off) (A .cols) (A .vals) s (d t .b) (at mu t) (q .x) (q .y) (reg 4 w1 (4 * n) n t))) (s1 .kept t b)
+              ∙ ap (λ (v : List Float). vec m (fAt (A .off) (A .cols) (A .vals) s (d t .b) (at mu t) (reg 4 w0 0 n t) (reg 4 w0 (yAt n) m t) v)) (u t b)
+              ∙ f-machine A H (d t) (numbersIn A w0 t) R (at mu t)
+
+    -- ---- dx, dz and dw of dy, and theta
+    module _ (toff rows places : List ℕ) (C : ColsOf A toff rows places) (slack : s ≤ m) where
+      pub changed : {w0 w1 w2 w3 r1 r2 r : List Float}
+          → Fills 4 (2 * n) n (λ t. vec n (dxAt toff rows places (A .vals) (d t .c) (at mu t) (reg 4 w0 0 n t) (reg 4 w0 n n t) (reg 4 w0 (yAt n) m t) (reg 4 w0 (dyAt n m) m t))) w0 w1
+          → Fills 4 (3 * n) n (λ t. complement n (at mu t) (reg 4 w1 n n t) (reg 4 w1 0 n t) (reg 4 w1 (2 * n) n t)) w1 w2
+          → Fills 4 (dwAt n m s) s (λ t. complement s (at mu t) (reg 4 w2 (wAt n m) s t) (reg 4 w2 (yAt n) s t) (reg 4 w2 (dyAt n m) s t)) w2 w3
+          → r1 ≡ lanes (λ t. largestRatio n (reg 4 w3 0 n t) (reg 4 w3 (2 * n) n t) (reg 4 w3 n n t) (reg 4 w3 (3 * n) n t))
+          → r2 ≡ lanes (λ t. largestRatio s (reg 4 w3 (wAt n m) s t) (reg 4 w3 (dwAt n m s) s t) (reg 4 w3 (yAt n) s t) (reg 4 w3 (dyAt n m) s t))
+          → r ≡ lanes (λ t. larger (at r1 t) (at r2 t)) → Changed A H d mu w0 w3 r
+      changed {w0} {w1} {w2} {w3} {r1} {r2} {r} F1 F2 F3 e1 e2 e = record {
+        still = still-on (still-on s1 s2) s3;
+        worked = λ t b i. record { dx = dx t b i; dz = dz t b i; dy = dy3 t b i; dw = dw t b i };
+        largest = ratio;
       }
-    where
-      n1 : (t : ℕ) → t < 4 → nums w1 t ≡ nums w0 t
-      n1 t b = nums-kept (F1 .kept) (before (omega arith)) (before (omega arith)) (after (omega arith)) (after (omega arith)) t b
+        where
+          s1 : Still A (lAt n m s) w0 w1
+          s1 = nums-kept (lAt n m s) (F1 .kept) (omega arith) (before (omega arith)) (before (omega arith)) (after (omega arith)) (after (omega arith))
 
-      n2 : (t : ℕ) → t < 4 → nums w2 t ≡ nums w1 t
-      n2 t b = nums-kept (F2 .kept) (before (omega arith)) (before (omega arith)) (before (omega arith)) (after (omega arith)) t b
+          s2 : Still A (lAt n m s) w1 w2
+          s2 = nums-kept (lAt n m s) (F2 .kept) (omega arith) (before (omega arith)) (before (omega arith)) (after (omega arith)) (after (omega arith))
 
-      n3 : (t : ℕ) → t < 4 → nums w3 t ≡ nums w2 t
-      n3 t b = nums-kept K3 (before (omega arith)) (before (omega arith)) (before (omega arith)) (before (omega arith)) t b
+          s3 : Still A (lAt n m s) w2 w3
+          s3 = nums-kept (lAt n m s) (F3 .kept) (omega arith) (before (omega arith)) (before (omega arith)) (before (omega arith)) (before (omega arith))
 
-      n4 : (t : ℕ) → t < 4 → nums w4 t ≡ nums w3 t
-      n4 t b = nums-kept (F4 .kept) (before (omega arith)) (before (omega arith)) (before (omega arith)) (after (omega arith)) t b
+          dy2 : (t : ℕ) → t < 4 → reg 4 w2 (dyAt n m) m t ≡ reg 4 w0 (dyAt n m) m t
+          dy2 t b = same (dyAt n m) m (F2 .kept) (after (omega arith)) t b ∙ same (dyAt n m) m (F1 .kept) (after (omega arith)) t b
 
-      n5 : (t : ℕ) → t < 4 → nums w5 t ≡ nums w4 t
-      n5 t b = nums-kept (F5 .kept) (before (omega arith)) (before (omega arith)) (after (omega arith)) (after (omega arith)) t b
+          dy3 : (t : ℕ) → t < 4 → reg 4 w3 (dyAt n m) m t ≡ reg 4 w0 (dyAt n m) m t
+          dy3 t b = same (dyAt n m) m (F3 .kept) (before (omega arith)) t b ∙ dy2 t b
 
-      n6 : (t : ℕ) → t < 4 → nums w6 t ≡ nums w5 t
-      n6 t b = nums-kept (F6 .kept) (before (omega arith)) (before (omega arith)) (after (omega arith)) (after (omega arith)) t b
+          dx1 : (t : ℕ) → t < 4 → reg 4 w1 (2 * n) n t ≡ dxOf A H (d t) (numbersIn A w0 t) (at mu t) (reg 4 w0 (dyAt n m) m t)
+          dx1 t b = F1 .within t b ∙ dx-machine A H (d t) (numbersIn A w0 t) toff rows places C (at mu t) (reg 4 w0 (dyAt n m) m t)
 
-      n7 : (t : ℕ) → t < 4 → nums w7 t ≡ nums w6 t
-      n7 t b = nums-kept (F7 .kept) (before (omega arith)) (before (omega arith)) (before (omega arith)) (before (omega arith)) t b
+          dx : (t : ℕ) → t < 4 → reg 4 w3 (2 * n) n t ≡ dxOf A H (d t) (numbersIn A w0 t) (at mu t) (reg 4 w0 (dyAt n m) m t)
+          dx t b = same (2 * n) n (F3 .kept) (before (omega arith)) t b ∙ same (2 * n) n (F2 .kept) (before (omega arith)) t b ∙ dx1 t b
 
-      u : (t : ℕ) → t < 4 → reg 4 w1 (4 * n) n t ≡ uOf A H (d t) (nums w0 t) (at mu t)
-      u t b = F1 .within t b ∙ u-machine A H (d t) (nums w0 t) toff rows places C (at mu t)
+          dz : (t : ℕ) → t < 4 → reg 4 w3 (3 * n) n t ≡ complement n (at mu t) (reg 4 w0 n n t) (reg 4 w0 0 n t) (dxOf A H (d t) (numbersIn A w0 t) (at mu t) (reg 4 w0 (dyAt n m) m t))
+          dz t b =
+              same (3 * n) n (F3 .kept) (before (omega arith)) t b
+              ∙ F2 .within t b
+              ∙ ap (λ (q : State). complement n (at mu t) (q .z) (q .x) (reg 4 w1 (2 * n) n t)) (s1 .kept t b)
+              ∙ ap (complement n (at mu t) (reg 4 w0 n n t) (reg 4 w0 0 n t)) (dx1 t b)
 
-      f : (t : ℕ) → t < 4 → reg 4 w3 (rhsAt n m) m t ≡ fOf A H (d t) (nums w0 t) (at mu t)
-      f t b =
-          still (rhsAt n m) m K3 (before (omega arith)) t b
-          ∙ F2 .within t b
-          ∙ ap (λ (q : State). vec m (fAt (A .off) (A .cols) (A .vals) s (d t .b) (at mu t) (q .x) (q .y) (reg 4 w1 (4 * n) n t))) (n1 t b)
-          ∙ ap (λ (v : List Float). vec m (fAt (A .off) (A .cols) (A .vals) s (d t .b) (at mu t) (reg 4 w0 0 n t) (reg 4 w0 (yAt n) m t) v)) (u t b)
-          ∙ f-machine A H (d t) (nums w0 t) R (at mu t)
+          dw : (t : ℕ) → t < 4 → reg 4 w3 (dwAt n m s) s t ≡ complement s (at mu t) (reg 4 w0 (wAt n m) s t) (reg 4 w0 (yAt n) m t) (reg 4 w0 (dyAt n m) m t)
+          dw t b =
+              F3 .within t b
+              ∙ other-front w2 s m t (at mu t) (reg 4 w2 (wAt n m) s t) (yAt n) (dyAt n m) slack
+              ∙ ap (λ (q : State). complement s (at mu t) (q .w) (q .y) (reg 4 w2 (dyAt n m) m t)) (s2 .kept t b ∙ s1 .kept t b)
+              ∙ ap (complement s (at mu t) (reg 4 w0 (wAt n m) s t) (reg 4 w0 (yAt n) m t)) (dy2 t b)
 
-      dy4 : (t : ℕ) → t < 4 → reg 4 w4 (dyAt n m) m t ≡ dyOf A H (d t) (nums w0 t) (at mu t)
-      dy4 t b =
-          F4 .within t b
-          ∙ back-machine A ptr ind P (reg 4 w3 (lAt n m s) E t) (cell (factor A (nums w2 t))) (L3 t b) tptr tind tmap T m (omega arith) (front ptr ind m (reg 4 w3 (lAt n m s) E t) (reg 4 w3 (rhsAt n m) m t))
-          ∙ ap (backward A (cell (factor A (nums w2 t))) m) (front-machine A ptr ind P (reg 4 w3 (lAt n m s) E t) (cell (factor A (nums w2 t))) (L3 t b) (reg 4 w3 (rhsAt n m) m t))
-          ∙ ap (λ (q : State). backward A (cell (factor A q)) m (forward A (cell (factor A q)) (reg 4 w3 (rhsAt n m) m t))) (n2 t b ∙ n1 t b)
-          ∙ ap (λ (v : List Float). backward A (cell (factor A (nums w0 t))) m (forward A (cell (factor A (nums w0 t))) v)) (f t b)
-          ∙ (unfold dyOf in refl)
+          ratio : (t : ℕ) → t < 4 → at r t ≡ theta A H (d t) (numbersIn A w3 t) (directionIn A w3 t)
+          ratio t b =
+              lane-of (λ t. larger (at r1 t) (at r2 t)) e t b
+              ∙ rw (
+                lane-of (λ t. largestRatio n (reg 4 w3 0 n t) (reg 4 w3 (2 * n) n t) (reg 4 w3 n n t) (reg 4 w3 (3 * n) n t)) e1 t b,
+                lane-of (λ t. largestRatio s (reg 4 w3 (wAt n m) s t) (reg 4 w3 (dwAt n m s) s t) (reg 4 w3 (yAt n) s t) (reg 4 w3 (dyAt n m) s t)) e2 t b,
+                largestRatio-front w3 s m t (reg 4 w3 (wAt n m) s t) (reg 4 w3 (dwAt n m s) s t) (yAt n) (dyAt n m) slack,
+              ) (unfold theta in refl)
 
-      dy6 : (t : ℕ) → t < 4 → reg 4 w6 (dyAt n m) m t ≡ dyOf A H (d t) (nums w0 t) (at mu t)
-      dy6 t b = still (dyAt n m) m (F6 .kept) (after (omega arith)) t b ∙ still (dyAt n m) m (F5 .kept) (after (omega arith)) t b ∙ dy4 t b
-
-      dy : (t : ℕ) → t < 4 → reg 4 w7 (dyAt n m) m t ≡ dyOf A H (d t) (nums w0 t) (at mu t)
-      dy t b = still (dyAt n m) m (F7 .kept) (before (omega arith)) t b ∙ dy6 t b
-
-      to4 : (t : ℕ) → t < 4 → nums w4 t ≡ nums w0 t
-      to4 t b = n4 t b ∙ n3 t b ∙ n2 t b ∙ n1 t b
-
-      dx5 : (t : ℕ) → t < 4 → reg 4 w5 (2 * n) n t ≡ dxOf A H (d t) (nums w0 t) (at mu t) (dyOf A H (d t) (nums w0 t) (at mu t))
-      dx5 t b =
-          F5 .within t b
-          ∙ ap (λ (q : State). vec n (dxAt toff rows places (A .vals) (d t .c) (at mu t) (q .x) (q .z) (q .y) (reg 4 w4 (dyAt n m) m t))) (to4 t b)
-          ∙ ap (λ (v : List Float). vec n (dxAt toff rows places (A .vals) (d t .c) (at mu t) (reg 4 w0 0 n t) (reg 4 w0 n n t) (reg 4 w0 (yAt n) m t) v)) (dy4 t b)
-          ∙ dx-machine A H (d t) (nums w0 t) toff rows places C (at mu t) (dyOf A H (d t) (nums w0 t) (at mu t))
-
-      dx : (t : ℕ) → t < 4 → reg 4 w7 (2 * n) n t ≡ dxOf A H (d t) (nums w0 t) (at mu t) (dyOf A H (d t) (nums w0 t) (at mu t))
-      dx t b = still (2 * n) n (F7 .kept) (before (omega arith)) t b ∙ still (2 * n) n (F6 .kept) (before (omega arith)) t b ∙ dx5 t b
-
-      dz : (t : ℕ) → t < 4 → reg 4 w7 (3 * n) n t ≡ complement n (at mu t) (reg 4 w0 n n t) (reg 4 w0 0 n t) (dxOf A H (d t) (nums w0 t) (at mu t) (dyOf A H (d t) (nums w0 t) (at mu t)))
-      dz t b =
-          still (3 * n) n (F7 .kept) (before (omega arith)) t b
-          ∙ F6 .within t b
-          ∙ ap (λ (q : State). complement n (at mu t) (q .z) (q .x) (reg 4 w5 (2 * n) n t)) (n5 t b ∙ to4 t b)
-          ∙ ap (complement n (at mu t) (reg 4 w0 n n t) (reg 4 w0 0 n t)) (dx5 t b)
-
-      dw : (t : ℕ) → t < 4 → reg 4 w7 (dwAt n m s) s t ≡ complement s (at mu t) (reg 4 w0 (wAt n m) s t) (reg 4 w0 (yAt n) m t) (dyOf A H (d t) (nums w0 t) (at mu t))
-      dw t b =
-          F7 .within t b
-          ∙ other-front w6 s m t (at mu t) (reg 4 w6 (wAt n m) s t) (yAt n) (dyAt n m) slack
-          ∙ ap (λ (q : State). complement s (at mu t) (q .w) (q .y) (reg 4 w6 (dyAt n m) m t)) (n6 t b ∙ n5 t b ∙ to4 t b)
-          ∙ ap (complement s (at mu t) (reg 4 w0 (wAt n m) s t) (reg 4 w0 (yAt n) m t)) (dy6 t b)
-
--- ---- the calls that move the numbers
-module _ (A : Problem) (H : Settings) (d : ℕ → LaneData) (done : List Bool) (slack : A .s ≤ A .m) where
-  abbrev ns : List Float → ℕ → State
-  ns = numbersAt (A .m) (A .n) (A .s)
-
-  abbrev cs : List Float → ℕ → Direction
-  cs = directionAt (A .m) (A .n) (A .s)
-
-  pub advanced : {w0 w1 w2 w3 w4 t1 t2 th g h : List Float}
-      → t1 ≡ lanes (λ t. largestRatio (A .n) (reg 4 w0 0 (A .n) t) (reg 4 w0 (2 * A .n) (A .n) t) (reg 4 w0 (A .n) (A .n) t) (reg 4 w0 (3 * A .n) (A .n) t))
-      → t2 ≡ lanes (λ t. largestRatio (A .s) (reg 4 w0 (wAt (A .n) (A .m)) (A .s) t) (reg 4 w0 (dwAt (A .n) (A .m) (A .s)) (A .s) t) (reg 4 w0 (yAt (A .n)) (A .s) t) (reg 4 w0 (dyAt (A .n) (A .m)) (A .s) t))
-      → th ≡ lanes (λ t. larger (at t1 t) (at t2 t)) → g ≡ lanes (λ t. smaller (H .damping ⊘ at th t) one) → h ≡ lanes (λ t. cond (getD done t false) null (at g t))
-      → Fills 4 0 (A .n) (λ t. moved (A .n) (at h t) (reg 4 w0 0 (A .n) t) (reg 4 w0 (2 * A .n) (A .n) t)) w0 w1
-      → Fills 4 (A .n) (A .n) (λ t. moved (A .n) (at h t) (reg 4 w1 (A .n) (A .n) t) (reg 4 w1 (3 * A .n) (A .n) t)) w1 w2
-      → Fills 4 (yAt (A .n)) (A .m) (λ t. moved (A .m) (at h t) (reg 4 w2 (yAt (A .n)) (A .m) t) (reg 4 w2 (dyAt (A .n) (A .m)) (A .m) t)) w2 w3
-      → Fills 4 (wAt (A .n) (A .m)) (A .s) (λ t. moved (A .s) (at h t) (reg 4 w3 (wAt (A .n) (A .m)) (A .s) t) (reg 4 w3 (dwAt (A .n) (A .m) (A .s)) (A .s) t)) w3 w4
-      → Advanced A H d done w0 w4
-  advanced {w0} {w1} {w2} {w3} {w4} {t1} {t2} {th} {g} {h} e1 e2 eh eg ek U1 U2 U3 U4 =
-      record {
-        size = U4 .kept .size ∙ U3 .kept .size ∙ U2 .kept .size ∙ U1 .kept .size;
-        moved = λ t b. all t b;
+    -- ---- the step worked out: the right-hand side, the factor, the two substitutions, the changes
+    module _ (ptr ind tptr tind tmap : List ℕ) (E : ℕ) (P : LowOf A ptr ind) (T : HighOf A ptr ind tptr tind tmap) where
+      pub directed : {w0 w1 w2 w3 w4 r : List Float}
+          → RightSide A H d mu w0 w1
+          → Kept 4 (lAt n m s) E w1 w2
+          → ((t : ℕ) → t < 4 → Holds A ptr ind (reg 4 w2 (lAt n m s) E t) (cell (factor A (numbersIn A w1 t))))
+          → Fills 4 (dyAt n m) m (λ t. back ptr tptr tind tmap (reg 4 w2 (lAt n m s) E t) m (front ptr ind m (reg 4 w2 (lAt n m s) E t) (reg 4 w2 (rhsAt n m) m t))) w2 w3
+          → Changed A H d mu w3 w4 r
+          → Directed A H d (lAt n m s + E) mu w0 w4 r
+      directed {w0} {w1} {w2} {w3} {w4} {r} F K L S X = record {
+        still = still-on (still-on (still-on (still-wider (F .still) (omega arith)) s2) s3) (still-wider (X .still) (omega arith));
+        worked = λ t b. X .worked t b ∙ along t b;
+        largest = X .largest;
       }
+        where
+          s2 : Still A (lAt n m s + E) w1 w2
+          s2 = nums-kept (lAt n m s + E) K (omega arith) (before (omega arith)) (before (omega arith)) (before (omega arith)) (before (omega arith))
+
+          s3 : Still A (lAt n m s + E) w2 w3
+          s3 = nums-kept (lAt n m s + E) (S .kept) (omega arith) (before (omega arith)) (before (omega arith)) (before (omega arith)) (after (omega arith))
+
+          f : (t : ℕ) → t < 4 → reg 4 w2 (rhsAt n m) m t ≡ fOf A H (d t) (numbersIn A w0 t) (at mu t)
+          f t b = same (rhsAt n m) m K (before (omega arith)) t b ∙ F .rhs t b
+
+          dy : (t : ℕ) → t < 4 → reg 4 w3 (dyAt n m) m t ≡ dyOf A H (d t) (numbersIn A w0 t) (at mu t)
+          dy t b =
+              S .within t b
+              ∙ back-machine A ptr ind P (reg 4 w2 (lAt n m s) E t) (cell (factor A (numbersIn A w1 t))) (L t b) tptr tind tmap T m (omega arith) (front ptr ind m (reg 4 w2 (lAt n m s) E t) (reg 4 w2 (rhsAt n m) m t))
+              ∙ ap (backward A (cell (factor A (numbersIn A w1 t))) m) (front-machine A ptr ind P (reg 4 w2 (lAt n m s) E t) (cell (factor A (numbersIn A w1 t))) (L t b) (reg 4 w2 (rhsAt n m) m t))
+              ∙ ap (λ (q : State). backward A (cell (factor A q)) m (forward A (cell (factor A q)) (reg 4 w2 (rhsAt n m) m t))) (F .still .kept t b)
+              ∙ ap (λ (v : List Float). backward A (cell (factor A (numbersIn A w0 t))) m (forward A (cell (factor A (numbersIn A w0 t))) v)) (f t b)
+              ∙ (unfold dyOf in refl)
+
+          along : (t : ℕ) → t < 4 → changes A H d t (numbersIn A w3 t) (at mu t) (reg 4 w3 (dyAt n m) m t) ≡ direction A H (d t) (numbersIn A w0 t) (at mu t)
+          along t b =
+              ap (λ (q : State). changes A H d t q (at mu t) (reg 4 w3 (dyAt n m) m t)) (s3 .kept t b ∙ s2 .kept t b ∙ F .still .kept t b)
+              ∙ ap (changes A H d t (numbersIn A w0 t) (at mu t)) (dy t b)
+              ∙ (unfold direction in refl)
+
+-- ---- the numbers moved
+module _ (m n s : ℕ) (done : List Bool) where
+  pub advanced : {w0 w1 w2 w3 w4 r g h : List Float}
+      → g ≡ lanes (λ t. smaller (dampingValue ⊘ at r t) one) → h ≡ lanes (λ t. cond (getD done t false) null (at g t))
+      → Fills 4 0 n (λ t. moved n (at h t) (reg 4 w0 0 n t) (reg 4 w0 (2 * n) n t)) w0 w1
+      → Fills 4 n n (λ t. moved n (at h t) (reg 4 w1 n n t) (reg 4 w1 (3 * n) n t)) w1 w2
+      → Fills 4 (yAt n) m (λ t. moved m (at h t) (reg 4 w2 (yAt n) m t) (reg 4 w2 (dyAt n m) m t)) w2 w3
+      → Fills 4 (wAt n m) s (λ t. moved s (at h t) (reg 4 w3 (wAt n m) s t) (reg 4 w3 (dwAt n m s) s t)) w3 w4
+      → Advanced m n s r done w0 w4
+  advanced {w0} {w1} {w2} {w3} {w4} {r} {g} {h} eg eh U1 U2 U3 U4 = record {
+    frame =
+        untouched-on (untouched (U1 .kept) (omega arith))
+        (untouched-on (untouched (U2 .kept) (omega arith)) (untouched-on (untouched (U3 .kept) (omega arith)) (untouched (U4 .kept) (omega arith))));
+    taken = λ t b. (λ i. record { x = ex t b i; z = ez t b i; y = ey t b i; w = ew t b i }) ∙ ap (by t) (hs t b);
+  }
     where
-      te : (t : ℕ) → t < 4 → at th t ≡ theta A H (d t) (ns w0 t) (cs w0 t)
-      te t b =
-          lane-of (λ t. larger (at t1 t) (at t2 t)) eh t b
-          ∙ rw (lane-of (λ t. largestRatio (A .n) (reg 4 w0 0 (A .n) t) (reg 4 w0 (2 * A .n) (A .n) t) (reg 4 w0 (A .n) (A .n) t) (reg 4 w0 (3 * A .n) (A .n) t)) e1 t b, lane-of (λ t. largestRatio (A .s) (reg 4 w0 (wAt (A .n) (A .m)) (A .s) t) (reg 4 w0 (dwAt (A .n) (A .m) (A .s)) (A .s) t) (reg 4 w0 (yAt (A .n)) (A .s) t) (reg 4 w0 (dyAt (A .n) (A .m)) (A .s) t)) e2 t b, largestRatio-front w0 (A .s) (A .m) t (reg 4 w0 (wAt (A .n) (A .m)) (A .s) t) (reg 4 w0 (dwAt (A .n) (A .m) (A .s)) (A .s) t) (yAt (A .n)) (dyAt (A .n) (A .m)) slack) (unfold theta in refl)
+      by : ℕ → Float → State
+      by t v = record { x = moved n v (reg 4 w0 0 n t) (reg 4 w0 (2 * n) n t); z = moved n v (reg 4 w0 n n t) (reg 4 w0 (3 * n) n t); y = moved m v (reg 4 w0 (yAt n) m t) (reg 4 w0 (dyAt n m) m t); w = moved s v (reg 4 w0 (wAt n m) s t) (reg 4 w0 (dwAt n m s) s t) }
 
-      ge : (t : ℕ) → t < 4 → at g t ≡ stepLength A H (d t) (ns w0 t) (cs w0 t)
-      ge t b = lane-of (λ t. smaller (H .damping ⊘ at th t) one) eg t b ∙ rw (te t b) (unfold stepLength in refl)
+      hs : (t : ℕ) → t < 4 → at h t ≡ cond (getD done t false) null (smaller (dampingValue ⊘ at r t) one)
+      hs t b = lane-of (λ t. cond (getD done t false) null (at g t)) eh t b ∙ rw (lane-of (λ t. smaller (dampingValue ⊘ at r t) one) eg t b)
 
-      hs : (t : ℕ) → t < 4 → at h t ≡ cond (getD done t false) null (stepLength A H (d t) (ns w0 t) (cs w0 t))
-      hs t b = lane-of (λ t. cond (getD done t false) null (at g t)) ek t b ∙ rw (ge t b)
+      ex : (t : ℕ) → t < 4 → reg 4 w4 0 n t ≡ moved n (at h t) (reg 4 w0 0 n t) (reg 4 w0 (2 * n) n t)
+      ex t b = same 0 n (U4 .kept) (before (omega arith)) t b ∙ same 0 n (U3 .kept) (before (omega arith)) t b ∙ same 0 n (U2 .kept) (before (omega arith)) t b ∙ U1 .within t b
 
-      ex : (t : ℕ) → t < 4 → reg 4 w4 0 (A .n) t ≡ moved (A .n) (at h t) (reg 4 w0 0 (A .n) t) (reg 4 w0 (2 * A .n) (A .n) t)
-      ex t b = still 0 (A .n) (U4 .kept) (before (omega arith)) t b ∙ still 0 (A .n) (U3 .kept) (before (omega arith)) t b ∙ still 0 (A .n) (U2 .kept) (before (omega arith)) t b ∙ U1 .within t b
-
-      ez : (t : ℕ) → t < 4 → reg 4 w4 (A .n) (A .n) t ≡ moved (A .n) (at h t) (reg 4 w0 (A .n) (A .n) t) (reg 4 w0 (3 * A .n) (A .n) t)
+      ez : (t : ℕ) → t < 4 → reg 4 w4 n n t ≡ moved n (at h t) (reg 4 w0 n n t) (reg 4 w0 (3 * n) n t)
       ez t b =
-          still (A .n) (A .n) (U4 .kept) (before (omega arith)) t b ∙ still (A .n) (A .n) (U3 .kept) (before (omega arith)) t b ∙ U2 .within t b
-          ∙ rw (still (A .n) (A .n) (U1 .kept) (after (omega arith)) t b, still (3 * A .n) (A .n) (U1 .kept) (after (omega arith)) t b)
+          same n n (U4 .kept) (before (omega arith)) t b ∙ same n n (U3 .kept) (before (omega arith)) t b ∙ U2 .within t b
+          ∙ rw (same n n (U1 .kept) (after (omega arith)) t b, same (3 * n) n (U1 .kept) (after (omega arith)) t b)
 
-      ey : (t : ℕ) → t < 4 → reg 4 w4 (yAt (A .n)) (A .m) t ≡ moved (A .m) (at h t) (reg 4 w0 (yAt (A .n)) (A .m) t) (reg 4 w0 (dyAt (A .n) (A .m)) (A .m) t)
+      ey : (t : ℕ) → t < 4 → reg 4 w4 (yAt n) m t ≡ moved m (at h t) (reg 4 w0 (yAt n) m t) (reg 4 w0 (dyAt n m) m t)
       ey t b =
-          still (yAt (A .n)) (A .m) (U4 .kept) (before (omega arith)) t b ∙ U3 .within t b
+          same (yAt n) m (U4 .kept) (before (omega arith)) t b ∙ U3 .within t b
           ∙ rw (
-            still (yAt (A .n)) (A .m) (U2 .kept) (after (omega arith)) t b ∙ still (yAt (A .n)) (A .m) (U1 .kept) (after (omega arith)) t b,
-            still (dyAt (A .n) (A .m)) (A .m) (U2 .kept) (after (omega arith)) t b ∙ still (dyAt (A .n) (A .m)) (A .m) (U1 .kept) (after (omega arith)) t b,
+            same (yAt n) m (U2 .kept) (after (omega arith)) t b ∙ same (yAt n) m (U1 .kept) (after (omega arith)) t b,
+            same (dyAt n m) m (U2 .kept) (after (omega arith)) t b ∙ same (dyAt n m) m (U1 .kept) (after (omega arith)) t b,
           )
 
-      ew : (t : ℕ) → t < 4 → reg 4 w4 (wAt (A .n) (A .m)) (A .s) t ≡ moved (A .s) (at h t) (reg 4 w0 (wAt (A .n) (A .m)) (A .s) t) (reg 4 w0 (dwAt (A .n) (A .m) (A .s)) (A .s) t)
+      ew : (t : ℕ) → t < 4 → reg 4 w4 (wAt n m) s t ≡ moved s (at h t) (reg 4 w0 (wAt n m) s t) (reg 4 w0 (dwAt n m s) s t)
       ew t b =
           U4 .within t b
           ∙ rw (
-            still (wAt (A .n) (A .m)) (A .s) (U3 .kept) (after (omega arith)) t b ∙ still (wAt (A .n) (A .m)) (A .s) (U2 .kept) (after (omega arith)) t b ∙ still (wAt (A .n) (A .m)) (A .s) (U1 .kept) (after (omega arith)) t b,
-            still (dwAt (A .n) (A .m) (A .s)) (A .s) (U3 .kept) (after (omega arith)) t b ∙ still (dwAt (A .n) (A .m) (A .s)) (A .s) (U2 .kept) (after (omega arith)) t b ∙ still (dwAt (A .n) (A .m) (A .s)) (A .s) (U1 .kept) (after (omega arith)) t b,
+            same (wAt n m) s (U3 .kept) (after (omega arith)) t b ∙ same (wAt n m) s (U2 .kept) (after (omega arith)) t b ∙ same (wAt n m) s (U1 .kept) (after (omega arith)) t b,
+            same (dwAt n m s) s (U3 .kept) (after (omega arith)) t b ∙ same (dwAt n m s) s (U2 .kept) (after (omega arith)) t b ∙ same (dwAt n m s) s (U1 .kept) (after (omega arith)) t b,
           )
 
-      all : (t : ℕ) → t < 4 → ns w4 t ≡ stepBy A (ns w0 t) (cond (getD done t false) null (stepLength A H (d t) (ns w0 t) (cs w0 t))) (cs w0 t)
-      all t b =
-          (λ i. record { x = ex t b i; z = ez t b i; y = ey t b i; w = ew t b i }) ∙ ap (λ (v : Float). stepBy A (ns w0 t) v (cs w0 t)) (hs t b)
+-- ---- the step: worked out, and taken
+module _ (A : Problem) (d : ℕ → LaneData) (mu : List Float) (done : List Bool) where
+  pub took : {top : ℕ} {a b c r : List Float} → Directed A standard d top mu a b r → Advanced (A .m) (A .n) (A .s) r done b c → lAt (A .n) (A .m) (A .s) ≤ top → Took A standard d top mu done a c
+  took {top} {a} {b} {c} {r} D N u = record { frame = untouched-on (D .still .frame) (untouched-wider (N .frame) u); taken = λ t z. N .taken t z ∙ ap (by t) (length-is t z) ∙ to t z }
+    where
+      by : ℕ → Float → State
+      by t v = stepBy A (numbersIn A b t) (cond (getD done t false) null v) (directionIn A b t)
 
-  -- the step: worked out, and taken
-  pub took : {mu a b c : List Float} → Directed A H d mu a b → Advanced A H d done b c → Took A H d mu done a c
-  took {mu} {a} {b} {c} D N =
-      record {
-        size = N .size ∙ D .size;
-        moved = λ t z.
-            N .moved t z
-            ∙ ap (λ (q : State). stepBy A q (cond (getD done t false) null (stepLength A H (d t) q (cs b t))) (cs b t)) (D .kept t z)
-            ∙ ap (λ (r : Direction). stepBy A (ns a t) (cond (getD done t false) null (stepLength A H (d t) (ns a t) r)) r) (D .worked t z);
-      }
+      length-is : (t : ℕ) → t < 4 → smaller (dampingValue ⊘ at r t) one ≡ stepLength A standard (d t) (numbersIn A b t) (directionIn A b t)
+      length-is t z = ap (λ (v : Float). smaller (dampingValue ⊘ v) one) (D .largest t z) ∙ (unfold stepLength in refl)
+
+      to : (t : ℕ) → t < 4 → by t (stepLength A standard (d t) (numbersIn A b t) (directionIn A b t))
+          ≡ stepBy A (numbersIn A a t) (cond (getD done t false) null (stepLength A standard (d t) (numbersIn A a t) (direction A standard (d t) (numbersIn A a t) (at mu t)))) (direction A standard (d t) (numbersIn A a t) (at mu t))
+      to t z =
+          ap (λ (q : State). stepBy A q (cond (getD done t false) null (stepLength A standard (d t) q (directionIn A b t))) (directionIn A b t)) (D .still .kept t z)
+          ∙ ap (λ (r : Direction). stepBy A (numbersIn A a t) (cond (getD done t false) null (stepLength A standard (d t) (numbersIn A a t) r)) r) (D .worked t z)

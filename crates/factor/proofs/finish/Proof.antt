@@ -1,51 +1,54 @@
-use mathlib.Core.Path.{_≡_, refl, sym, ap, _∙_}
-use mathlib.Core.Bool.{true, false}
-use Prim.Native.Nat.{ℕ, _+_, _-_, _*_, _≤_, _<_}
+use mathlib.Core.Path.{_∙_}
+use Prim.Native.Nat.{_+_}
 use native.Mathlib.Omega.{arith}
-use borrow.Author.Needs.{needs}
-use mathlib.Core.Logic.{inl, inr, ⊎-elim, _⊎_}
-use lib.ListN.{length, getD}
-use lib.Ieee.{Float, binary64, div}
+use lib.ListN.{getD}
+use lib.Ieee.{binary64, div}
 use Rattle.lanes.specs.Lists.{at}
-use Rattle.lanes.specs.Lanes.{cell as here}
-use Rattle.root.specs.Root.{root}
+use Rattle.lanes.specs.Lanes.{cell}
 use Rattle.lanes.specs.Arithmetic.{√, magnitude}
-use Rattle.ranks.specs.Kernel.{normalStep, productStep, Summed}
-use Rattle.factor.proofs.Sums.{summed-none, product-turn, normal-turn, summed-end, start-on, start-off, finish-on, finish-off}
+use Rattle.factor.proofs.Sums.{root-value, finish-on, finish-off}
 use Rattle.factor.proofs.finish.Statement.{statement}
 use Rattle.factor.proofs.finish.Tie as tie
-use Rattle.factor.proofs.finish.Reads as reads
-use Rattle.factor.proofs.finish.Lts as lts
-use Rattle.factor.proofs.root_magnitude4.Reads as root-magnitude4-reads
-use Rattle.lanes.proofs.div4.Reads as div4-reads
-use Rattle.lanes.proofs.get4.Reads as get4-reads
 
--- src/lib.rt:148:9
-root-magnitude4-requires : tie.Need-root-magnitude4-requires
-root-magnitude4-requires c κs = search needs
+abs4-requires : tie.Need-abs4-requires
+abs4-requires c κs = tt
 
--- src/lib.rt:148:9
+root4-requires : tie.Need-root4-requires
+root4-requires c κs = tt
+
 returns : tie.Need-returns
 returns c =
-    let s = c .before .before .before in
-    c .root-magnitude4 .ensures
-    ∙ finish-on (s .args .i) (s .args .j) (λ l. √ (magnitude (at (s .args .v) l))) (λ l. div binary64 (at (s .args .v) l) (here 4 (s .args .work .now) (s .args .d) l)) (c .before .if1 .taken)
+    let s = c .before .before .before .before .before in
+    root-value (s .args .v) (c .before .abs4 .ensures) (c .root4 .ensures)
+    ∙ finish-on (s .args .i) (s .args .j) (λ l. √ (magnitude (at (s .args .v) l))) (λ l. div binary64 (at (s .args .v) l) (cell 4 (s .args .work .now) (s .args .lo + getD (s .args .diag .now) (s .args .j) 0) l)) (c .before .before .if1 .taken)
 
--- src/lib.rt:150:9
+at-requires : tie.Need-at-requires
+at-requires c κs = c .before .before .before .pre .0
+
+add-get4 : tie.Need-add-get4
+add-get4 c = omega (arith, c .at .ensures, c .before .before .before .before .good .0, c .before .before .before .before .pre .1)
+
 get4-requires : tie.Need-get4-requires
-get4-requires c κs = search needs
+get4-requires c κs = omega (arith, c .at .ensures, c .before .before .before .before .pre .1)
 
--- src/lib.rt:151:5
 div4-requires : tie.Need-div4-requires
-div4-requires c κs = search needs
+div4-requires c κs = tt
 
--- src/lib.rt:143:1
 returns-2 : tie.Need-returns-2
 returns-2 c =
-    let s = c .before .before .before .before in
-    rw (c .div4 .ensures, c .before .get4 .ensures)
-    (finish-off (s .args .i) (s .args .j) (λ l. √ (magnitude (at (s .args .v) l))) (λ l. div binary64 (at (s .args .v) l) (here 4 (s .args .work .now) (s .args .d) l)) (c .before .before .if1 .left))
+    let s = c .before .before .before .before .before .before in
+    rw (c .div4 .ensures, c .before .get4 .ensures, c .before .before .at .ensures)
+    (finish-off (s .args .i) (s .args .j) (λ l. √ (magnitude (at (s .args .v) l))) (λ l. div binary64 (at (s .args .v) l) (cell 4 (s .args .work .now) (s .args .lo + getD (s .args .diag .now) (s .args .j) 0) l)) (c .before .before .before .if1 .left))
 
 pub finish-spec : {M : Type 1} → statement M
 finish-spec =
-    tie.close (tie.spec root-magnitude4-requires returns get4-requires div4-requires returns-2)
+    tie.close
+    (tie.spec
+    abs4-requires
+    root4-requires
+    returns
+    at-requires
+    add-get4
+    get4-requires
+    div4-requires
+    returns-2)

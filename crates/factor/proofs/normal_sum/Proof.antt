@@ -1,107 +1,83 @@
-use mathlib.Core.Path.{_≡_, refl, sym, ap, _∙_}
-use mathlib.Core.Bool.{true, false}
-use Prim.Native.Nat.{ℕ, _+_, _-_, _*_, _≤_, _<_}
+use Prim.Native.Nat.{_-_, _≤_}
 use native.Mathlib.Omega.{arith}
-use borrow.Author.Needs.{needs}
-use mathlib.Core.Logic.{inl, inr, ⊎-elim, _⊎_}
-use lib.ListN.{length, getD}
-use lib.Ieee.{Float, binary64, div}
-use Rattle.lanes.specs.Lists.{at}
-use Rattle.lanes.specs.Lanes.{cell as here}
-use Rattle.root.specs.Root.{root}
-use Rattle.lanes.specs.Arithmetic.{√, magnitude}
-use Rattle.ranks.specs.Kernel.{normalStep, productStep, Summed}
-use Rattle.factor.proofs.Sums.{summed-none, product-turn, normal-turn, summed-end, start-on, start-off, finish-on, finish-off}
+use Rattle.ranks.specs.Factoring.{normalStep, Summed}
+use Rattle.factor.proofs.Sums.{normal-here, summed-none, normal-turn, summed-end}
 use Rattle.factor.proofs.normal_sum.Statement.{statement}
 use Rattle.factor.proofs.normal_sum.Tie as tie
-use Rattle.factor.proofs.normal_sum.Reads as reads
-use Rattle.factor.proofs.normal_sum.Lts as lts
-use Rattle.factor.proofs.at.Reads as at-reads
-use Rattle.factor.proofs.normal_in.Reads as normal-in-reads
-use Rattle.lanes.proofs.get4.Reads as get4-reads
 
 abbrev Inv-loop : tie.InvT-loop
-Inv-loop work x z values left right indices from to acc₀ p₀ acc p = (from ≤ p) × (p ≤ to) × Summed (normalStep values left right indices work x z from) acc₀ from p acc
+Inv-loop work x z values ends left right columns e to acc₀ p₀ acc p = (p₀ ≤ p) × (p ≤ to) × Summed (normalStep values left right columns work x z p₀) acc₀ p₀ p acc
 
 abbrev μ-loop : tie.MeasureT-loop
-μ-loop work x z values left right indices from to acc₀ p₀ acc p = to - p
+μ-loop work x z values ends left right columns e to acc₀ p₀ acc p = to - p
 
--- src/lib.rt:87:5
-loop-holds : tie.Need-loop-holds Inv-loop μ-loop
-loop-holds c = (omega arith, omega (arith, c .before .before .before .before .before .pre .order), summed-none (normalStep (c .before .before .before .before .before .args .values .now) (c .before .before .before .before .before .args .left .now) (c .before .before .before .before .before .args .right .now) (c .before .before .before .before .before .args .indices .now) (c .before .before .before .before .before .args .work .now) (c .before .before .before .before .before .args .x) (c .before .before .before .before .before .args .z) (c .before .before .before .before .before .args .from)) (c .before .before .before .before .before .args .start) (c .before .before .before .before .before .args .from))
+add-at : tie.Need-add-at Inv-loop μ-loop
+add-at c = omega (arith, c .before .before .before .before .before .before .pre .0, c .before .before .before .before .before .before .good .1 .1 .1 .1 .0)
 
--- src/lib.rt:88:13
 at-requires : tie.Need-at-requires Inv-loop μ-loop
-at-requires c κs = omega (arith, c .before .before .before .before .before .before .before .pre .is-long)
+at-requires c κs = c .before .before .before .before .before .before .pre .0
 
--- src/lib.rt:89:13
 at-requires-2 : tie.Need-at-requires-2 Inv-loop μ-loop
-at-requires-2 c κs = omega (arith, c .before .before .before .before .before .before .before .before .pre .js-long)
+at-requires-2 c κs = omega (arith, c .before .before .before .before .before .before .before .pre .0)
 
--- src/lib.rt:90:13
+loop-holds : tie.Need-loop-holds Inv-loop μ-loop
+loop-holds c = (omega arith, (normal-here (c .at2 .ensures) (c .before .at .ensures) (c .before .before .before .before .before .before .before .before .pre .1)) .order, summed-none _ (c .before .before .before .before .before .before .before .before .args .start) _)
+
 at-requires-3 : tie.Need-at-requires-3 Inv-loop μ-loop
-at-requires-3 c κs = omega (arith, c .before .before .before .before .before .before .before .before .before .pre .es-long)
+at-requires-3 c κs = omega (arith, (normal-here (c .before .before .at2 .ensures) (c .before .before .before .at .ensures) (c .before .before .before .before .before .before .before .before .before .before .pre .1)) .left-long, c .loop-test .taken)
 
--- src/lib.rt:91:29
+at-requires-4 : tie.Need-at-requires-4 Inv-loop μ-loop
+at-requires-4 c κs = omega (arith, (normal-here (c .before .before .before .at2 .ensures) (c .before .before .before .before .at .ensures) (c .before .before .before .before .before .before .before .before .before .before .before .pre .1)) .right-long, c .before .loop-test .taken)
+
+at-requires-5 : tie.Need-at-requires-5 Inv-loop μ-loop
+at-requires-5 c κs = omega (arith, (normal-here (c .before .before .before .before .at2 .ensures) (c .before .before .before .before .before .at .ensures) (c .before .before .before .before .before .before .before .before .before .before .before .before .pre .1)) .cols-long, c .before .before .loop-test .taken)
+
 add-get4 : tie.Need-add-get4 Inv-loop μ-loop
-add-get4 c = omega (arith, c .at3 .ensures, c .before .before .before .before .before .before .before .before .before .before .pre .x-in (c .before .before .before .before .loop .p) (c .before .before .before .before .loop .inv .0) (c .before .before .before .loop-test .taken))
+add-get4 c = omega (arith, c .at5 .ensures, c .before .before .before .before .before .before .before .before .before .before .before .before .before .good .0, (normal-here (c .before .before .before .before .before .at2 .ensures) (c .before .before .before .before .before .before .at .ensures) (c .before .before .before .before .before .before .before .before .before .before .before .before .before .pre .1)) .x-in (c .before .before .before .before .loop .p) (c .before .before .before .before .loop .inv .0) (c .before .before .before .loop-test .taken))
 
--- src/lib.rt:91:13
 get4-requires : tie.Need-get4-requires Inv-loop μ-loop
-get4-requires c κs = omega (arith, c .at3 .ensures, c .before .before .before .before .before .before .before .before .before .before .pre .x-in (c .before .before .before .before .loop .p) (c .before .before .before .before .loop .inv .0) (c .before .before .before .loop-test .taken))
+get4-requires c κs = omega (arith, c .at5 .ensures, (normal-here (c .before .before .before .before .before .at2 .ensures) (c .before .before .before .before .before .before .at .ensures) (c .before .before .before .before .before .before .before .before .before .before .before .before .before .pre .1)) .x-in (c .before .before .before .before .loop .p) (c .before .before .before .before .loop .inv .0) (c .before .before .before .loop-test .taken))
 
--- src/lib.rt:92:29
 add-get4-2 : tie.Need-add-get4-2 Inv-loop μ-loop
-add-get4-2 c = omega (arith, c .before .at3 .ensures, c .before .before .before .before .before .before .before .before .before .before .before .pre .z-in (c .before .before .before .before .before .loop .p) (c .before .before .before .before .before .loop .inv .0) (c .before .before .before .before .loop-test .taken))
+add-get4-2 c = omega (arith, c .before .at5 .ensures, c .before .before .before .before .before .before .before .before .before .before .before .before .before .before .good .0, (normal-here (c .before .before .before .before .before .before .at2 .ensures) (c .before .before .before .before .before .before .before .at .ensures) (c .before .before .before .before .before .before .before .before .before .before .before .before .before .before .pre .1)) .z-in (c .before .before .before .before .before .loop .p) (c .before .before .before .before .before .loop .inv .0) (c .before .before .before .before .loop-test .taken))
 
--- src/lib.rt:92:13
 get4-requires-2 : tie.Need-get4-requires-2 Inv-loop μ-loop
-get4-requires-2 c κs = omega (arith, c .before .at3 .ensures, c .before .before .before .before .before .before .before .before .before .before .before .pre .z-in (c .before .before .before .before .before .loop .p) (c .before .before .before .before .before .loop .inv .0) (c .before .before .before .before .loop-test .taken))
+get4-requires-2 c κs = omega (arith, c .before .at5 .ensures, (normal-here (c .before .before .before .before .before .before .at2 .ensures) (c .before .before .before .before .before .before .before .at .ensures) (c .before .before .before .before .before .before .before .before .before .before .before .before .before .before .pre .1)) .z-in (c .before .before .before .before .before .loop .p) (c .before .before .before .before .before .loop .inv .0) (c .before .before .before .before .loop-test .taken))
 
--- src/lib.rt:93:32
 mul-normal-in : tie.Need-mul-normal-in Inv-loop μ-loop
-mul-normal-in c = omega (arith, c .before .before .before .before .at .ensures, c .before .before .before .before .before .before .before .before .before .before .before .before .pre .is-in (c .before .before .before .before .before .before .loop .p) (c .before .before .before .before .before .before .loop .inv .0) (c .before .before .before .before .before .loop-test .taken))
+mul-normal-in c = omega (arith, c .before .before .before .before .at3 .ensures, c .before .before .before .before .before .before .before .before .before .before .before .before .before .before .before .good .1 .1 .1 .0, (normal-here (c .before .before .before .before .before .before .before .at2 .ensures) (c .before .before .before .before .before .before .before .before .at .ensures) (c .before .before .before .before .before .before .before .before .before .before .before .before .before .before .before .pre .1)) .left-in (c .before .before .before .before .before .before .loop .p) (c .before .before .before .before .before .before .loop .inv .0) (c .before .before .before .before .before .loop-test .taken))
 
--- src/lib.rt:93:32
 shared-slice-read-normal-in : tie.Need-shared-slice-read-normal-in Inv-loop μ-loop
-shared-slice-read-normal-in c = omega (arith, c .before .before .before .before .before .at .ensures, c .before .before .before .before .before .before .before .before .before .before .before .before .before .pre .is-in (c .before .before .before .before .before .before .before .loop .p) (c .before .before .before .before .before .before .before .loop .inv .0) (c .before .before .before .before .before .before .loop-test .taken))
+shared-slice-read-normal-in c = omega (arith, c .before .before .before .before .before .at3 .ensures, (normal-here (c .before .before .before .before .before .before .before .before .at2 .ensures) (c .before .before .before .before .before .before .before .before .before .at .ensures) (c .before .before .before .before .before .before .before .before .before .before .before .before .before .before .before .before .pre .1)) .left-in (c .before .before .before .before .before .before .before .loop .p) (c .before .before .before .before .before .before .before .loop .inv .0) (c .before .before .before .before .before .before .loop-test .taken))
 
--- src/lib.rt:93:43
 mul-normal-in-2 : tie.Need-mul-normal-in-2 Inv-loop μ-loop
-mul-normal-in-2 c = omega (arith, c .before .before .before .before .at2 .ensures, c .before .before .before .before .before .before .before .before .before .before .before .before .before .pre .js-in (c .before .before .before .before .before .before .before .loop .p) (c .before .before .before .before .before .before .before .loop .inv .0) (c .before .before .before .before .before .before .loop-test .taken))
+mul-normal-in-2 c = omega (arith, c .before .before .before .before .at4 .ensures, c .before .before .before .before .before .before .before .before .before .before .before .before .before .before .before .before .good .1 .1 .1 .0, (normal-here (c .before .before .before .before .before .before .before .before .at2 .ensures) (c .before .before .before .before .before .before .before .before .before .at .ensures) (c .before .before .before .before .before .before .before .before .before .before .before .before .before .before .before .before .pre .1)) .right-in (c .before .before .before .before .before .before .before .loop .p) (c .before .before .before .before .before .before .before .loop .inv .0) (c .before .before .before .before .before .before .loop-test .taken))
 
--- src/lib.rt:93:43
 shared-slice-read-normal-in-2 : tie.Need-shared-slice-read-normal-in-2 Inv-loop μ-loop
-shared-slice-read-normal-in-2 c = omega (arith, c .before .before .before .before .before .at2 .ensures, c .before .before .before .before .before .before .before .before .before .before .before .before .before .before .pre .js-in (c .before .before .before .before .before .before .before .before .loop .p) (c .before .before .before .before .before .before .before .before .loop .inv .0) (c .before .before .before .before .before .before .before .loop-test .taken))
+shared-slice-read-normal-in-2 c = omega (arith, c .before .before .before .before .before .at4 .ensures, (normal-here (c .before .before .before .before .before .before .before .before .before .at2 .ensures) (c .before .before .before .before .before .before .before .before .before .before .at .ensures) (c .before .before .before .before .before .before .before .before .before .before .before .before .before .before .before .before .before .pre .1)) .right-in (c .before .before .before .before .before .before .before .before .loop .p) (c .before .before .before .before .before .before .before .before .loop .inv .0) (c .before .before .before .before .before .before .before .loop-test .taken))
 
--- src/lib.rt:93:13
 normal-in-requires : tie.Need-normal-in-requires Inv-loop μ-loop
 normal-in-requires c κs = tt
 
--- src/lib.rt:95:9
 add-p : tie.Need-add-p Inv-loop μ-loop
-add-p c = omega arith
+add-p c = omega (arith, c .before .before .before .before .before .before .before .before .loop-test .taken)
 
--- src/lib.rt:87:5
 loop-less : tie.Need-loop-less Inv-loop μ-loop
-loop-less c = omega arith
+loop-less c = omega (arith, c .before .before .before .before .before .before .before .before .loop-test .taken)
 
--- src/lib.rt:87:5
 loop-again : tie.Need-loop-again Inv-loop μ-loop
 loop-again c =
-    let s = c .before .before .before .before .before .before .before .before .before .before .before .before .before .before .before in
+    let s = c .before .before .before .before .before .before .before .before .before .before .before .before .before .before .before .before .before .before in
     let r = c .before .before .before .before .before .before .before .before .before in (
       omega (arith, r .loop .inv .0),
       omega (arith, c .before .before .before .before .before .before .before .before .loop-test .taken),
-      normal-turn (r .loop .acc) (s .args .values .now) (s .args .left .now) (s .args .right .now) (s .args .indices .now) (s .args .work .now) (s .args .x) (s .args .z) (s .args .from) (r .loop .p) (c .before .before .before .before .before .before .before .at .result) (c .before .before .before .before .before .before .at2 .result) (c .before .before .before .before .before .at3 .result) (s .args .start) (r .loop .inv .0) (r .loop .inv .2)
-          (c .before .before .before .before .before .before .before .at .ensures) (c .before .before .before .before .before .before .at2 .ensures) (c .before .before .before .before .before .at3 .ensures) (c .before .before .before .before .get4 .ensures) (c .before .before .before .get42 .ensures) (c .normal-in .ensures),
+      normal-turn (r .loop .acc) (s .args .values .now) (s .args .left .now) (s .args .right .now) (s .args .columns .now) (s .args .work .now) (s .args .x) (s .args .z) (c .before .before .before .before .before .before .before .before .before .before .at2 .result) (r .loop .p) (c .before .before .before .before .before .before .before .at3 .result) (c .before .before .before .before .before .before .at4 .result) (c .before .before .before .before .before .at5 .result) (s .args .start) (r .loop .inv .0) (r .loop .inv .2) (c .before .before .before .before .before .before .before .at3 .ensures) (c .before .before .before .before .before .before .at4 .ensures) (c .before .before .before .before .before .at5 .ensures) (c .before .before .before .before .get4 .ensures) (c .before .before .before .get42 .ensures) (c .normal-in .ensures),
     )
 
--- src/lib.rt:70:1
 returns : tie.Need-returns Inv-loop μ-loop
 returns c =
-    let s = c .before .before .before .before .before .before .before in
-    summed-end (normalStep (s .args .values .now) (s .args .left .now) (s .args .right .now) (s .args .indices .now) (s .args .work .now) (s .args .x) (s .args .z) (s .args .from)) (s .args .start) (c .before .loop .acc) (s .args .from) (c .before .loop .p) (s .args .to) (omega arith) (c .before .loop .inv .2)
+    let s = c .before .before .before .before .before .before .before .before .before .before in
+    summed-end (normalStep (s .args .values .now) (s .args .left .now) (s .args .right .now) (s .args .columns .now) (s .args .work .now) (s .args .x) (s .args .z)) (s .args .start) (c .before .loop .acc) (c .before .before .at2 .ensures) (c .before .before .before .at .ensures) (omega (arith, c .before .loop .inv .1, c .loop-test .left)) (c .before .loop .inv .2)
 
 pub normal-sum-spec : {M : Type 1} → statement M
 normal-sum-spec =
@@ -109,10 +85,13 @@ normal-sum-spec =
     (tie.spec
     Inv-loop
     μ-loop
-    loop-holds
+    add-at
     at-requires
     at-requires-2
+    loop-holds
     at-requires-3
+    at-requires-4
+    at-requires-5
     add-get4
     get4-requires
     add-get4-2

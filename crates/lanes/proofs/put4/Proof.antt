@@ -5,78 +5,58 @@ use Rattle.lanes.proofs.Quads.{put-four}
 use borrow.Author.Needs.{needs}
 use Rattle.lanes.proofs.put4.Statement.{statement}
 use Rattle.lanes.proofs.put4.Tie as tie
-use Rattle.lanes.proofs.put4.Reads as reads
-use Rattle.lanes.proofs.put4.Lts as lts
 
--- src/lib.rt:76:13
 mul-p : tie.Need-mul-p
 mul-p c = search needs
 
--- src/lib.rt:77:15
 array-read-work : tie.Need-array-read-work
 array-read-work c = search needs
 
--- src/lib.rt:77:5
 mul-work : tie.Need-mul-work
 mul-work c = search needs
 
--- src/lib.rt:77:5
 slice-write-work : tie.Need-slice-write-work
 slice-write-work c = search needs
 
--- src/lib.rt:78:19
 array-read-work-2 : tie.Need-array-read-work-2
 array-read-work-2 c = search needs
 
--- src/lib.rt:78:10
 add-work : tie.Need-add-work
 add-work c = search needs
 
--- src/lib.rt:78:5
 mul-work-2 : tie.Need-mul-work-2
 mul-work-2 c = search needs
 
--- src/lib.rt:78:5
 slice-write-work-2 : tie.Need-slice-write-work-2
 slice-write-work-2 c = simp length-set (omega arith)
 
--- src/lib.rt:79:19
 array-read-work-3 : tie.Need-array-read-work-3
 array-read-work-3 c = search needs
 
--- src/lib.rt:79:10
 add-work-2 : tie.Need-add-work-2
 add-work-2 c = search needs
 
--- src/lib.rt:79:5
 mul-work-3 : tie.Need-mul-work-3
 mul-work-3 c = search needs
 
--- src/lib.rt:79:5
 slice-write-work-3 : tie.Need-slice-write-work-3
 slice-write-work-3 c = simp length-set (omega arith)
 
--- src/lib.rt:80:19
 array-read-work-4 : tie.Need-array-read-work-4
 array-read-work-4 c = search needs
 
--- src/lib.rt:80:10
 add-work-3 : tie.Need-add-work-3
 add-work-3 c = search needs
 
--- src/lib.rt:80:5
 mul-work-4 : tie.Need-mul-work-4
 mul-work-4 c = search needs
 
--- src/lib.rt:80:5
 slice-write-work-4 : tie.Need-slice-write-work-4
 slice-write-work-4 c = simp length-set (omega arith)
 
--- src/lib.rt:72:1
 same-length : tie.Need-same-length
 same-length c = search needs
 
--- src/lib.rt:72:1
 returns : tie.Need-returns
 returns c = sym (put-four (c .args .work .now) (c .args .at) (c .args .t3))
 

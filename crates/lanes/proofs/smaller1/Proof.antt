@@ -1,15 +1,11 @@
 use Rattle.lanes.specs.Arithmetic.{smaller}
 use Rattle.lanes.proofs.smaller1.Statement.{statement}
 use Rattle.lanes.proofs.smaller1.Tie as tie
-use Rattle.lanes.proofs.smaller1.Reads as reads
-use Rattle.lanes.proofs.smaller1.Lts as lts
 
--- src/lib.rt:46:1
 returns : tie.Need-returns
 unfolding smaller
 returns c = simp (c .if1 .taken)
 
--- src/lib.rt:46:1
 returns-2 : tie.Need-returns-2
 unfolding smaller
 returns-2 c = simp (c .if1 .left)

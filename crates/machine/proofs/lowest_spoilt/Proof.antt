@@ -1,5 +1,5 @@
-use mathlib.Core.Path.{_≡_, refl, sym, ap, _∙_, subst}
-use mathlib.Core.Bool.{Bool, true, false, not}
+use mathlib.Core.Path.{_≡_, sym, _∙_, subst}
+use mathlib.Core.Bool.{false}
 use Prim.Native.Nat.{ℕ, suc, _≤_, _<_, _-_, _+_}
 use native.Mathlib.Omega.{arith}
 use native.Mathlib.Nat.{eq-or-lt-of-le}
@@ -8,13 +8,10 @@ use mathlib.Core.List.{List}
 use lib.ListN.{getD}
 use borrow.Author.Needs.{needs}
 use Rattle.machine.specs.Machine.{Status, spoilt}
-use Rattle.machine.specs.Outcome.{isSpoilt, isDone}
+use Rattle.machine.specs.Outcome.{isSpoilt}
 use Rattle.lanes.proofs.Lists.{first-at, first-all}
 use Rattle.machine.proofs.lowest_spoilt.Statement.{statement}
 use Rattle.machine.proofs.lowest_spoilt.Tie as tie
-use Rattle.machine.proofs.lowest_spoilt.Reads as reads
-use Rattle.machine.proofs.lowest_spoilt.Lts as lts
-use Rattle.machine.proofs.is_spoilt.Reads as is-spoilt-reads
 
 one-more : (v : List Status) (l : ℕ) → ((j : ℕ) → j < l → isSpoilt (getD v j spoilt) ≡ false) → isSpoilt (getD v l spoilt) ≡ false → (j : ℕ) → j < l + 1 → isSpoilt (getD v j spoilt) ≡ false
 one-more v l h e j b = go (eq-or-lt-of-le b)
@@ -29,39 +26,30 @@ Inv-loop statuses l₀ l = (l ≤ 4) × ((j : ℕ) → j < l → isSpoilt (getD 
 abbrev μ-loop : tie.MeasureT-loop
 μ-loop statuses l₀ l = 4 - l
 
--- src/lib.rt:52:5
 loop-holds : tie.Need-loop-holds Inv-loop μ-loop
 loop-holds c = (omega arith, λ j h. absurd (omega arith))
 
--- src/lib.rt:53:17
 mul-t : tie.Need-mul-t Inv-loop μ-loop
 mul-t c = search needs
 
--- src/lib.rt:53:17
 array-copy-out-t : tie.Need-array-copy-out-t Inv-loop μ-loop
 array-copy-out-t c = search needs
 
--- src/lib.rt:54:12
 is-spoilt-requires : tie.Need-is-spoilt-requires Inv-loop μ-loop
 is-spoilt-requires c κs = search needs
 
--- src/lib.rt:55:13
 returns : tie.Need-returns Inv-loop μ-loop
 returns c = sym (first-at (λ j. isSpoilt (getD (c .before .before .before .before .before .args .t1) j spoilt)) 4 (c .before .before .before .before .loop .l) (omega arith) (sym (c .before .is-spoilt .ensures) ∙ c .if1 .taken) (c .before .before .before .before .loop .inv .1))
 
--- src/lib.rt:57:9
 add-l : tie.Need-add-l Inv-loop μ-loop
 add-l c = search needs
 
--- src/lib.rt:52:5
 loop-less : tie.Need-loop-less Inv-loop μ-loop
 loop-less c = search needs
 
--- src/lib.rt:52:5
 loop-again : tie.Need-loop-again Inv-loop μ-loop
 loop-again c = (omega arith, one-more (c .before .before .before .before .before .args .t1) (c .before .before .before .before .loop .l) (c .before .before .before .before .loop .inv .1) (sym (c .before .is-spoilt .ensures) ∙ c .if1 .left))
 
--- src/lib.rt:48:1
 returns-2 : tie.Need-returns-2 Inv-loop μ-loop
 returns-2 c = sym (first-all (λ j. isSpoilt (getD (c .before .before .args .t1) j spoilt)) 4 (λ j h. c .before .loop .inv .1 j (omega arith)))
 

@@ -1,90 +1,69 @@
+-- `root::digits` meets its contract. Assumes nothing.
 use native.Mathlib.Omega.{arith}
 use Prim.Native.Nat.{_*_, _/_, _%_, _^_}
 use Rattle.root.proofs.Divided.{Divided, divided, kept, room, lowered}
 use borrow.Author.Needs.{needs}
 use Rattle.root.proofs.digits.Statement.{statement}
 use Rattle.root.proofs.digits.Tie as tie
-use Rattle.root.proofs.digits.Reads as reads
-use Rattle.root.proofs.digits.Lts as lts
-use Rattle.root.proofs.first_digits.Reads as first-digits-reads
 
 facts : (c : tie.After-first-digits)
     → let w = c .first-digits .result .whole in let r = c .first-digits .result .rest in Divided (c .before .args .digits) w r (r * 2 ^ 26 / (w * 2)) (r * 2 ^ 26 % (w * 2))
 facts c = divided _ _ _ (c .first-digits .ensures) (c .before .pre .0) (c .before .pre .1)
 
--- src/lib.rt:142:9
 first-digits-requires : tie.Need-first-digits-requires
 first-digits-requires c κs = search needs
 
--- src/lib.rt:143:16
 mul-more : tie.Need-mul-more
 mul-more c = omega (arith, facts (c .before))
 
--- src/lib.rt:144:17
 mul-twice : tie.Need-mul-twice
 mul-twice c = omega (arith, facts (c .before .before))
 
--- src/lib.rt:145:16
 div-next : tie.Need-div-next
 div-next c = omega (arith, facts (c .before .before))
 
--- src/lib.rt:146:16
 rem-left : tie.Need-rem-left
 rem-left c = omega (arith, facts (c .before .before))
 
--- src/lib.rt:146:16
 mul-left : tie.Need-mul-left
 mul-left c = omega (arith, facts (c .before .before))
 
--- src/lib.rt:147:17
 mul-whole : tie.Need-mul-whole
 mul-whole c = omega (arith, facts (c .before .before .before))
 
--- src/lib.rt:147:17
 add-whole : tie.Need-add-whole
 add-whole c = omega (arith, facts (c .before .before .before))
 
--- src/lib.rt:148:8
 mul-if1 : tie.Need-mul-if1
 mul-if1 c = omega (arith, facts (c .before .before .before))
 
--- src/lib.rt:151:26
 mul-t11 : tie.Need-mul-t11
 mul-t11 c = omega (arith, facts (c .before .before .before .before))
 
--- src/lib.rt:151:19
 sub-t12 : tie.Need-sub-t12
 sub-t12 c = search needs
 
--- src/lib.rt:155:20
 sub-t13 : tie.Need-sub-t13
 sub-t13 c = omega (arith, facts (c .before .before .before .before))
 
--- src/lib.rt:156:26
 mul-t14 : tie.Need-mul-t14
 mul-t14 c = omega (arith, facts (c .before .before .before .before))
 
--- src/lib.rt:156:19
 add-t15 : tie.Need-add-t15
 add-t15 c = omega (arith, facts (c .before .before .before .before))
 
--- src/lib.rt:156:19
 sub-t16 : tie.Need-sub-t16
 sub-t16 c = omega (arith, facts (c .before .before .before .before))
 
--- src/lib.rt:156:42
 mul-t17 : tie.Need-mul-t17
 mul-t17 c = omega (arith, facts (c .before .before .before .before))
 
--- src/lib.rt:156:19
 sub-t18 : tie.Need-sub-t18
 sub-t18 c = room (facts (c .before .before .before .before))
 
--- src/lib.rt:138:1
 returns : tie.Need-returns
 returns c = kept (facts (c .before .before .before .before)) (c .if1 .taken)
 
--- src/lib.rt:138:1
 returns-2 : tie.Need-returns-2
 returns-2 c = lowered (facts (c .before .before .before .before)) (c .if1 .left)
 

@@ -4,8 +4,8 @@ use Rattle.root.proofs.Patterns.{even-place, odd-place}
 use Rattle.root.proofs.halved.Statement.{statement}
 use Rattle.root.proofs.halved.Tie as tie
 
-aligned-at-requires : tie.Need-aligned-at-requires
-aligned-at-requires c κs = search needs
+unpack-requires : tie.Need-unpack-requires
+unpack-requires c κs = search needs
 
 sub-half : tie.Need-sub-half
 sub-half c = search needs
@@ -14,10 +14,10 @@ mul-t7 : tie.Need-mul-t7
 mul-t7 c = search needs
 
 returns : tie.Need-returns
-returns c = even-place _ _ _ (c .before .before .before .aligned-at .ensures) (c .if1 .taken)
+returns c = even-place _ _ _ (c .before .before .before .unpack .ensures) (c .if1 .taken)
 
 returns-2 : tie.Need-returns-2
-returns-2 c = odd-place _ _ _ (c .before .before .before .before .aligned-at .ensures) (c .before .if1 .left)
+returns-2 c = odd-place _ _ _ (c .before .before .before .before .unpack .ensures) (c .before .if1 .left)
 
 pub halved-spec : {M : Type 1} → statement M
-halved-spec = tie.close (tie.spec aligned-at-requires sub-half mul-t7 returns returns-2)
+halved-spec = tie.close (tie.spec unpack-requires sub-half mul-t7 returns returns-2)

@@ -1,31 +1,16 @@
 -- `root::root_bits` meets its contract: the four steps, put together. Assumes nothing.
-use mathlib.Core.Path.{_≡_, sym, ap, _∙_, subst}
-use Prim.Native.Nat.{ℕ, suc, _+_, _*_, _^_, _≤_, _<_, compare}
-use native.Mathlib.Nat.{le-trans}
+use mathlib.Core.Path.{_≡_, sym, subst}
+use Prim.Native.Nat.{ℕ, suc, _+_, _*_, _≤_, compare}
 use native.Mathlib.Omega.{arith}
 use borrow.Author.Needs.{needs}
-use lib.Ieee.{binary64, ofBits, nearest}
 use lib.Ieee.Fits.{nearest-le}
-use Rattle.root.specs.Root.{rootBits}
-use Rattle.root.specs.Steps.{Special, Halved, Digits}
-use Rattle.root.proofs.Core.{whole-lt, root-at}
-use Rattle.root.proofs.Patterns.{rootBits-is}
+use Rattle.root.specs.Steps.{Special, Digits, roundedRoot}
+use Rattle.root.proofs.Core.{whole-lt, rounded-bits}
 use Rattle.root.proofs.root_bits.Statement.{statement}
 use Rattle.root.proofs.root_bits.Tie as tie
 
-module _ (b d h q r : ℕ) (s : Halved b d h) (p : Digits (d * 2 ^ 52) q r) where
-  in-range : q < 2 ^ 53
-  in-range = whole-lt (ofBits binary64 b) d h q r (s .is) (s .least) (s .most) (s .high) (p .is) (p .rest)
-
-  module _ (v : ℕ) (e : v ≡ nearest q (compare (4 * (q * q + r)) ((2 * q + 1) * (2 * q + 1)))) where
-    no-more : v ≤ suc q
-    no-more = subst (λ (x : ℕ). x ≤ suc q) (sym e) (nearest-le q (compare (4 * (q * q + r)) ((2 * q + 1) * (2 * q + 1))))
-
-    is-root : v + h * 2 ^ 52 ≡ rootBits b
-    is-root =
-        ap (λ (x : ℕ). x + h * 2 ^ 52) e
-        ∙ sym (root-at (ofBits binary64 b) d h q r (s .is) (s .least) (s .most) (s .high) (p .is) (p .rest))
-        ∙ sym (rootBits-is b)
+no-more : {n v q r : ℕ} → Digits n q r → v ≡ roundedRoot q r → v ≤ suc q
+no-more {q = q} {r = r} d e = subst (λ (x : ℕ). x ≤ suc q) (sym e) (nearest-le q (compare (4 * (q * q + r)) ((2 * q + 1) * (2 * q + 1))))
 
 special-requires : tie.Need-special-requires
 special-requires c κs = search needs
@@ -43,7 +28,7 @@ digits-requires : tie.Need-digits-requires
 digits-requires c κs = search needs
 
 rounded-requires : tie.Need-rounded-requires
-rounded-requires c κs = in-range _ _ _ _ _ (c .before .halved .ensures) (c .digits .ensures)
+rounded-requires c κs = whole-lt _ _ _ _ _ (c .before .halved .ensures) (c .digits .ensures)
 
 mul-result : tie.Need-mul-result
 mul-result c = search needs
@@ -52,13 +37,13 @@ add-result : tie.Need-add-result
 add-result c =
     let s = c .before .before .before .halved .ensures in
     let p = c .before .before .digits .ensures in
-    omega (arith, in-range _ _ _ _ _ s p, no-more _ _ _ _ _ s p _ (c .before .rounded .ensures), s .high)
+    omega (arith, whole-lt _ _ _ _ _ s p, no-more p (c .before .rounded .ensures), s .high)
 
 returns : tie.Need-returns
 returns c = subst (Special (c .before .before .before .before .args .b)) (c .before .a .given .1) (c .before .before .before .special .ensures) .1
 
 returns-2 : tie.Need-returns-2
-returns-2 c = is-root _ _ _ _ _ (c .before .before .before .halved .ensures) (c .before .before .digits .ensures) _ (c .before .rounded .ensures)
+returns-2 c = rounded-bits _ _ _ _ _ (c .before .before .before .halved .ensures) (c .before .before .digits .ensures) _ (c .before .rounded .ensures)
 
 pub root-bits-spec : {M : Type 1} → statement M
 root-bits-spec =

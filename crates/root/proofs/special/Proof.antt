@@ -1,15 +1,13 @@
 -- `root::special` meets its contract. Assumes nothing.
 use mathlib.Core.Path.{_≡_}
 use mathlib.Core.Logic.{_⊎_, inl, inr}
-use Prim.Native.Nat.{ℕ, _≤_, _<_, _%_, _/_, _^_}
+use Prim.Native.Nat.{ℕ, _≤_, _%_, _/_, _^_}
 use native.Mathlib.Decide.{decLe}
 use native.Mathlib.Omega.{arith}
 use borrow.Author.Needs.{needs}
 use Rattle.root.proofs.Patterns.{zero-answer, infinity-answer, negative-answer, top-answer}
 use Rattle.root.proofs.special.Statement.{statement}
 use Rattle.root.proofs.special.Tie as tie
-use Rattle.root.proofs.special.Reads as reads
-use Rattle.root.proofs.special.Lts as lts
 
 zero-which : (b : ℕ) → b % 2 ^ 63 / 2 ^ 52 ≡ 0 → b % 2 ^ 52 ≡ 0 → (b ≡ 0) ⊎ (0x7FF0_0000_0000_0000 ≤ b)
 zero-which b x t = go (decLe 0x7FF0_0000_0000_0000 b)

@@ -1,137 +1,106 @@
-use mathlib.Core.Path.{_≡_}
+-- `root4::root4` meets its contract. Assumes nothing.
 use lib.ListN.{getD}
-use lib.Ieee.{nan, binary64, ofBits}
+use lib.Ieee.{nan, binary64}
 use borrow.Kind.Array.{good-length, eFloat}
 use Rattle.root.specs.Root.{root}
 use Rattle.root.proofs.Floats.{no-nan}
-use Rattle.root4.proofs.Numbers.{low-pattern, four-of, Four, summed, Zeros, zeros}
+use Rattle.root4.proofs.Numbers.{low-pattern, four-of, NoNan4, summed, Zero4, zeros}
 use borrow.Author.Needs.{needs}
 use Rattle.root4.proofs.root4.Statement.{statement}
 use Rattle.root4.proofs.root4.Tie as tie
-use Rattle.root4.proofs.root4.Reads as reads
-use Rattle.root4.proofs.root4.Lts as lts
-use Rattle.root4.proofs.each.Reads as each-reads
-use Rattle.root4.proofs.lane.Reads as lane-reads
-use Rattle.root4.proofs.near.Reads as near-reads
 
-given : (c : tie.Else1) → let x = c .before .args .t1 in Four (getD x 0 nan) (getD x 1 nan) (getD x 2 nan) (getD x 3 nan)
-given c = summed _ _ _ _ (no-nan _ (c .if1 .left))
+operands : (c : tie.Else1) → let x = c .before .args .t1 in NoNan4 (getD x 0 nan) (getD x 1 nan) (getD x 2 nan) (getD x 3 nan)
+operands c = summed _ _ _ _ (no-nan _ (c .if1 .left))
 
-made : (c : tie.Else2) → let n = c .before in Four (n .before .before .before .near .result) (n .before .before .near2 .result) (n .before .near3 .result) (n .near4 .result)
-made c = summed _ _ _ _ (no-nan _ (c .if2 .left))
+estimates : (c : tie.Else2) → let n = c .before in NoNan4 (n .before .before .before .estimate .result) (n .before .before .estimate2 .result) (n .before .estimate3 .result) (n .estimate4 .result)
+estimates c = summed _ _ _ _ (no-nan _ (c .if2 .left))
 
-none : (c : tie.Else3)
-    → let l = c .before .before .before .before .before in Zeros (l .before .before .before .lane .result .doubts) (l .before .before .lane2 .result .doubts) (l .before .lane3 .result .doubts) (l .lane4 .result .doubts)
-none c = zeros _ _ _ _ (c .if3 .left)
+undoubted : (c : tie.Else3)
+    → let l = c .before .before .before .before .before in Zero4 (l .before .before .before .verify .result .doubts) (l .before .before .verify2 .result .doubts) (l .before .verify3 .result .doubts) (l .verify4 .result .doubts)
+undoubted c = zeros _ _ _ _ (c .if3 .left)
 
--- src/lib.rt:147:14
 array-read-x0 : tie.Need-array-read-x0
 array-read-x0 c = search needs
 
--- src/lib.rt:148:14
 array-read-x1 : tie.Need-array-read-x1
 array-read-x1 c = search needs
 
--- src/lib.rt:149:14
 array-read-x2 : tie.Need-array-read-x2
 array-read-x2 c = search needs
 
--- src/lib.rt:150:14
 array-read-x3 : tie.Need-array-read-x3
 array-read-x3 c = search needs
 
--- src/lib.rt:153:9
-each-requires : tie.Need-each-requires
-each-requires c κs = search needs
+lane-by-lane-requires : tie.Need-lane-by-lane-requires
+lane-by-lane-requires c κs = search needs
 
--- src/lib.rt:153:9
 returns : tie.Need-returns
 returns c = search needs
 
--- src/lib.rt:155:9
-near-requires : tie.Need-near-requires
-near-requires c κs = given (c) .one
+estimate-requires : tie.Need-estimate-requires
+estimate-requires c κs = operands (c) .one
 
--- src/lib.rt:156:9
-near-requires-2 : tie.Need-near-requires-2
-near-requires-2 c κs = given (c .before) .two
+estimate-requires-2 : tie.Need-estimate-requires-2
+estimate-requires-2 c κs = operands (c .before) .two
 
--- src/lib.rt:157:9
-near-requires-3 : tie.Need-near-requires-3
-near-requires-3 c κs = given (c .before .before) .three
+estimate-requires-3 : tie.Need-estimate-requires-3
+estimate-requires-3 c κs = operands (c .before .before) .three
 
--- src/lib.rt:158:9
-near-requires-4 : tie.Need-near-requires-4
-near-requires-4 c κs = given (c .before .before .before) .four
+estimate-requires-4 : tie.Need-estimate-requires-4
+estimate-requires-4 c κs = operands (c .before .before .before) .four
 
--- src/lib.rt:161:9
-each-requires-2 : tie.Need-each-requires-2
-each-requires-2 c κs = search needs
+lane-by-lane-requires-2 : tie.Need-lane-by-lane-requires-2
+lane-by-lane-requires-2 c κs = search needs
 
--- src/lib.rt:161:9
 returns-2 : tie.Need-returns-2
 returns-2 c = search needs
 
--- src/lib.rt:163:9
-lane-requires : tie.Need-lane-requires
-lane-requires c κs = (given (c .before .before .before .before .before) .one, made (c) .one)
+verify-requires : tie.Need-verify-requires
+verify-requires c κs = (operands (c .before .before .before .before .before) .one, estimates (c) .one)
 
--- src/lib.rt:164:9
-lane-requires-2 : tie.Need-lane-requires-2
-lane-requires-2 c κs = (given (c .before .before .before .before .before .before) .two, made (c .before) .two)
+verify-requires-2 : tie.Need-verify-requires-2
+verify-requires-2 c κs = (operands (c .before .before .before .before .before .before) .two, estimates (c .before) .two)
 
--- src/lib.rt:165:9
-lane-requires-3 : tie.Need-lane-requires-3
-lane-requires-3 c κs = (given (c .before .before .before .before .before .before .before) .three, made (c .before .before) .three)
+verify-requires-3 : tie.Need-verify-requires-3
+verify-requires-3 c κs = (operands (c .before .before .before .before .before .before .before) .three, estimates (c .before .before) .three)
 
--- src/lib.rt:166:9
-lane-requires-4 : tie.Need-lane-requires-4
-lane-requires-4 c κs = (given (c .before .before .before .before .before .before .before .before) .four, made (c .before .before .before) .four)
+verify-requires-4 : tie.Need-verify-requires-4
+verify-requires-4 c κs = (operands (c .before .before .before .before .before .before .before .before) .four, estimates (c .before .before .before) .four)
 
--- src/lib.rt:167:8
 add-if3 : tie.Need-add-if3
 add-if3 c = search needs
 
--- src/lib.rt:167:33
 add-if3-2 : tie.Need-add-if3-2
 add-if3-2 c = search needs
 
--- src/lib.rt:167:8
 add-if3-3 : tie.Need-add-if3-3
 add-if3-3 c = search needs
 
--- src/lib.rt:168:9
-each-requires-3 : tie.Need-each-requires-3
-each-requires-3 c κs = search needs
+lane-by-lane-requires-3 : tie.Need-lane-by-lane-requires-3
+lane-by-lane-requires-3 c κs = search needs
 
--- src/lib.rt:168:9
 returns-3 : tie.Need-returns-3
 returns-3 c = search needs
 
--- src/lib.rt:170:6
 float-from-bits-t26 : tie.Need-float-from-bits-t26
-float-from-bits-t26 c = low-pattern _ (c .before .before .before .before .before .before .before .before .before .lane .ensures .number (none (c .before) .one))
+float-from-bits-t26 c = low-pattern _ (c .before .before .before .before .before .before .before .before .before .verify .ensures .number (undoubted (c .before) .one))
 
--- src/lib.rt:170:31
 float-from-bits-t19 : tie.Need-float-from-bits-t19
-float-from-bits-t19 c = low-pattern _ (c .before .before .before .before .before .before .before .before .before .lane2 .ensures .number (none (c .before .before) .two))
+float-from-bits-t19 c = low-pattern _ (c .before .before .before .before .before .before .before .before .before .verify2 .ensures .number (undoubted (c .before .before) .two))
 
--- src/lib.rt:170:56
 float-from-bits-t34 : tie.Need-float-from-bits-t34
-float-from-bits-t34 c = low-pattern _ (c .before .before .before .before .before .before .before .before .before .lane3 .ensures .number (none (c .before .before .before) .three))
+float-from-bits-t34 c = low-pattern _ (c .before .before .before .before .before .before .before .before .before .verify3 .ensures .number (undoubted (c .before .before .before) .three))
 
--- src/lib.rt:170:81
 float-from-bits-t35 : tie.Need-float-from-bits-t35
-float-from-bits-t35 c = low-pattern _ (c .before .before .before .before .before .before .before .before .before .lane4 .ensures .number (none (c .before .before .before .before) .four))
+float-from-bits-t35 c = low-pattern _ (c .before .before .before .before .before .before .before .before .before .verify4 .ensures .number (undoubted (c .before .before .before .before) .four))
 
--- src/lib.rt:144:1
 returns-4 : tie.Need-returns-4
 returns-4 c =
     let x = c .before .before .before .before .before .before .before .before .before .before .before .before .before .before .before .before .before .before .before .args .t1 in
-    let e0 = c .before .before .before .before .before .before .before .before .before .before .before .before .lane .ensures .right (none (c .before .before .before .before) .one) in
-    let e1 = c .before .before .before .before .before .before .before .before .before .before .before .lane2 .ensures .right (none (c .before .before .before .before) .two) in
-    let e2 = c .before .before .before .before .before .before .before .before .before .before .lane3 .ensures .right (none (c .before .before .before .before) .three) in
-    let e3 = c .before .before .before .before .before .before .before .before .before .lane4 .ensures .right (none (c .before .before .before .before) .four) in
+    let e0 = c .before .before .before .before .before .before .before .before .before .before .before .before .verify .ensures .right (undoubted (c .before .before .before .before) .one) in
+    let e1 = c .before .before .before .before .before .before .before .before .before .before .before .verify2 .ensures .right (undoubted (c .before .before .before .before) .two) in
+    let e2 = c .before .before .before .before .before .before .before .before .before .before .verify3 .ensures .right (undoubted (c .before .before .before .before) .three) in
+    let e3 = c .before .before .before .before .before .before .before .before .before .verify4 .ensures .right (undoubted (c .before .before .before .before) .four) in
     let k = four-of (root binary64) x nan (good-length (eFloat binary64) 4 x _ (c .before .before .before .before .before .before .before .before .before .before .before .before .before .before .before .before .before .before .before .good .0)) in
     cc
 
@@ -143,22 +112,22 @@ root4-spec =
     array-read-x1
     array-read-x2
     array-read-x3
-    each-requires
+    lane-by-lane-requires
     returns
-    near-requires
-    near-requires-2
-    near-requires-3
-    near-requires-4
-    each-requires-2
+    estimate-requires
+    estimate-requires-2
+    estimate-requires-3
+    estimate-requires-4
+    lane-by-lane-requires-2
     returns-2
-    lane-requires
-    lane-requires-2
-    lane-requires-3
-    lane-requires-4
+    verify-requires
+    verify-requires-2
+    verify-requires-3
+    verify-requires-4
     add-if3
     add-if3-2
     add-if3-3
-    each-requires-3
+    lane-by-lane-requires-3
     returns-3
     float-from-bits-t26
     float-from-bits-t19

@@ -1,35 +1,15 @@
-use native.Mathlib.Omega.{arith}
-use mathlib.Core.Path.{_≡_, _∙_, ap, sym, refl, subst}
-use mathlib.Core.List.{List}
-use Prim.Native.Nat.{ℕ, _-_, _+_, _*_, _≤_, _<_}
-use lib.ListN.{length, getD}
-use Rattle.machine.specs.Machine.{standard}
-use Rattle.machine.specs.Outcome.{laneData}
-use Rattle.machine.specs.Work.{callOf, problemOf}
-use Rattle.lanes.specs.Region.{before, after}
-use Rattle.sparse.specs.Sparse.{High}
-use Rattle.lanes.proofs.Consts.{null-bits, damping-bits}
-use Rattle.step.proofs.Steps.{directed, advanced, took}
 use borrow.Author.Needs.{needs}
+use native.Mathlib.Omega.{arith}
+use mathlib.Core.Path.{_∙_}
+use Prim.Native.Nat.{_*_}
+use Rattle.lanes.specs.Region.{before, after}
+use Rattle.machine.specs.Outcome.{laneData}
+use Rattle.machine.specs.Work.{callOf}
+use Rattle.links.proofs.Follows.{rows-for, cols-for, low-for, high-for, planned-for}
+use Rattle.step.proofs.Steps.{directed}
+use Rattle.step.proofs.Held.{count-for, kept-for, held-for}
 use Rattle.step.proofs.directions.Statement.{statement}
 use Rattle.step.proofs.directions.Tie as tie
-use Rattle.step.proofs.directions.Reads as reads
-use Rattle.step.proofs.directions.Lts as lts
-use Rattle.substitution.proofs.cholesky_solve.Reads as cholesky-solve-reads
-use Rattle.kernels.proofs.compute_dx.Reads as compute-dx-reads
-use Rattle.kernels.proofs.compute_complement.Reads as compute-complement-reads
-use Rattle.kernels.proofs.rhs_f.Reads as rhs-f-reads
-use Rattle.kernels.proofs.rhs_u.Reads as rhs-u-reads
-use Rattle.step.proofs.factorise.Reads as factorise-reads
-
-mul-dx : tie.Need-mul-dx
-mul-dx c = search needs
-
-mul-dz : tie.Need-mul-dz
-mul-dz c = search needs
-
-mul-tmp : tie.Need-mul-tmp
-mul-tmp c = search needs
 
 mul-y : tie.Need-mul-y
 mul-y c = search needs
@@ -43,60 +23,67 @@ add-rhs c = search needs
 add-w : tie.Need-add-w
 add-w c = search needs
 
-add-dw : tie.Need-add-dw
-add-dw c = search needs
-
 add-l : tie.Need-add-l
 add-l c = search needs
 
-rhs-u-requires : tie.Need-rhs-u-requires
-rhs-u-requires c κs = (c .before .before .before .before .before .before .before .before .before .before .before .before .before .before .before .before .pre .1 .ranges, c .before .before .before .before .before .before .before .before .before .before .before .before .before .before .before .before .pre .5, before (omega arith), before (omega arith), after (omega arith), omega (arith, c .before .before .before .before .before .before .before .before .before .before .before .before .before .before .before .before .pre .8, c .before .before .before .before .before .before .before .before .before .before .before .before .before .before .before .before .pre .6), omega (arith, c .before .before .before .before .before .before .before .before .before .before .before .before .before .before .before .before .pre .8, c .before .before .before .before .before .before .before .before .before .before .before .before .before .before .before .before .pre .6), omega (arith, c .before .before .before .before .before .before .before .before .before .before .before .before .before .before .before .before .pre .8, c .before .before .before .before .before .before .before .before .before .before .before .before .before .before .before .before .pre .6), omega (arith, c .before .before .before .before .before .before .before .before .before .before .before .before .before .before .before .before .pre .8, c .before .before .before .before .before .before .before .before .before .before .before .before .before .before .before .before .pre .6))
+add-l-2 : tie.Need-add-l-2
+add-l-2 c = search needs
 
-rhs-f-requires : tie.Need-rhs-f-requires
-rhs-f-requires c κs = (c .before .before .before .before .before .before .before .before .before .before .before .before .before .before .before .before .before .before .before .before .pre .0 .ranges, c .before .before .before .before .before .before .before .before .before .before .before .before .before .before .before .before .before .before .before .before .pre .4, before (omega arith), before (omega arith), before (omega arith), omega (arith, c .before .before .before .before .before .before .before .before .before .before .before .before .before .before .before .before .before .before .before .before .pre .8, c .before .before .before .before .before .before .before .before .before .before .before .before .before .before .before .before .before .before .before .before .pre .6, c .before .before .before .rhs-u .ensures .kept .size), omega (arith, c .before .before .before .before .before .before .before .before .before .before .before .before .before .before .before .before .before .before .before .before .pre .8, c .before .before .before .before .before .before .before .before .before .before .before .before .before .before .before .before .before .before .before .before .pre .6, c .before .before .before .rhs-u .ensures .kept .size), omega (arith, c .before .before .before .before .before .before .before .before .before .before .before .before .before .before .before .before .before .before .before .before .pre .8, c .before .before .before .before .before .before .before .before .before .before .before .before .before .before .before .before .before .before .before .before .pre .6, c .before .before .before .rhs-u .ensures .kept .size), omega (arith, c .before .before .before .before .before .before .before .before .before .before .before .before .before .before .before .before .before .before .before .before .pre .8, c .before .before .before .before .before .before .before .before .before .before .before .before .before .before .before .before .before .before .before .before .pre .6, c .before .before .before .rhs-u .ensures .kept .size))
+normal-eqn-rhs-requires : tie.Need-normal-eqn-rhs-requires
+normal-eqn-rhs-requires c κs = let e = c .before .before .before .before .before .before .before .before .before .before .before .before .before .before .before .before .before .before .before .before .before .before .before .before in (rows-for (e .pre .0), cols-for (e .pre .0), e .pre .1, omega (arith, e .pre .2))
 
-factorise-requires : tie.Need-factorise-requires
-factorise-requires c κs = (c .before .before .before .before .before .before .before .before .before .before .before .before .before .before .before .before .before .before .before .before .before .before .before .before .pre .0, c .before .before .before .before .before .before .before .before .before .before .before .before .before .before .before .before .before .before .before .before .before .before .before .before .pre .2, c .before .before .before .before .before .before .before .before .before .before .before .before .before .before .before .before .before .before .before .before .before .before .before .before .pre .7, omega (arith, c .before .before .before .before .before .before .before .before .before .before .before .before .before .before .before .before .before .before .before .before .before .before .before .before .pre .8, c .before .before .before .before .before .before .before .before .before .before .before .before .before .before .before .before .before .before .before .before .before .before .before .before .pre .6, c .before .before .before .before .before .before .before .rhs-u .ensures .kept .size, c .before .before .before .rhs-f .ensures .kept .size))
+normal-matrix-cholesky-decomposition-requires : tie.Need-normal-matrix-cholesky-decomposition-requires
+normal-matrix-cholesky-decomposition-requires c κs =
+    let e = c .before .before .before .before .before .before .before .before .before .before .before .before .before .before .before .before .before .before .before .before .before .before .before .before .before .before .before .before in
+    let p = e .pre .0 in
+    let z = c .before .before .before .normal-eqn-rhs .ensures .still .frame .size in
+    record {
+      ok = p .ok;
+      values = p .values;
+      slack = p .slack;
+      lists = planned-for p;
+      regions = record {
+        x-apart = before (omega arith);
+        z-apart = before (omega arith);
+        y-apart = before (omega arith);
+        w-apart = before (omega arith);
+        x-in = omega (arith, e .pre .2, z);
+        z-in = omega (arith, e .pre .2, z);
+        y-in = omega (arith, e .pre .2, z);
+        w-in = omega (arith, e .pre .2, z);
+        l-in = omega (arith, e .pre .2, z, count-for p);
+      };
+    }
 
 cholesky-solve-requires : tie.Need-cholesky-solve-requires
-cholesky-solve-requires c κs = ((c .before .before .before .before .before .before .before .before .before .before .before .before .before .before .before .before .before .before .before .before .before .before .before .before .before .before .before .before .pre .2 .ranges, c .before .before .before .before .before .before .before .before .before .before .before .before .before .before .before .before .before .before .before .before .before .before .before .before .before .before .before .before .pre .7, subst (λ (k : ℕ). High (c .before .before .before .before .before .before .before .before .before .before .before .before .before .before .before .before .before .before .before .before .before .before .before .before .before .before .before .before .args .m) k (c .before .before .before .before .before .before .before .before .before .before .before .before .before .before .before .before .before .before .before .before .before .before .before .before .before .before .before .before .args .tptr .now) (c .before .before .before .before .before .before .before .before .before .before .before .before .before .before .before .before .before .before .before .before .before .before .before .before .before .before .before .before .args .tind .now) (c .before .before .before .before .before .before .before .before .before .before .before .before .before .before .before .before .before .before .before .before .before .before .before .before .before .before .before .before .args .tmap .now)) (c .before .before .before .before .before .before .before .before .before .before .before .before .before .before .before .before .before .before .before .before .before .before .before .before .before .before .before .before .pre .7) (c .before .before .before .before .before .before .before .before .before .before .before .before .before .before .before .before .before .before .before .before .before .before .before .before .before .before .before .before .pre .3 .ranges)), ((after (omega arith), after (omega arith)), (omega (arith, c .before .before .before .before .before .before .before .before .before .before .before .before .before .before .before .before .before .before .before .before .before .before .before .before .before .before .before .before .pre .8, c .before .before .before .before .before .before .before .before .before .before .before .before .before .before .before .before .before .before .before .before .before .before .before .before .before .before .before .before .pre .6, c .before .before .before .before .before .before .before .before .before .before .before .rhs-u .ensures .kept .size, c .before .before .before .before .before .before .before .rhs-f .ensures .kept .size, c .before .before .before .factorise .ensures .0 .size), omega (arith, c .before .before .before .before .before .before .before .before .before .before .before .before .before .before .before .before .before .before .before .before .before .before .before .before .before .before .before .before .pre .8, c .before .before .before .before .before .before .before .before .before .before .before .before .before .before .before .before .before .before .before .before .before .before .before .before .before .before .before .before .pre .6, c .before .before .before .before .before .before .before .before .before .before .before .rhs-u .ensures .kept .size, c .before .before .before .before .before .before .before .rhs-f .ensures .kept .size, c .before .before .before .factorise .ensures .0 .size), omega (arith, c .before .before .before .before .before .before .before .before .before .before .before .before .before .before .before .before .before .before .before .before .before .before .before .before .before .before .before .before .pre .8, c .before .before .before .before .before .before .before .before .before .before .before .before .before .before .before .before .before .before .before .before .before .before .before .before .before .before .before .before .pre .6, c .before .before .before .before .before .before .before .before .before .before .before .rhs-u .ensures .kept .size, c .before .before .before .before .before .before .before .rhs-f .ensures .kept .size, c .before .before .before .factorise .ensures .0 .size))))
+cholesky-solve-requires c κs =
+    let e = c .before .before .before .before .before .before .before .before .before .before .before .before .before .before .before .before .before .before .before .before .before .before .before .before .before .before .before .before .before .before .before .before in
+    let z = c .before .before .before .before .before .before .before .normal-eqn-rhs .ensures .still .frame .size in
+    let y = c .before .before .before .normal-matrix-cholesky-decomposition .ensures .kept .size in (
+      (low-for (e .pre .0) .ranges, omega arith, high-for (e .pre .0) .ranges),
+      (
+        (after (omega arith), after (omega arith)),
+        (omega (arith, e .pre .2, y, z), omega (arith, e .pre .2, y, z), omega (arith, e .pre .2, y, z)),
+      ),
+    )
 
-compute-dx-requires : tie.Need-compute-dx-requires
-compute-dx-requires c κs = (c .before .before .before .before .before .before .before .before .before .before .before .before .before .before .before .before .before .before .before .before .before .before .before .before .before .before .before .before .before .before .before .before .pre .1 .ranges, c .before .before .before .before .before .before .before .before .before .before .before .before .before .before .before .before .before .before .before .before .before .before .before .before .before .before .before .before .before .before .before .before .pre .5, before (omega arith), before (omega arith), after (omega arith), after (omega arith), omega (arith, c .before .before .before .before .before .before .before .before .before .before .before .before .before .before .before .before .before .before .before .before .before .before .before .before .before .before .before .before .before .before .before .before .pre .8, c .before .before .before .before .before .before .before .before .before .before .before .before .before .before .before .before .before .before .before .before .before .before .before .before .before .before .before .before .before .before .before .before .pre .6, c .before .before .before .before .before .before .before .before .before .before .before .before .before .before .before .rhs-u .ensures .kept .size, c .before .before .before .before .before .before .before .before .before .before .before .rhs-f .ensures .kept .size, c .before .before .before .before .before .before .before .factorise .ensures .0 .size, c .before .before .before .cholesky-solve .ensures .kept .size), omega (arith, c .before .before .before .before .before .before .before .before .before .before .before .before .before .before .before .before .before .before .before .before .before .before .before .before .before .before .before .before .before .before .before .before .pre .8, c .before .before .before .before .before .before .before .before .before .before .before .before .before .before .before .before .before .before .before .before .before .before .before .before .before .before .before .before .before .before .before .before .pre .6, c .before .before .before .before .before .before .before .before .before .before .before .before .before .before .before .rhs-u .ensures .kept .size, c .before .before .before .before .before .before .before .before .before .before .before .rhs-f .ensures .kept .size, c .before .before .before .before .before .before .before .factorise .ensures .0 .size, c .before .before .before .cholesky-solve .ensures .kept .size), omega (arith, c .before .before .before .before .before .before .before .before .before .before .before .before .before .before .before .before .before .before .before .before .before .before .before .before .before .before .before .before .before .before .before .before .pre .8, c .before .before .before .before .before .before .before .before .before .before .before .before .before .before .before .before .before .before .before .before .before .before .before .before .before .before .before .before .before .before .before .before .pre .6, c .before .before .before .before .before .before .before .before .before .before .before .before .before .before .before .rhs-u .ensures .kept .size, c .before .before .before .before .before .before .before .before .before .before .before .rhs-f .ensures .kept .size, c .before .before .before .before .before .before .before .factorise .ensures .0 .size, c .before .before .before .cholesky-solve .ensures .kept .size), omega (arith, c .before .before .before .before .before .before .before .before .before .before .before .before .before .before .before .before .before .before .before .before .before .before .before .before .before .before .before .before .before .before .before .before .pre .8, c .before .before .before .before .before .before .before .before .before .before .before .before .before .before .before .before .before .before .before .before .before .before .before .before .before .before .before .before .before .before .before .before .pre .6, c .before .before .before .before .before .before .before .before .before .before .before .before .before .before .before .rhs-u .ensures .kept .size, c .before .before .before .before .before .before .before .before .before .before .before .rhs-f .ensures .kept .size, c .before .before .before .before .before .before .before .factorise .ensures .0 .size, c .before .before .before .cholesky-solve .ensures .kept .size), omega (arith, c .before .before .before .before .before .before .before .before .before .before .before .before .before .before .before .before .before .before .before .before .before .before .before .before .before .before .before .before .before .before .before .before .pre .8, c .before .before .before .before .before .before .before .before .before .before .before .before .before .before .before .before .before .before .before .before .before .before .before .before .before .before .before .before .before .before .before .before .pre .6, c .before .before .before .before .before .before .before .before .before .before .before .before .before .before .before .rhs-u .ensures .kept .size, c .before .before .before .before .before .before .before .before .before .before .before .rhs-f .ensures .kept .size, c .before .before .before .before .before .before .before .factorise .ensures .0 .size, c .before .before .before .cholesky-solve .ensures .kept .size))
-
-compute-complement-requires : tie.Need-compute-complement-requires
-compute-complement-requires c κs = (before (omega arith), before (omega arith), before (omega arith), omega (arith, c .before .before .before .before .before .before .before .before .before .before .before .before .before .before .before .before .before .before .before .before .before .before .before .before .before .before .before .before .before .before .before .before .before .before .before .before .pre .8, c .before .before .before .before .before .before .before .before .before .before .before .before .before .before .before .before .before .before .before .before .before .before .before .before .before .before .before .before .before .before .before .before .before .before .before .before .pre .6, c .before .before .before .before .before .before .before .before .before .before .before .before .before .before .before .before .before .before .before .rhs-u .ensures .kept .size, c .before .before .before .before .before .before .before .before .before .before .before .before .before .before .before .rhs-f .ensures .kept .size, c .before .before .before .before .before .before .before .before .before .before .before .factorise .ensures .0 .size, c .before .before .before .before .before .before .before .cholesky-solve .ensures .kept .size, c .before .before .before .compute-dx .ensures .kept .size), omega (arith, c .before .before .before .before .before .before .before .before .before .before .before .before .before .before .before .before .before .before .before .before .before .before .before .before .before .before .before .before .before .before .before .before .before .before .before .before .pre .8, c .before .before .before .before .before .before .before .before .before .before .before .before .before .before .before .before .before .before .before .before .before .before .before .before .before .before .before .before .before .before .before .before .before .before .before .before .pre .6, c .before .before .before .before .before .before .before .before .before .before .before .before .before .before .before .before .before .before .before .rhs-u .ensures .kept .size, c .before .before .before .before .before .before .before .before .before .before .before .before .before .before .before .rhs-f .ensures .kept .size, c .before .before .before .before .before .before .before .before .before .before .before .factorise .ensures .0 .size, c .before .before .before .before .before .before .before .cholesky-solve .ensures .kept .size, c .before .before .before .compute-dx .ensures .kept .size), omega (arith, c .before .before .before .before .before .before .before .before .before .before .before .before .before .before .before .before .before .before .before .before .before .before .before .before .before .before .before .before .before .before .before .before .before .before .before .before .pre .8, c .before .before .before .before .before .before .before .before .before .before .before .before .before .before .before .before .before .before .before .before .before .before .before .before .before .before .before .before .before .before .before .before .before .before .before .before .pre .6, c .before .before .before .before .before .before .before .before .before .before .before .before .before .before .before .before .before .before .before .rhs-u .ensures .kept .size, c .before .before .before .before .before .before .before .before .before .before .before .before .before .before .before .rhs-f .ensures .kept .size, c .before .before .before .before .before .before .before .before .before .before .before .factorise .ensures .0 .size, c .before .before .before .before .before .before .before .cholesky-solve .ensures .kept .size, c .before .before .before .compute-dx .ensures .kept .size), omega (arith, c .before .before .before .before .before .before .before .before .before .before .before .before .before .before .before .before .before .before .before .before .before .before .before .before .before .before .before .before .before .before .before .before .before .before .before .before .pre .8, c .before .before .before .before .before .before .before .before .before .before .before .before .before .before .before .before .before .before .before .before .before .before .before .before .before .before .before .before .before .before .before .before .before .before .before .before .pre .6, c .before .before .before .before .before .before .before .before .before .before .before .before .before .before .before .before .before .before .before .rhs-u .ensures .kept .size, c .before .before .before .before .before .before .before .before .before .before .before .before .before .before .before .rhs-f .ensures .kept .size, c .before .before .before .before .before .before .before .before .before .before .before .factorise .ensures .0 .size, c .before .before .before .before .before .before .before .cholesky-solve .ensures .kept .size, c .before .before .before .compute-dx .ensures .kept .size))
-
-compute-complement-requires-2 : tie.Need-compute-complement-requires-2
-compute-complement-requires-2 c κs = (before (omega arith), before (omega (arith, c .before .before .before .before .before .before .before .before .before .before .before .before .before .before .before .before .before .before .before .before .before .before .before .before .before .before .before .before .before .before .before .before .before .before .before .before .before .before .before .before .pre .6)), before (omega (arith, c .before .before .before .before .before .before .before .before .before .before .before .before .before .before .before .before .before .before .before .before .before .before .before .before .before .before .before .before .before .before .before .before .before .before .before .before .before .before .before .before .pre .6)), omega (arith, c .before .before .before .before .before .before .before .before .before .before .before .before .before .before .before .before .before .before .before .before .before .before .before .before .before .before .before .before .before .before .before .before .before .before .before .before .before .before .before .before .pre .8, c .before .before .before .before .before .before .before .before .before .before .before .before .before .before .before .before .before .before .before .before .before .before .before .before .before .before .before .before .before .before .before .before .before .before .before .before .before .before .before .before .pre .6, c .before .before .before .before .before .before .before .before .before .before .before .before .before .before .before .before .before .before .before .before .before .before .before .rhs-u .ensures .kept .size, c .before .before .before .before .before .before .before .before .before .before .before .before .before .before .before .before .before .before .before .rhs-f .ensures .kept .size, c .before .before .before .before .before .before .before .before .before .before .before .before .before .before .before .factorise .ensures .0 .size, c .before .before .before .before .before .before .before .before .before .before .before .cholesky-solve .ensures .kept .size, c .before .before .before .before .before .before .before .compute-dx .ensures .kept .size, c .before .before .before .compute-complement .ensures .kept .size), omega (arith, c .before .before .before .before .before .before .before .before .before .before .before .before .before .before .before .before .before .before .before .before .before .before .before .before .before .before .before .before .before .before .before .before .before .before .before .before .before .before .before .before .pre .8, c .before .before .before .before .before .before .before .before .before .before .before .before .before .before .before .before .before .before .before .before .before .before .before .before .before .before .before .before .before .before .before .before .before .before .before .before .before .before .before .before .pre .6, c .before .before .before .before .before .before .before .before .before .before .before .before .before .before .before .before .before .before .before .before .before .before .before .rhs-u .ensures .kept .size, c .before .before .before .before .before .before .before .before .before .before .before .before .before .before .before .before .before .before .before .rhs-f .ensures .kept .size, c .before .before .before .before .before .before .before .before .before .before .before .before .before .before .before .factorise .ensures .0 .size, c .before .before .before .before .before .before .before .before .before .before .before .cholesky-solve .ensures .kept .size, c .before .before .before .before .before .before .before .compute-dx .ensures .kept .size, c .before .before .before .compute-complement .ensures .kept .size), omega (arith, c .before .before .before .before .before .before .before .before .before .before .before .before .before .before .before .before .before .before .before .before .before .before .before .before .before .before .before .before .before .before .before .before .before .before .before .before .before .before .before .before .pre .8, c .before .before .before .before .before .before .before .before .before .before .before .before .before .before .before .before .before .before .before .before .before .before .before .before .before .before .before .before .before .before .before .before .before .before .before .before .before .before .before .before .pre .6, c .before .before .before .before .before .before .before .before .before .before .before .before .before .before .before .before .before .before .before .before .before .before .before .rhs-u .ensures .kept .size, c .before .before .before .before .before .before .before .before .before .before .before .before .before .before .before .before .before .before .before .rhs-f .ensures .kept .size, c .before .before .before .before .before .before .before .before .before .before .before .before .before .before .before .factorise .ensures .0 .size, c .before .before .before .before .before .before .before .before .before .before .before .cholesky-solve .ensures .kept .size, c .before .before .before .before .before .before .before .compute-dx .ensures .kept .size, c .before .before .before .compute-complement .ensures .kept .size), omega (arith, c .before .before .before .before .before .before .before .before .before .before .before .before .before .before .before .before .before .before .before .before .before .before .before .before .before .before .before .before .before .before .before .before .before .before .before .before .before .before .before .before .pre .8, c .before .before .before .before .before .before .before .before .before .before .before .before .before .before .before .before .before .before .before .before .before .before .before .before .before .before .before .before .before .before .before .before .before .before .before .before .before .before .before .before .pre .6, c .before .before .before .before .before .before .before .before .before .before .before .before .before .before .before .before .before .before .before .before .before .before .before .rhs-u .ensures .kept .size, c .before .before .before .before .before .before .before .before .before .before .before .before .before .before .before .before .before .before .before .rhs-f .ensures .kept .size, c .before .before .before .before .before .before .before .before .before .before .before .before .before .before .before .factorise .ensures .0 .size, c .before .before .before .before .before .before .before .before .before .before .before .cholesky-solve .ensures .kept .size, c .before .before .before .before .before .before .before .compute-dx .ensures .kept .size, c .before .before .before .compute-complement .ensures .kept .size))
+compute-dx-dz-dw-requires : tie.Need-compute-dx-dz-dw-requires
+compute-dx-dz-dw-requires c κs =
+    let e = c .before .before .before .before .before .before .before .before .before .before .before .before .before .before .before .before .before .before .before .before .before .before .before .before .before .before .before .before .before .before .before .before .before .before .before .before in
+    let z = c .before .before .before .before .before .before .before .before .before .before .before .normal-eqn-rhs .ensures .still .frame .size in
+    let y = c .before .before .before .before .before .before .before .normal-matrix-cholesky-decomposition .ensures .kept .size in
+    let x = c .before .before .before .cholesky-solve .ensures .kept .size in
+    (cols-for (e .pre .0), e .pre .1, omega (arith, e .pre .2, x, y, z))
 
 same-length : tie.Need-same-length
-same-length c = c .before .before .compute-complement2 .ensures .kept .size ∙ c .before .before .before .before .before .before .compute-complement .ensures .kept .size ∙ c .before .before .before .before .before .before .before .before .before .before .compute-dx .ensures .kept .size ∙ c .before .before .before .before .before .before .before .before .before .before .before .before .before .before .cholesky-solve .ensures .kept .size ∙ c .before .before .before .before .before .before .before .before .before .before .before .before .before .before .before .before .before .before .factorise .ensures .0 .size ∙ c .before .before .before .before .before .before .before .before .before .before .before .before .before .before .before .before .before .before .before .before .before .before .rhs-f .ensures .kept .size ∙ c .before .before .before .before .before .before .before .before .before .before .before .before .before .before .before .before .before .before .before .before .before .before .before .before .before .before .rhs-u .ensures .kept .size
+same-length c = search needs
 
 returns : tie.Need-returns
 returns c =
-    directed (problemOf (c .before .before .before .before .before .before .before .before .before .before .before .before .before .before .before .before .before .before .before .before .before .before .before .before .before .before .before .before .before .before .before .before .before .before .before .before .before .before .before .before .before .before .before .args .m) (c .before .before .before .before .before .before .before .before .before .before .before .before .before .before .before .before .before .before .before .before .before .before .before .before .before .before .before .before .before .before .before .before .before .before .before .before .before .before .before .before .before .before .before .args .n) (c .before .before .before .before .before .before .before .before .before .before .before .before .before .before .before .before .before .before .before .before .before .before .before .before .before .before .before .before .before .before .before .before .before .before .before .before .before .before .before .before .before .before .before .args .s) (c .before .before .before .before .before .before .before .before .before .before .before .before .before .before .before .before .before .before .before .before .before .before .before .before .before .before .before .before .before .before .before .before .before .before .before .before .before .before .before .before .before .before .before .args .off .now) (c .before .before .before .before .before .before .before .before .before .before .before .before .before .before .before .before .before .before .before .before .before .before .before .before .before .before .before .before .before .before .before .before .before .before .before .before .before .before .before .before .before .before .before .args .cols .now) (c .before .before .before .before .before .before .before .before .before .before .before .before .before .before .before .before .before .before .before .before .before .before .before .before .before .before .before .before .before .before .before .before .before .before .before .before .before .before .before .before .before .before .before .args .vals .now)) standard (laneData (callOf (c .before .before .before .before .before .before .before .before .before .before .before .before .before .before .before .before .before .before .before .before .before .before .before .before .before .before .before .before .before .before .before .before .before .before .before .before .before .before .before .before .before .before .before .args .m) (c .before .before .before .before .before .before .before .before .before .before .before .before .before .before .before .before .before .before .before .before .before .before .before .before .before .before .before .before .before .before .before .before .before .before .before .before .before .before .before .before .before .before .before .args .n) (c .before .before .before .before .before .before .before .before .before .before .before .before .before .before .before .before .before .before .before .before .before .before .before .before .before .before .before .before .before .before .before .before .before .before .before .before .before .before .before .before .before .before .before .args .s) (c .before .before .before .before .before .before .before .before .before .before .before .before .before .before .before .before .before .before .before .before .before .before .before .before .before .before .before .before .before .before .before .before .before .before .before .before .before .before .before .before .before .before .before .args .off .now) (c .before .before .before .before .before .before .before .before .before .before .before .before .before .before .before .before .before .before .before .before .before .before .before .before .before .before .before .before .before .before .before .before .before .before .before .before .before .before .before .before .before .before .before .args .cols .now) (c .before .before .before .before .before .before .before .before .before .before .before .before .before .before .before .before .before .before .before .before .before .before .before .before .before .before .before .before .before .before .before .before .before .before .before .before .before .before .before .before .before .before .before .args .vals .now) (c .before .before .before .before .before .before .before .before .before .before .before .before .before .before .before .before .before .before .before .before .before .before .before .before .before .before .before .before .before .before .before .before .before .before .before .before .before .before .before .before .before .before .before .args .b .now) (c .before .before .before .before .before .before .before .before .before .before .before .before .before .before .before .before .before .before .before .before .before .before .before .before .before .before .before .before .before .before .before .before .before .before .before .before .before .before .before .before .before .before .before .args .c .now) (c .before .before .before .before .before .before .before .before .before .before .before .before .before .before .before .before .before .before .before .before .before .before .before .before .before .before .before .before .before .before .before .before .before .before .before .before .before .before .before .before .before .before .before .args .tol .now))) (c .before .before .before .before .before .before .before .before .before .before .before .before .before .before .before .before .before .before .before .before .before .before .before .before .before .before .before .before .before .before .before .before .before .before .before .before .before .before .before .before .before .before .before .args .mu) (c .before .before .before .before .before .before .before .before .before .before .before .before .before .before .before .before .before .before .before .before .before .before .before .before .before .before .before .before .before .before .before .before .before .before .before .before .before .before .before .before .before .before .before .args .toff .now) (c .before .before .before .before .before .before .before .before .before .before .before .before .before .before .before .before .before .before .before .before .before .before .before .before .before .before .before .before .before .before .before .before .before .before .before .before .before .before .before .before .before .before .before .args .rows .now) (c .before .before .before .before .before .before .before .before .before .before .before .before .before .before .before .before .before .before .before .before .before .before .before .before .before .before .before .before .before .before .before .before .before .before .before .before .before .before .before .before .before .before .before .args .places .now) (c .before .before .before .before .before .before .before .before .before .before .before .before .before .before .before .before .before .before .before .before .before .before .before .before .before .before .before .before .before .before .before .before .before .before .before .before .before .before .before .before .before .before .before .args .ptr .now) (c .before .before .before .before .before .before .before .before .before .before .before .before .before .before .before .before .before .before .before .before .before .before .before .before .before .before .before .before .before .before .before .before .before .before .before .before .before .before .before .before .before .before .before .args .ind .now) (c .before .before .before .before .before .before .before .before .before .before .before .before .before .before .before .before .before .before .before .before .before .before .before .before .before .before .before .before .before .before .before .before .before .before .before .before .before .before .before .before .before .before .before .args .tptr .now) (c .before .before .before .before .before .before .before .before .before .before .before .before .before .before .before .before .before .before .before .before .before .before .before .before .before .before .before .before .before .before .before .before .before .before .before .before .before .before .before .before .before .before .before .args .tind .now) (c .before .before .before .before .before .before .before .before .before .before .before .before .before .before .before .before .before .before .before .before .before .before .before .before .before .before .before .before .before .before .before .before .before .before .before .before .before .before .before .before .before .before .before .args .tmap .now) (c .before .before .before .before .before .before .before .before .before .before .before .before .before .before .before .before .before .before .before .before .before .before .before .before .before .before .before .before .before .before .before .before .before .before .before .before .before .before .before .before .before .before .before .args .count) (c .before .before .before .before .before .before .before .before .before .before .before .before .before .before .before .before .before .before .before .before .before .before .before .before .before .before .before .before .before .before .before .before .before .before .before .before .before .before .before .before .before .before .before .pre .0) (c .before .before .before .before .before .before .before .before .before .before .before .before .before .before .before .before .before .before .before .before .before .before .before .before .before .before .before .before .before .before .before .before .before .before .before .before .before .before .before .before .before .before .before .pre .1) (c .before .before .before .before .before .before .before .before .before .before .before .before .before .before .before .before .before .before .before .before .before .before .before .before .before .before .before .before .before .before .before .before .before .before .before .before .before .before .before .before .before .before .before .pre .2) (c .before .before .before .before .before .before .before .before .before .before .before .before .before .before .before .before .before .before .before .before .before .before .before .before .before .before .before .before .before .before .before .before .before .before .before .before .before .before .before .before .before .before .before .pre .3) (c .before .before .before .before .before .before .before .before .before .before .before .before .before .before .before .before .before .before .before .before .before .before .before .before .before .before .before .before .before .before .before .before .before .before .before .before .before .before .before .before .before .before .before .pre .6)
-    (c .before .before .before .before .before .before .before .before .before .before .before .before .before .before .before .before .before .before .before .before .before .before .before .before .before .before .rhs-u .ensures) (c .before .before .before .before .before .before .before .before .before .before .before .before .before .before .before .before .before .before .before .before .before .before .rhs-f .ensures) (c .before .before .before .before .before .before .before .before .before .before .before .before .before .before .before .before .before .before .factorise .ensures .0) (c .before .before .before .before .before .before .before .before .before .before .before .before .before .before .before .before .before .before .factorise .ensures .1) (c .before .before .before .before .before .before .before .before .before .before .before .before .before .before .cholesky-solve .ensures) (c .before .before .before .before .before .before .before .before .before .before .compute-dx .ensures) (c .before .before .before .before .before .before .compute-complement .ensures) (c .before .before .compute-complement2 .ensures)
+    let e = c .before .before .before .before .before .before .before .before .before .before .before .before .before .before .before .before .before .before .before .before .before .before .before .before .before .before .before .before .before .before .before .before .before .before .before .before .before .before .before in
+    let p = e .pre .0 in
+    let f = c .before .before .before .before .before .before .before .before .before .before .normal-matrix-cholesky-decomposition .ensures in
+    directed _ _ (laneData (callOf (e .args .m) (e .args .n) (e .args .s) (e .args .off .now) (e .args .cols .now) (e .args .vals .now) (e .args .b .now) (e .args .c .now) (e .args .tol .now))) _ _ _ _ _ _ _ (low-for p) (high-for p) (c .before .before .before .before .before .before .before .before .before .before .before .before .before .before .normal-eqn-rhs .ensures) (kept-for p f) (held-for p f) (c .before .before .before .before .before .before .cholesky-solve .ensures) (c .before .before .compute-dx-dz-dw .ensures)
 
 pub directions-spec : {M : Type 1} → statement M
-directions-spec =
-    tie.close
-    (tie.spec
-    mul-dx
-    mul-dz
-    mul-tmp
-    mul-y
-    add-dy
-    add-rhs
-    add-w
-    add-dw
-    add-l
-    rhs-u-requires
-    rhs-f-requires
-    factorise-requires
-    cholesky-solve-requires
-    compute-dx-requires
-    compute-complement-requires
-    compute-complement-requires-2
-    same-length
-    returns)
+directions-spec = tie.close (tie.spec mul-y add-dy add-rhs add-w add-l add-l-2 normal-eqn-rhs-requires normal-matrix-cholesky-decomposition-requires cholesky-solve-requires compute-dx-dz-dw-requires same-length returns)

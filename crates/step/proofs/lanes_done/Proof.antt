@@ -1,21 +1,7 @@
-use mathlib.Core.Path.{_≡_, _∙_, ap, sym, refl, subst}
-use mathlib.Core.List.{List}
-use Prim.Native.Nat.{ℕ, _-_, _+_, _*_, _≤_, _<_}
-use lib.ListN.{length, getD}
-use Rattle.machine.specs.Machine.{standard}
-use Rattle.machine.specs.Outcome.{laneData}
-use Rattle.machine.specs.Work.{callOf, problemOf}
-use Rattle.lanes.specs.Region.{before, after}
-use Rattle.sparse.specs.Sparse.{High}
-use Rattle.lanes.proofs.Consts.{null-bits, damping-bits}
-use Rattle.lanes.proofs.Quads.{four-lanes}
-use Rattle.step.proofs.Tests.{mu-lanes, by-statuses}
 use borrow.Author.Needs.{needs}
+use Rattle.lanes.proofs.Quads.{four-lanes}
 use Rattle.step.proofs.lanes_done.Statement.{statement}
 use Rattle.step.proofs.lanes_done.Tie as tie
-use Rattle.step.proofs.lanes_done.Reads as reads
-use Rattle.step.proofs.lanes_done.Lts as lts
-use Rattle.machine.proofs.is_done.Reads as is-done-reads
 
 array-copy-out-a : tie.Need-array-copy-out-a
 array-copy-out-a c = search needs
@@ -45,15 +31,4 @@ returns : tie.Need-returns
 returns c = four-lanes _ (c .before .before .before .is-done .ensures) (c .before .before .is-done2 .ensures) (c .before .is-done3 .ensures) (c .is-done4 .ensures)
 
 pub lanes-done-spec : {M : Type 1} → statement M
-lanes-done-spec =
-    tie.close
-    (tie.spec
-    array-copy-out-a
-    array-copy-out-b
-    array-copy-out-c
-    array-copy-out-d
-    is-done-requires
-    is-done-requires-2
-    is-done-requires-3
-    is-done-requires-4
-    returns)
+lanes-done-spec = tie.close (tie.spec array-copy-out-a array-copy-out-b array-copy-out-c array-copy-out-d is-done-requires is-done-requires-2 is-done-requires-3 is-done-requires-4 returns)

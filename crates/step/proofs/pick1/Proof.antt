@@ -1,19 +1,6 @@
-use mathlib.Core.Path.{_≡_, _∙_, ap, sym, refl, subst}
-use mathlib.Core.List.{List}
-use Prim.Native.Nat.{ℕ, _-_, _+_, _*_, _≤_, _<_}
-use lib.ListN.{length, getD}
-use Rattle.machine.specs.Machine.{standard}
-use Rattle.machine.specs.Outcome.{laneData}
-use Rattle.machine.specs.Work.{callOf, problemOf}
-use Rattle.lanes.specs.Region.{before, after}
-use Rattle.sparse.specs.Sparse.{High}
-use Rattle.lanes.proofs.Consts.{null-bits, damping-bits}
-use Rattle.step.proofs.Steps.{directed, advanced, took}
-use borrow.Author.Needs.{needs}
+use Rattle.lanes.proofs.Consts.{null-bits}
 use Rattle.step.proofs.pick1.Statement.{statement}
 use Rattle.step.proofs.pick1.Tie as tie
-use Rattle.step.proofs.pick1.Reads as reads
-use Rattle.step.proofs.pick1.Lts as lts
 
 returns : tie.Need-returns
 returns c = simp (c .if1 .taken, null-bits)

@@ -1,20 +1,6 @@
-use mathlib.Core.Path.{_≡_, _∙_, ap, sym, refl, subst}
-use mathlib.Core.List.{List}
-use Prim.Native.Nat.{ℕ, _-_, _+_, _*_, _≤_, _<_}
-use lib.ListN.{length, getD}
-use Rattle.machine.specs.Machine.{standard}
-use Rattle.machine.specs.Outcome.{laneData}
-use Rattle.machine.specs.Work.{callOf, problemOf}
-use Rattle.lanes.specs.Region.{before, after}
-use Rattle.sparse.specs.Sparse.{High}
-use Rattle.lanes.proofs.Consts.{null-bits, damping-bits}
-use Rattle.step.proofs.Steps.{directed, advanced, took}
 use borrow.Author.Needs.{needs}
 use Rattle.step.proofs.pick4.Statement.{statement}
 use Rattle.step.proofs.pick4.Tie as tie
-use Rattle.step.proofs.pick4.Reads as reads
-use Rattle.step.proofs.pick4.Lts as lts
-use Rattle.step.proofs.pick1.Reads as pick1-reads
 
 array-read-pick1 : tie.Need-array-read-pick1
 array-read-pick1 c = search needs
@@ -56,19 +42,4 @@ returns : tie.Need-returns
 returns c = rw (c .pick14 .ensures, c .before .pick13 .ensures, c .before .before .pick12 .ensures, c .before .before .before .pick1 .ensures)
 
 pub pick4-spec : {M : Type 1} → statement M
-pick4-spec =
-    tie.close
-    (tie.spec
-    array-read-pick1
-    array-read-pick1-2
-    pick1-requires
-    array-read-pick1-3
-    array-read-pick1-4
-    pick1-requires-2
-    array-read-pick1-5
-    array-read-pick1-6
-    pick1-requires-3
-    array-read-pick1-7
-    array-read-pick1-8
-    pick1-requires-4
-    returns)
+pick4-spec = tie.close (tie.spec array-read-pick1 array-read-pick1-2 pick1-requires array-read-pick1-3 array-read-pick1-4 pick1-requires-2 array-read-pick1-5 array-read-pick1-6 pick1-requires-3 array-read-pick1-7 array-read-pick1-8 pick1-requires-4 returns)

@@ -1,10 +1,7 @@
 use Rattle.lanes.proofs.Consts.{thousand-bits}
 use Rattle.lanes.proofs.LaneState.new.Statement.{statement}
 use Rattle.lanes.proofs.LaneState.new.Tie as tie
-use Rattle.lanes.proofs.LaneState.new.Reads as reads
-use Rattle.lanes.proofs.LaneState.new.Lts as lts
 
--- src/lib.rt:118:5
 returns : tie.Need-returns
 returns c = (thousand-bits, thousand-bits, thousand-bits, thousand-bits)
 

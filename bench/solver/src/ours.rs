@@ -1,0 +1,54 @@
+//! The static library, with memory lent once for all calls.
+
+use ipm::library::{self, Answer, Lent, Sides};
+
+use crate::problem::{LANES, Problem};
+
+pub struct Ours {
+    matrix: library::Matrix,
+    problem: Problem,
+    output: Vec<f64>,
+    index: Vec<u32>,
+    work: Vec<f64>,
+}
+
+impl Ours {
+    /// Lends exactly W words and F numbers; `words` is W and `stored` is E.
+    pub fn new(problem: &Problem, words: usize, stored: usize) -> Self {
+        let matrix = &problem.matrix;
+        let work = LANES * (5 * matrix.n + 3 * matrix.m + 2 * problem.s + stored);
+        Ours {
+            matrix: library::Matrix {
+                m: matrix.m,
+                n: matrix.n,
+                s: problem.s,
+                offsets: matrix.offsets.clone(),
+                columns: matrix.columns.clone(),
+                values: problem.values.clone(),
+            },
+            problem: problem.clone(),
+            output: vec![0.0; LANES * matrix.n],
+            index: vec![0; words],
+            work: vec![0.0; work],
+        }
+    }
+
+    pub fn plan(&mut self) -> Answer {
+        library::plan(&self.matrix, &mut self.index)
+    }
+
+    pub fn solve(&mut self, limit: usize) -> Answer {
+        let Problem { b, c, tolerances, .. } = &self.problem;
+        let sides = Sides { b, c, tolerances, limit };
+        let lent = Lent { output: &mut self.output, index: &mut self.index, work: &mut self.work };
+        library::solve(&self.matrix, sides, lent)
+    }
+
+    pub fn words(&self) -> &[u32] {
+        &self.index
+    }
+
+    pub fn x(&self) -> &[f64] {
+        &self.output
+    }
+}

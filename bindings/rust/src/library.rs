@@ -1,0 +1,153 @@
+//! The static library's functions over memory that the caller lends, with slices for pointers and lengths. `ipm.h` says
+//! what each part has to hold. This is the only unsafe code of the crate.
+
+mod extern_c {
+    unsafe extern "C" {
+        pub fn ipm_plan(
+            m: usize,
+            n: usize,
+            offsets: *const u32,
+            offsets_len: usize,
+            columns: *const u32,
+            columns_len: usize,
+            index: *mut u32,
+            index_len: usize,
+        ) -> u64;
+
+        pub fn ipm_solve(
+            m: usize,
+            n: usize,
+            s: usize,
+            offsets: *const u32,
+            offsets_len: usize,
+            columns: *const u32,
+            columns_len: usize,
+            values: *const f64,
+            values_len: usize,
+            b: *const f64,
+            b_len: usize,
+            c: *const f64,
+            c_len: usize,
+            tolerances: *const f64,
+            tolerances_len: usize,
+            limit: usize,
+            output: *mut f64,
+            output_len: usize,
+            index: *mut u32,
+            index_len: usize,
+            work: *mut f64,
+            work_len: usize,
+        ) -> u64;
+
+        pub safe fn ipm_root_bits(bits: u64) -> u64;
+    }
+}
+
+/// An answer taken apart. Question 0 is a yes, and its place is W or the test.
+#[derive(Clone, Copy, Debug, PartialEq, Eq)]
+pub struct Answer {
+    pub question: u32,
+    pub place: u32,
+    pub lane: u8,
+}
+
+impl Answer {
+    /// question · 2^40 + place · 2^8 + lane.
+    fn from_code(code: u64) -> Self {
+        Answer { question: (code >> 40) as u32, place: (code >> 8) as u32, lane: code as u8 }
+    }
+}
+
+/// The matrix lent, m rows by n columns, and its first s rows that are inequalities.
+#[derive(Clone, Debug)]
+pub struct Matrix {
+    pub m: usize,
+    pub n: usize,
+    pub s: usize,
+    pub offsets: Vec<u32>,
+    pub columns: Vec<u32>,
+    pub values: Vec<f64>,
+}
+
+/// What a solve reads besides the matrix.
+#[derive(Clone, Copy)]
+pub struct Sides<'a> {
+    pub b: &'a [f64],
+    pub c: &'a [f64],
+    pub tolerances: &'a [f64],
+    pub limit: usize,
+}
+
+/// The memory that a solve writes.
+pub struct Lent<'a> {
+    pub output: &'a mut [f64],
+    pub index: &'a mut [u32],
+    pub work: &'a mut [f64],
+}
+
+/// Questions 1 to 6 and the plan.
+pub fn plan(matrix: &Matrix, index: &mut [u32]) -> Answer {
+    // Safety: every pointer comes with the length of its own slice, and slices of Rust that are written do not overlap
+    // others.
+    Answer::from_code(unsafe {
+        extern_c::ipm_plan(
+            matrix.m,
+            matrix.n,
+            matrix.offsets.as_ptr(),
+            matrix.offsets.len(),
+            matrix.columns.as_ptr(),
+            matrix.columns.len(),
+            index.as_mut_ptr(),
+            index.len(),
+        )
+    })
+}
+
+/// Questions 1 to 12 and x.
+pub fn solve(matrix: &Matrix, sides: Sides<'_>, lent: Lent<'_>) -> Answer {
+    // Safety: as for `plan`.
+    Answer::from_code(unsafe {
+        extern_c::ipm_solve(
+            matrix.m,
+            matrix.n,
+            matrix.s,
+            matrix.offsets.as_ptr(),
+            matrix.offsets.len(),
+            matrix.columns.as_ptr(),
+            matrix.columns.len(),
+            matrix.values.as_ptr(),
+            matrix.values.len(),
+            sides.b.as_ptr(),
+            sides.b.len(),
+            sides.c.as_ptr(),
+            sides.c.len(),
+            sides.tolerances.as_ptr(),
+            sides.tolerances.len(),
+            sides.limit,
+            lent.output.as_mut_ptr(),
+            lent.output.len(),
+            lent.index.as_mut_ptr(),
+            lent.index.len(),
+            lent.work.as_mut_ptr(),
+            lent.work.len(),
+        )
+    })
+}
+
+/// See [`crate::root_bits`].
+pub fn root_bits(bits: u64) -> u64 {
+    extern_c::ipm_root_bits(bits)
+}
+
+#[cfg(test)]
+mod tests {
+    use super::*;
+
+    #[test]
+    fn an_answer_is_taken_apart() {
+        let code = (11 << 40) + (10_000 << 8) + 3;
+        assert_eq!(Answer::from_code(code), Answer { question: 11, place: 10_000, lane: 3 });
+        let widest = (12 << 40) + (u64::from(u32::MAX) << 8) + 255;
+        assert_eq!(Answer::from_code(widest), Answer { question: 12, place: u32::MAX, lane: 255 });
+    }
+}

@@ -1,0 +1,172 @@
+//! The solver: it sizes and owns the memory lent to the library.
+
+use std::num::NonZeroUsize;
+
+use crate::library::{self, Lent, Matrix, Sides};
+use crate::{LANES, Refusal};
+
+const MOST_ROWS: usize = 256;
+const MOST_COLUMNS: usize = 1024;
+const MOST_ENTRIES: usize = 16384;
+
+/// The question that follows 1 to 7.
+const LENGTHS: u32 = 8;
+
+/// What each lane's residuals have to stay below.
+#[derive(Clone, Copy, Debug, PartialEq)]
+pub struct Tolerances {
+    pub primal_feasibility: [f64; LANES],
+    pub dual_feasibility: [f64; LANES],
+    pub optimality: [f64; LANES],
+}
+
+impl Default for Tolerances {
+    fn default() -> Self {
+        let each = [1e-8; LANES];
+        Tolerances { primal_feasibility: each, dual_feasibility: each, optimality: each }
+    }
+}
+
+impl Tolerances {
+    fn listed(&self) -> [[f64; LANES]; 3] {
+        [self.primal_feasibility, self.dual_feasibility, self.optimality]
+    }
+}
+
+/// One lane's right side (a number for each row) and objective (a number for each column).
+#[derive(Clone, Copy, Debug)]
+pub struct Lane<'a> {
+    pub b: &'a [f64],
+    pub c: &'a [f64],
+}
+
+/// The four lanes' x.
+#[derive(Clone, Copy, Debug, PartialEq)]
+pub struct Solution<'a> {
+    /// For each column the number of each lane.
+    pub x: &'a [[f64; LANES]],
+    /// The test, counted from 1, at which all lanes were done.
+    pub test: usize,
+}
+
+impl<'a> Solution<'a> {
+    /// One lane's x, column by column.
+    pub fn lane(&self, lane: usize) -> impl Iterator<Item = f64> + 'a {
+        self.x.iter().map(move |entry| entry[lane])
+    }
+}
+
+/// A matrix with the memory that its solves need.
+#[derive(Clone, Debug)]
+pub struct Solver {
+    matrix: Matrix,
+    output: Vec<[f64; LANES]>,
+    index: Vec<u32>,
+    work: Vec<f64>,
+}
+
+impl Solver {
+    /// Takes a matrix in compressed rows; its first `num_inequality_constraints` rows are inequalities. Refuses what
+    /// any solve would refuse: questions 1 to 7.
+    pub fn from_data(
+        num_rows: usize,
+        num_cols: usize,
+        row_offsets: Vec<usize>,
+        col_indices: Vec<usize>,
+        values: Vec<f64>,
+        num_inequality_constraints: usize,
+    ) -> Result<Self, Refusal> {
+        let matrix = Matrix {
+            m: num_rows,
+            n: num_cols,
+            s: num_inequality_constraints,
+            offsets: words(&row_offsets),
+            columns: words(&col_indices),
+            values,
+        };
+        let mut index = vec![0; index_enough(&matrix)];
+        ask_about(&matrix, &mut index)?;
+        let plan_words = Refusal::unless_yes(library::plan(&matrix, &mut index))?;
+        index.truncate(plan_words);
+        index.shrink_to_fit();
+        let (output, work) = (vec![[0.0; LANES]; matrix.n], vec![0.0; work_enough(&matrix)]);
+        Ok(Solver { matrix, output, index, work })
+    }
+
+    /// Solves the four lanes. Entry k of `b` and `c` holds the four lanes of row or column k.
+    pub fn solve(
+        &mut self,
+        b: &[[f64; LANES]],
+        c: &[[f64; LANES]],
+        tolerances: &Tolerances,
+        max_iterations: NonZeroUsize,
+    ) -> Result<Solution<'_>, Refusal> {
+        let listed = tolerances.listed();
+        let sides = Sides {
+            b: b.as_flattened(),
+            c: c.as_flattened(),
+            tolerances: listed.as_flattened(),
+            limit: max_iterations.get(),
+        };
+        let lent = Lent { output: self.output.as_flattened_mut(), index: &mut self.index, work: &mut self.work };
+        let test = Refusal::unless_yes(library::solve(&self.matrix, sides, lent))?;
+        Ok(Solution { x: &self.output, test })
+    }
+
+    /// Solves four problems given one by one.
+    pub fn solve_lanes(
+        &mut self,
+        lanes: [Lane<'_>; LANES],
+        tolerances: &Tolerances,
+        max_iterations: NonZeroUsize,
+    ) -> Result<Solution<'_>, Refusal> {
+        let b = together(lanes.map(|lane| lane.b), self.matrix.m)?;
+        let c = together(lanes.map(|lane| lane.c), self.matrix.n)?;
+        self.solve(&b, &c, tolerances, max_iterations)
+    }
+}
+
+/// Sizes as the library takes them. One that does not fit is beyond every limit, and so is the largest that does.
+fn words(sizes: &[usize]) -> Vec<u32> {
+    sizes.iter().map(|&size| u32::try_from(size).unwrap_or(u32::MAX)).collect()
+}
+
+/// For each entry its four lanes.
+fn together(lanes: [&[f64]; LANES], length: usize) -> Result<Vec<[f64; LANES]>, Refusal> {
+    if lanes.iter().any(|lane| lane.len() != length) {
+        return Err(Refusal::Lengths);
+    }
+    Ok((0..length).map(|k| lanes.map(|lane| lane[k])).collect())
+}
+
+/// Questions 1 to 7. A solve that is lent no b has a no at 8 once these have a yes, and changes nothing.
+fn ask_about(matrix: &Matrix, index: &mut [u32]) -> Result<(), Refusal> {
+    let sides = Sides { b: &[], c: &[], tolerances: &[], limit: 1 };
+    let answer = library::solve(matrix, sides, Lent { output: &mut [], index, work: &mut [] });
+    if answer.question == LENGTHS {
+        return Ok(());
+    }
+    Refusal::unless_yes(answer).map(|_| ())
+}
+
+/// The entries of a full factor: all pairs of rows.
+fn full_factor(m: usize) -> usize {
+    m * (m + 1) / 2
+}
+
+/// Index words that are enough, as though the factor were full. Sizes that are refused anyway need none.
+fn index_enough(matrix: &Matrix) -> usize {
+    let (m, n, t) = (matrix.m, matrix.n, matrix.columns.len());
+    if m > MOST_ROWS || n > MOST_COLUMNS || t > MOST_ENTRIES {
+        return 0;
+    }
+    let stored = full_factor(m);
+    let shared = t * (m + 1) / 2;
+    let products = stored * (m + 2) / 3 - stored;
+    5 * stored + 3 * shared + 2 * products + 3 * m + n + 2 * t + 5
+}
+
+/// Working numbers that are enough for a matrix whose sizes have been accepted.
+fn work_enough(matrix: &Matrix) -> usize {
+    LANES * (5 * matrix.n + 3 * matrix.m + 2 * matrix.s + full_factor(matrix.m))
+}

@@ -1,0 +1,138 @@
+//! Answers of the library through the safe interface.
+
+use std::num::NonZeroUsize;
+
+use ipm::{LANES, Lane, Refusal, Solver, Tolerances};
+
+fn limit(tests: usize) -> NonZeroUsize {
+    NonZeroUsize::new(tests).expect("not 0")
+}
+
+fn everywhere(tolerance: f64) -> Tolerances {
+    let each = [tolerance; LANES];
+    Tolerances { primal_feasibility: each, dual_feasibility: each, optimality: each }
+}
+
+/// One row, one column, all numbers 1.
+fn smallest() -> Solver {
+    Solver::from_data(1, 1, vec![0, 1], vec![0], vec![1.0], 1).expect("a right matrix")
+}
+
+/// x0 + x1 ≤ b0, x0 ≤ b1, x1 ≤ b2.
+fn three_rows() -> Solver {
+    Solver::from_data(3, 2, vec![0, 2, 3, 4], vec![0, 1, 0, 1], vec![1.0; 4], 3).expect("a right matrix")
+}
+
+const SIDES: [[f64; 3]; LANES] = [[4.0, 3.0, 2.0], [5.0, 3.0, 2.0], [2.0, 3.0, 2.0], [10.0, 1.0, 1.0]];
+const BEST: [[f64; 2]; LANES] = [[3.0, 1.0], [3.0, 2.0], [2.0, 0.0], [1.0, 1.0]];
+
+fn lanes(sides: &[[f64; 3]; LANES]) -> [Lane<'_>; LANES] {
+    sides.each_ref().map(|b| Lane { b, c: &[2.0, 1.0] })
+}
+
+#[test]
+fn wide_tolerances_are_met_at_test_1() {
+    let mut solver = smallest();
+    let solution = solver.solve(&[[1.0; LANES]], &[[1.0; LANES]], &everywhere(1e9), limit(1)).expect("a yes");
+    assert_eq!(solution.test, 1);
+    assert_eq!(solution.x, [[1000.0; LANES]]);
+}
+
+#[test]
+fn each_lane_has_its_own_best() {
+    let mut solver = three_rows();
+    let solution = solver.solve_lanes(lanes(&SIDES), &Tolerances::default(), limit(100)).expect("a yes");
+    for (lane, best) in BEST.iter().enumerate() {
+        let x: Vec<f64> = solution.lane(lane).collect();
+        assert!(x.iter().zip(best).all(|(p, q)| (p - q).abs() < 1e-6), "lane {lane}: {x:?}");
+    }
+}
+
+#[test]
+fn a_solver_is_used_again() {
+    let mut solver = three_rows();
+    let first = solver.solve_lanes(lanes(&SIDES), &Tolerances::default(), limit(100)).expect("a yes").x.to_vec();
+    let mut turned = SIDES;
+    turned.rotate_right(1);
+    let second = solver.solve_lanes(lanes(&turned), &Tolerances::default(), limit(100)).expect("a yes").x.to_vec();
+    for (p, q) in first.iter().zip(&second) {
+        assert_eq!(p.map(f64::to_bits), [q[1], q[2], q[3], q[0]].map(f64::to_bits), "lanes do not meet");
+    }
+}
+
+#[test]
+fn interleaved_and_one_by_one_agree() {
+    let mut solver = three_rows();
+    let one_by_one = solver.solve_lanes(lanes(&SIDES), &Tolerances::default(), limit(100)).expect("a yes").x.to_vec();
+    let b: [[f64; LANES]; 3] = std::array::from_fn(|row| SIDES.map(|side| side[row]));
+    let c = [[2.0; LANES], [1.0; LANES]];
+    let together = solver.solve(&b, &c, &Tolerances::default(), limit(100)).expect("a yes");
+    assert_eq!(together.x, one_by_one);
+}
+
+#[test]
+fn matrices_are_refused_at_once() {
+    let refusal = |m, n, offsets: &[usize], columns: &[usize], values: usize, s| {
+        Solver::from_data(m, n, offsets.to_vec(), columns.to_vec(), vec![1.0; values], s).err()
+    };
+    assert_eq!(refusal(0, 1, &[0], &[], 0, 0), Some(Refusal::Rows));
+    assert_eq!(refusal(257, 1, &[0; 258], &[], 0, 0), Some(Refusal::Rows));
+    assert_eq!(refusal(usize::MAX, 1, &[0], &[], 0, 0), Some(Refusal::Rows));
+    assert_eq!(refusal(1, 0, &[0, 0], &[], 0, 0), Some(Refusal::Columns));
+    assert_eq!(refusal(1, 1025, &[0, 1], &[0], 1, 0), Some(Refusal::Columns));
+    assert_eq!(refusal(1, 1, &[0, 2], &[0], 1, 0), Some(Refusal::Lists));
+    assert_eq!(refusal(1, 1, &[0, 1], &[0], 2, 0), Some(Refusal::Lists));
+    assert_eq!(refusal(1, 1, &[0, 1 << 32], &[], 0, 0), Some(Refusal::Lists));
+    assert_eq!(refusal(2, 1, &[0, 0, 1], &[0], 1, 0), Some(Refusal::EmptyRow { row: 0 }));
+    assert_eq!(refusal(2, 2, &[0, 1, 3], &[0, 1, 1], 3, 0), Some(Refusal::ColumnOrder { row: 1 }));
+    assert_eq!(refusal(1, 1, &[0, 1], &[1 << 32], 1, 0), Some(Refusal::ColumnOrder { row: 0 }));
+    assert_eq!(refusal(1, 1, &[0, 1], &[0], 1, 2), Some(Refusal::SlackRows));
+    assert_eq!(refusal(1, 1, &[0, 1], &[0], 1, 1), None);
+}
+
+#[test]
+fn solves_are_refused() {
+    let one = [[1.0; LANES]];
+    let solve = |b: &[[f64; LANES]], c: &[[f64; LANES]], tolerances: &Tolerances, tests| {
+        smallest().solve(b, c, tolerances, limit(tests)).map(|solution| solution.test)
+    };
+    assert_eq!(solve(&[], &one, &everywhere(1e9), 1), Err(Refusal::Lengths));
+    assert_eq!(solve(&one, &[[1.0; LANES]; 2], &everywhere(1e9), 1), Err(Refusal::Lengths));
+    assert_eq!(solve(&one, &one, &everywhere(1e9), 10_001), Err(Refusal::Limit));
+    let nan_in_lane_2 = [[1.0, 1.0, f64::NAN, 1.0]];
+    assert_eq!(solve(&nan_in_lane_2, &one, &everywhere(1e-8), 2), Err(Refusal::Spoilt { test: 2, lane: 2 }));
+    let never = Tolerances { dual_feasibility: [0.0; LANES], ..everywhere(1e9) };
+    assert_eq!(solve(&one, &[[0.0; LANES]], &never, 1), Err(Refusal::NotDone { limit: 1 }));
+}
+
+#[test]
+fn lanes_of_the_wrong_length_are_refused() {
+    let mut sides = lanes(&SIDES);
+    sides[3].b = &[1.0, 1.0];
+    let refusal = three_rows().solve_lanes(sides, &Tolerances::default(), limit(100)).err();
+    assert_eq!(refusal, Some(Refusal::Lengths));
+}
+
+#[test]
+fn the_largest_matrix_fits_its_memory() {
+    let (m, n) = (256, 64);
+    let offsets = (0..=m).map(|row| row * n).collect();
+    let columns = (0..m * n).map(|place| place % n).collect();
+    let mut solver = Solver::from_data(m, n, offsets, columns, vec![1.0; m * n], m).expect("a right matrix");
+    let (b, c) = (vec![[1.0; LANES]; m], vec![[1.0; LANES]; n]);
+    assert_eq!(solver.solve(&b, &c, &everywhere(1e9), limit(1)).map(|solution| solution.test), Ok(1));
+}
+
+#[test]
+fn refusals_speak() {
+    assert_eq!(Refusal::Spoilt { test: 2, lane: 3 }.to_string(), "lane 3 met a NaN at test 2");
+    assert_eq!(Refusal::NotDone { limit: 50 }.to_string(), "not all lanes were done within 50 tests");
+    assert_eq!(Refusal::EmptyRow { row: 7 }.question(), 4);
+}
+
+#[test]
+fn roots() {
+    assert_eq!(ipm::root_bits(2f64.to_bits()), 0x3ff6_a09e_667f_3bcd);
+    assert_eq!(ipm::root_bits((-1f64).to_bits()), 0x7ff8_0000_0000_0000);
+    assert_eq!(ipm::root_bits((-0f64).to_bits()), (-0f64).to_bits());
+}

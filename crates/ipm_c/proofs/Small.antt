@@ -1,0 +1,199 @@
+-- Every answer fits one number: places are below 2 ^ 32, lanes below 2 ^ 8. Assumes nothing.
+use mathlib.Core.Path.{_≡_, refl, _∙_, ap}
+use mathlib.Core.Bool.{Bool, true, false, not, cond, _&&_, _||_}
+use mathlib.Core.List.{List, [], _∷_}
+use Prim.Native.Nat.{ℕ, zero, suc, _+_, _-_, _*_, _^_, _≤_, _<_}
+use native.Mathlib.Omega.{arith}
+use lib.Dec.{eqb, leb, ltb}
+use borrow.Author.Tests.{leb-true}
+use lib.ListN.{length, getD, drop, length-take, length-drop}
+use Rattle.csr.specs.Counts.{one, sum, common, isStored, countE, countS, countD, sizeW}
+use Rattle.csr.specs.Pattern.{has, row}
+use Rattle.csr.specs.Verdict.{Verdict, passed, planned, accepted, refused, ask, andThen}
+use Rattle.csr.specs.Questions.{firstFrom, empty, badRow, offsetsRight, firstNo}
+use Rattle.csr.specs.Csr.{Accepted}
+use Rattle.csr.proofs.Right.{and-right}
+use Rattle.csr.proofs.Yes.{accepted-of}
+use Rattle.lanes.specs.Lists.{first}
+use Rattle.lanes.proofs.Lists.{first-le}
+use Rattle.ipm_common.specs.Plan.{roomVerdict, planVerdict}
+use Rattle.machine.specs.declared.Status.{Status}
+use Rattle.machine.specs.declared.Outcome.{Outcome}
+use Rattle.machine.specs.declared.Outcome.the-variants.{Accepted as acceptedAt, NoAt11 as noAt11, NoAt12 as noAt12}
+use Rattle.machine.specs.Outcome.{isSpoilt, lowestSpoilt, someSpoilt, allDone, outcome, laneStatus, solved}
+use Rattle.machine.specs.Demand3.{Buffers}
+use Rattle.ipm_simd.specs.declared.SolveAnswer.{SolveAnswer}
+use Rattle.ipm_simd.specs.Solve.{Given, call, told, Solved, outcomeVerdict, lengthsRight, sizesVerdict, memoryVerdict, begun, solveVerdict}
+use Rattle.ipm_simd.proofs.Questions.{sizes-of}
+use Rattle.ipm_c.specs.Packed.{packed, SolvedInOne}
+
+-- what packing asks of an answer
+abbrev pub Small : Verdict → Type 0
+Small passed = Unit {0}
+Small (planned w) = w < 2 ^ 32
+Small (accepted k) = k < 2 ^ 32
+Small (refused q p l) = (q ≤ 12) × (p < 2 ^ 32) × (l < 2 ^ 8)
+
+small-ask : (t : Bool) (v w : Verdict) → (t ≡ true → Small v) → Small w → Small (ask t v w)
+small-ask true v w h g = h refl
+small-ask false v w h g = g
+
+small-then : (v w : Verdict) → Small v → (v ≡ passed → Small w) → Small (andThen v w)
+small-then passed w h g = g refl
+small-then (planned k) w h g = h
+small-then (accepted k) w h g = h
+small-then (refused q p l) w h g = h
+
+-- a sum of n numbers up to c
+sum-most : (n c : ℕ) (f : ℕ → ℕ) → ((i : ℕ) → i < n → f i ≤ c) → sum n f ≤ n * c
+unfolding sum
+sum-most zero c f h = omega arith
+sum-most (suc n) c f h = omega (arith, sum-most n c f (λ i l. h i (omega arith)), h n (omega arith))
+
+one-most : (b : Bool) → one b ≤ 1
+one-most true = omega arith
+one-most false = omega arith
+
+common-most : (xs ys : List ℕ) → common xs ys ≤ length xs
+unfolding common
+common-most [] ys = omega arith
+common-most (x ∷ xs) ys = omega (arith, one-most (has ys x), common-most xs ys)
+
+row-most : (off cols : List ℕ) (i : ℕ) → length (row off cols i) ≤ length cols
+unfolding row
+row-most off cols i =
+    let d = drop (getD off i 0) cols in
+    omega (arith, length-take (getD off (i + 1) 0 - getD off i 0) d, length-drop (getD off i 0) cols)
+
+module _ (off cols : List ℕ) (m : ℕ) (few : m ≤ 256) where
+  stored-most : countE off cols m ≤ m * 256
+  unfolding countE isStored
+  stored-most = sum-most m 256 _ (λ i l. omega (arith, sum-most (suc i) 1 (λ j. one (isStored off cols i j)) (λ j _. one-most (isStored off cols i j))))
+
+  shared-most : length cols ≤ 16384 → countS off cols m ≤ m * 4194304
+  unfolding countS
+  shared-most few-entries =
+      sum-most m 4194304 _ (λ i l.
+      omega (arith, sum-most (suc i) 16384 (λ j. common (row off cols i) (row off cols j)) (λ j _. omega (arith, common-most (row off cols i) (row off cols j), row-most off cols i))))
+
+  products-most : countD off cols m ≤ m * 65536
+  unfolding countD isStored
+  products-most =
+      sum-most m 65536 _ (λ i l.
+      omega (arith, sum-most (suc i) 256 (λ j. sum j (λ k. one (isStored off cols i k && isStored off cols j k))) (λ j l′. omega (arith, sum-most j 1 (λ k. one (isStored off cols i k && isStored off cols j k)) (λ k _. one-most (isStored off cols i k && isStored off cols j k))))))
+
+-- W is below 2 ^ 32
+pub words-small : (off cols : List ℕ) (m n : ℕ) → Accepted off cols m n → sizeW off cols m n < 2 ^ 32
+unfolding sizeW
+words-small off cols m n ok =
+    let few = ok .csr .few in
+    let nnz = ok .csr .nnz in
+    let wide = ok .wide in
+    omega (arith, stored-most off cols m few, shared-most off cols m few nnz, products-most off cols m few)
+
+first-one : (b : Bool) (i x f : ℕ) → x ≤ suc i + f → cond b i x ≤ i + suc f
+first-one true i x f h = omega arith
+first-one false i x f h = omega arith
+
+first-most : (p : ℕ → Bool) (i f : ℕ) → firstFrom p i f ≤ i + f
+unfolding firstFrom
+first-most p i zero = omega arith
+first-most p i (suc f) = first-one (p i) i (firstFrom p (suc i) f) f (first-most p (suc i) f)
+
+-- QUESTIONS 1 TO 5
+pub small-first : (m n : ℕ) (off cols : List ℕ) (values : ℕ) → Small (firstNo m n off cols values)
+unfolding firstNo
+small-first m n off cols values =
+    let e = firstFrom (empty off) 0 m in
+    let bad : ℕ → Bool = λ (i : ℕ). badRow n (row off cols i) in
+    let b = firstFrom bad 0 m in
+    small-ask (leb 1 m && leb m 256) _ (refused 1 0 0)
+    (λ h.
+    let few = leb-true m 256 (and-right (leb 1 m) (leb m 256) h) in
+    small-ask (leb 1 n && leb n 1024) _ (refused 2 0 0)
+    (λ _.
+    small-ask (offsetsRight m off (length cols) values) _ (refused 3 0 0)
+    (λ _.
+    small-ask (not (ltb e m)) _ (refused 4 e 0)
+    (λ _. small-ask (not (ltb b m)) passed (refused 5 b 0) (λ _. tt) (omega arith, omega (arith, few, first-most bad 0 m), omega arith))
+    (omega arith, omega (arith, few, first-most (empty off) 0 m), omega arith))
+    (omega arith, omega arith, omega arith))
+    (omega arith, omega arith, omega arith))
+    (omega arith, omega arith, omega arith)
+
+-- QUESTIONS 1 TO 6
+pub small-plan : (m n : ℕ) (off cols : List ℕ) (words : ℕ) → Small (planVerdict m n off cols words)
+unfolding planVerdict roomVerdict
+small-plan m n off cols words =
+    small-then (firstNo m n off cols (length cols)) _ (small-first m n off cols (length cols))
+    (λ h.
+    small-ask (leb (sizeW off cols m n) words) (planned (sizeW off cols m n)) (refused 6 0 0)
+    (λ _. words-small off cols m n (accepted-of m n off cols (length cols) h))
+    (omega arith, omega arith, omega arith))
+
+-- ---- the tests
+
+small-choice : (t : Bool) (o o′ : Outcome) → Small (outcomeVerdict o) → Small (outcomeVerdict o′) → Small (outcomeVerdict (cond t o o′))
+small-choice true o o′ h g = h
+small-choice false o o′ h g = g
+
+-- QUESTIONS 11 AND 12, of at most four lanes and under a limit that question 10 lets pass
+pub small-outcome : (K : ℕ) (says : ℕ → ℕ → Status) (N : ℕ) → K ≤ 4 → N ≤ 10000 → Small (outcomeVerdict (outcome K says N))
+unfolding outcome lowestSpoilt
+small-outcome K says N few limit =
+    let stops : ℕ → Bool = λ (i : ℕ). someSpoilt K says (i + 1) || allDone K says (i + 1) in
+    let k = first N stops + 1 in
+    let upTo = first-le stops N in
+    let lane = first-le (λ (l : ℕ). isSpoilt (says l k)) K in
+    small-choice (eqb (first N stops) N) (noAt12 N) _ (omega arith, omega (arith, limit), omega arith)
+    (small-choice (someSpoilt K says k) (noAt11 k (lowestSpoilt K says k)) (acceptedAt k)
+    (omega arith, omega (arith, limit, upTo), omega (arith, few, lane)) (omega (arith, limit, upTo)))
+
+-- QUESTIONS 6 TO 10
+small-no : (q : ℕ) → q ≤ 12 → Small (refused q 0 0)
+small-no q h = (h, omega arith, omega arith)
+
+small-sizes : (W E m n s index b c tolerances output work N : ℕ) → Small (sizesVerdict W E m n s index b c tolerances output work N)
+unfolding sizesVerdict
+small-sizes W E m n s index b c tolerances output work N =
+    let q7 = leb s m in
+    let q8 = lengthsRight m n b c tolerances output in
+    let q9 = leb (4 * (5 * n + 3 * m + 2 * s + E)) work in
+    let q10 = leb 1 N && leb N 10000 in
+    let from10 = ask q10 passed (refused 10 0 0) in
+    let from9 = ask q9 from10 (refused 9 0 0) in
+    let from8 = ask q8 from9 (refused 8 0 0) in
+    let from7 = ask q7 from8 (refused 7 0 0) in
+    let s10 = small-ask q10 passed (refused 10 0 0) (λ _. tt) (small-no 10 (omega arith)) in
+    let s9 = small-ask q9 from10 (refused 9 0 0) (λ _. s10) (small-no 9 (omega arith)) in
+    let s8 = small-ask q8 from9 (refused 8 0 0) (λ _. s9) (small-no 8 (omega arith)) in
+    let s7 = small-ask q7 from8 (refused 7 0 0) (λ _. s8) (small-no 7 (omega arith)) in
+    small-ask (leb W index) from7 (refused 6 0 0) (λ _. s7) (small-no 6 (omega arith))
+
+-- a pass of two parts is a pass of the second
+pass-second : (v w : Verdict) → andThen v w ≡ passed → w ≡ passed
+pass-second passed w e = e
+pass-second (planned k) w e = let z : _≡_ {A = ℕ} 0 1 = cc in absurd (omega arith)
+pass-second (accepted k) w e = let z : _≡_ {A = ℕ} 0 1 = cc in absurd (omega arith)
+pass-second (refused q p l) w e = let z : _≡_ {A = ℕ} 0 1 = cc in absurd (omega arith)
+
+-- QUESTIONS 1 TO 12
+pub small-solve : (a : Given) (B : Buffers) → Small (solveVerdict a B)
+unfolding solveVerdict begun solved memoryVerdict
+small-solve a B =
+    let W = sizeW (a .offsets) (a .columns) (a .m) (a .n) in
+    let E = countE (a .offsets) (a .columns) (a .m) in
+    let first5 = firstNo (a .m) (a .n) (a .offsets) (a .columns) (length (a .values)) in
+    small-then (andThen first5 (memoryVerdict a B)) _
+    (small-then first5 _ (small-first (a .m) (a .n) (a .offsets) (a .columns) (length (a .values))) (λ _. small-sizes W E (a .m) (a .n) (a .s) (length (B .index)) (length (a .b)) (length (a .c)) (length (a .tolerances)) (length (B .output)) (length (B .work)) (a .limit)))
+    (λ e.
+    let sizes = sizes-of W E (a .m) (a .n) (a .s) (length (B .index)) (length (a .b)) (length (a .c)) (length (a .tolerances)) (length (B .output)) (length (B .work)) (a .limit) (pass-second first5 (memoryVerdict a B) e) in
+    small-outcome 4 (laneStatus (call a)) (a .limit) (omega arith) (sizes .upTo))
+
+-- what solve promises of its answer holds of the number
+pub in-one : {a : Given} {B B′ : Buffers} {r : SolveAnswer} {code : ℕ} → Solved a B B′ r → code ≡ packed (told r) → SolvedInOne a B B′ code
+in-one s e = record {
+  answer = e ∙ ap packed (s .answer);
+  buffers = s .buffers;
+  demand3 = λ h. let d = s .demand3 h in (d .0, e ∙ ap packed (d .1), d .2);
+}

@@ -1,0 +1,86 @@
+// Plan, solve and the square root for callers in C and Rust. An answer is one number.
+ghost use mathlib.Core.Path.{_≡_};
+ghost use Prim.Native.Nat.{_≤_, _<_, _^_};
+ghost use lib.ListN.{length};
+ghost use Rattle.ipm_common.specs.Plan.{planVerdict, planIndex};
+ghost use Rattle.root.specs.Root.{rootBits};
+ghost use Rattle.ipm_simd.specs.Solve.{given, lent};
+ghost use Rattle.ipm_c.specs.Packed.{inOne, packed, SolvedInOne};
+use ipm_common::PlanAnswer;
+use ipm_simd::SolveAnswer;
+
+// The question of a yes.
+const YES: u32 = 0;
+
+// question · 2^40 + place · 2^8 + lane.
+fn pack(question: u32, place: usize, lane: u32) -> u64
+    requires { ⌜ (question ≤ 12) × (place < 2 ^ 32) × (lane < 2 ^ 8) ⌝ }
+    ensures { λ r. ⌜ r ≡ inOne question place lane ⌝ }
+{
+    (question as u64) * 0x100_0000_0000 + (place as u64) * 0x100 + lane as u64
+}
+
+// Questions 1 to 6, and after six yeses the plan.
+#[no_mangle]
+pub extern "C" fn ipm_plan(
+    m: usize,
+    n: usize,
+    offsets: &[u32],
+    columns: &[u32],
+    index: &mut [u32],
+) -> u64
+    ensures answer { λ r. ⌜ r ≡ packed (planVerdict m n (now (offsets .entry)) (now (columns .entry)) (length (now (index .entry)))) ⌝ }
+    ensures words { λ _. ⌜ now (index .exit) ≡ planIndex m n (now (offsets .entry)) (now (columns .entry)) (now (index .entry)) ⌝ }
+{
+    match ipm_common::plan(m, n, offsets, columns, index) {
+        PlanAnswer::Planned(w) => pack(YES, w, 0),
+        PlanAnswer::Refused(r) => pack(r.question, r.place, r.lane),
+    }
+}
+
+// Questions 1 to 12, and after a yes x.
+#[no_mangle]
+pub extern "C" fn ipm_solve(
+    m: usize,
+    n: usize,
+    s: usize,
+    offsets: &[u32],
+    columns: &[u32],
+    values: &[f64],
+    b: &[f64],
+    c: &[f64],
+    tolerances: &[f64],
+    limit: usize,
+    output: &mut [f64],
+    index: &mut [u32],
+    work: &mut [f64],
+) -> u64
+    ensures { λ r. ⌜ SolvedInOne (given m n s (now (offsets .entry)) (now (columns .entry)) (now (values .entry)) (now (b .entry)) (now (c .entry)) (now (tolerances .entry)) limit) (lent (now (output .entry)) (now (index .entry)) (now (work .entry))) (lent (now (output .exit)) (now (index .exit)) (now (work .exit))) r ⌝ }
+{
+    match ipm_simd::solve(
+        m,
+        n,
+        s,
+        offsets,
+        columns,
+        values,
+        b,
+        c,
+        tolerances,
+        limit,
+        output,
+        index,
+        work,
+    ) {
+        SolveAnswer::Accepted(k) => pack(YES, k, 0),
+        SolveAnswer::Refused(r) => pack(r.question, r.place, r.lane),
+    }
+}
+
+// The bits of the square root of the number with these bits.
+#[no_mangle]
+pub extern "C" fn ipm_root_bits(bits: u64) -> u64
+    ensures { λ r. ⌜ r ≡ rootBits bits ⌝ }
+{
+    root::root_bits(bits)
+}

@@ -1,0 +1,65 @@
+-- What a yes at each of the questions says. Assumes nothing.
+use mathlib.Core.Path.{_≡_, refl, sym, ap, _∙_}
+use mathlib.Core.Bool.{Bool, true, false, not, _&&_}
+use mathlib.Core.List.{List}
+use Prim.Native.Nat.{ℕ, _+_, _*_, _≤_}
+use native.Mathlib.Omega.{arith}
+use borrow.Author.Tests.{eqb-true, leb-true}
+use lib.Dec.{eqb, leb, ltb}
+use lib.ListN.{length, getD}
+use Rattle.csr.specs.Verdict.{Verdict, passed, refused, ask}
+use Rattle.csr.specs.Questions.{maxEntries, firstFrom, falls, firstNo, offsetsRight}
+use Rattle.csr.proofs.Right.{and-left, and-right}
+use Rattle.machine.specs.Outcome.{largestLimit}
+use Rattle.ipm_simd.specs.Solve.{lengthsRight, sizesVerdict}
+
+-- a question whose no is not the answer got a yes
+asked : (t : Bool) (next : Verdict) (q p l : ℕ) → ask t next (refused q p l) ≡ passed → (t ≡ true) × (next ≡ passed)
+asked true next q p l h = (refl, h)
+asked false next q p l h = let z : _≡_ {A = ℕ} 0 1 = cc in absurd (omega arith)
+
+-- question 3 asks for as many values as there are columns listed
+pub values-of : (m n : ℕ) (off cols : List ℕ) (values : ℕ) → firstNo m n off cols values ≡ passed → values ≡ length cols
+unfolding firstNo offsetsRight
+values-of m n off cols values h =
+    let h1 = asked (leb 1 m && leb m 256) _ 1 0 0 h in
+    let h2 = asked (leb 1 n && leb n 1024) _ 2 0 0 (h1 .1) in
+    let h3 = asked (offsetsRight m off (length cols) values) _ 3 0 0 (h2 .1) in
+    let others =
+    eqb (length off) (m + 1) && eqb (getD off 0 0) 0 && not (ltb (firstFrom (falls off) 0 m) m) && eqb (getD off m 0) (length cols) && not (ltb maxEntries (length cols)) in
+    eqb-true values (length cols) (and-right others (eqb values (length cols)) (h3 .0))
+
+-- questions 6 to 10
+pub record Sizes (W E m n s index b c tolerances output work N : ℕ) : Type 0 where
+  pub index-long : W ≤ index
+  pub slack : s ≤ m
+  pub b-long : b ≡ 4 * m
+  pub c-long : c ≡ 4 * n
+  pub tolerances-long : tolerances ≡ 12
+  pub output-long : output ≡ 4 * n
+  pub work-long : 4 * (5 * n + 3 * m + 2 * s + E) ≤ work
+  pub from : 1 ≤ N
+  pub upTo : N ≤ largestLimit
+
+pub sizes-of : (W E m n s index b c tolerances output work N : ℕ) → sizesVerdict W E m n s index b c tolerances output work N ≡ passed
+    → Sizes W E m n s index b c tolerances output work N
+unfolding sizesVerdict
+sizes-of W E m n s index b c tolerances output work N h =
+    let h6 = asked (leb W index) _ 6 0 0 h in
+    let h7 = asked (leb s m) _ 7 0 0 (h6 .1) in
+    let h8 = asked (lengthsRight m n b c tolerances output) _ 8 0 0 (h7 .1) in
+    let h9 = asked (leb (4 * (5 * n + 3 * m + 2 * s + E)) work) _ 9 0 0 (h8 .1) in
+    let h10 = asked (leb 1 N && leb N largestLimit) _ 10 0 0 (h9 .1) in
+    let bct = and-left (eqb b (4 * m) && eqb c (4 * n) && eqb tolerances 12) (eqb output (4 * n)) (h8 .0) in
+    let bc = and-left (eqb b (4 * m) && eqb c (4 * n)) (eqb tolerances 12) bct in
+    record {
+      index-long = leb-true W index (h6 .0);
+      slack = leb-true s m (h7 .0);
+      b-long = eqb-true b (4 * m) (and-left (eqb b (4 * m)) (eqb c (4 * n)) bc);
+      c-long = eqb-true c (4 * n) (and-right (eqb b (4 * m)) (eqb c (4 * n)) bc);
+      tolerances-long = eqb-true tolerances 12 (and-right (eqb b (4 * m) && eqb c (4 * n)) (eqb tolerances 12) bct);
+      output-long = eqb-true output (4 * n) (and-right (eqb b (4 * m) && eqb c (4 * n) && eqb tolerances 12) (eqb output (4 * n)) (h8 .0));
+      work-long = leb-true (4 * (5 * n + 3 * m + 2 * s + E)) work (h9 .0);
+      from = leb-true 1 N (and-left (leb 1 N) (leb N largestLimit) (h10 .0));
+      upTo = leb-true N largestLimit (and-right (leb 1 N) (leb N largestLimit) (h10 .0));
+    }

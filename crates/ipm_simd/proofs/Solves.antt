@@ -1,0 +1,292 @@
+-- From the parts of a solve to its contract. Assumes nothing.
+use mathlib.Core.Path.{_≡_, refl, sym, ap, _∙_, subst}
+use mathlib.Core.Bool.{true}
+use mathlib.Core.List.{List, _++_}
+use Prim.Native.Nat.{ℕ, suc, _+_, _-_, _*_, _≤_, _<_}
+use native.Mathlib.Omega.{arith}
+use lib.ListN.{length, take, drop, replicate, length-append}
+use lib.Ieee.{Float}
+use mir.Syntax.{w64}
+use mir.Val.{Fits}
+use Rattle.csr.specs.Verdict.{Verdict, passed, planned, refused, accepted as acceptedAt, andThen, refusal}
+use Rattle.csr.specs.declared.Refusal.{Refusal}
+use Rattle.csr.specs.Questions.{firstNo}
+use Rattle.csr.specs.Csr.{Accepted}
+use Rattle.csr.specs.Counts.{countE, countS, countD, sizeW, sizeF}
+use Rattle.csr.specs.Pattern.{has, row, neighbours, stored}
+use Rattle.lanes.specs.Arithmetic.{null}
+use Rattle.lists.specs.Lists.{shape, listOf, planWords}
+use Rattle.lists.specs.declared.Which.the-variants.{Lindptr, Lindices}
+use Rattle.lists.proofs.Sizes.{plan-size}
+use Rattle.lists.proofs.Counts.{held-stored}
+use Rattle.sparse.specs.Sparse.{cut}
+use Rattle.machine.specs.declared.Outcome.{Outcome}
+use Rattle.machine.specs.declared.Outcome.the-variants.{Accepted as accepted, NoAt11 as noAt11, NoAt12 as noAt12}
+use Rattle.machine.specs.Outcome.{Call, solved, xAt}
+use Rattle.machine.specs.Demand3.{Memory, Buffers, outputAfter, leaves, Demand3}
+use Rattle.machine.proofs.Demand3.{solved-ends, demand3}
+use Rattle.links.specs.Prepared.{Prepared, Bounds}
+use Rattle.links.proofs.Cuts.{prepared-of}
+use Rattle.links.proofs.Few.{few-stored, few-shared, few-products}
+use Rattle.links.proofs.Follows.{entries-for}
+use Rattle.links.proofs.Low.{row-cut}
+use Rattle.links.proofs.Picked.{picked-has}
+use Rattle.tests.specs.Layout.{lAt}
+use Rattle.step.specs.Steps.{Untouched}
+use Rattle.run.specs.Tests.{memoryAt, Run}
+use Rattle.ipm_simd.specs.declared.SolveAnswer.{SolveAnswer}
+use Rattle.ipm_simd.specs.declared.SolveAnswer.the-variants as answers
+use Rattle.ipm_simd.specs.Solve.{Given, lent, call, words, room, plannedHas, told, outcomeVerdict, sizesVerdict, memoryVerdict, begun, solveVerdict, ifPassed, solveBuffers, Solved}
+use Rattle.ipm_simd.specs.Parts.{Counted, Planned, Asked10, written, Finished, Continued}
+use Rattle.ipm_simd.proofs.Numbers.{rest-same}
+use Rattle.ipm_simd.proofs.Questions.{values-of, sizes-of}
+
+-- ---- the index memory has room for the plan
+pub plan-room : {off cols : List ℕ} {vals : List Float} {m n s : ℕ} {index : List ℕ} {e h d : ℕ} → Planned off cols vals m n s index e h d
+    → 5 * e + 3 * h + 2 * d + 3 * m + n + 2 * length cols + 5 ≤ length index
+unfolding sizeW
+plan-room {off} {cols} {vals} {m} {n} {s} {index} P =
+    let c = P .counts in
+    omega (arith, c .stored, c .shared, c .products, plan-size off cols m n (P .ok), ap length (P .plan), length-append (planWords off cols m n) (P .rest))
+
+-- ---- the sixteen lists stand between these bounds
+module _ {off cols : List ℕ} {vals : List Float} {m n s : ℕ} {index : List ℕ} {e h d : ℕ} (P : Planned off cols vals m n s index e h d) where
+  abbrev c1 : ℕ
+  c1 = e + 1
+
+  abbrev c2 : ℕ
+  c2 = c1 + h
+
+  abbrev c3 : ℕ
+  c3 = c2 + h
+
+  abbrev c4 : ℕ
+  c4 = c3 + h
+
+  abbrev c5 : ℕ
+  c5 = c4 + (e + 1)
+
+  abbrev c6 : ℕ
+  c6 = c5 + d
+
+  abbrev c7 : ℕ
+  c7 = c6 + d
+
+  abbrev c8 : ℕ
+  c8 = c7 + (m + 1)
+
+  abbrev c9 : ℕ
+  c9 = c8 + m
+
+  abbrev c10 : ℕ
+  c10 = c9 + e
+
+  abbrev c11 : ℕ
+  c11 = c10 + (m + 1)
+
+  abbrev c12 : ℕ
+  c12 = c11 + e
+
+  abbrev c13 : ℕ
+  c13 = c12 + e
+
+  abbrev c14 : ℕ
+  c14 = c13 + (n + 1)
+
+  abbrev c15 : ℕ
+  c15 = c14 + length cols
+
+  abbrev c16 : ℕ
+  c16 = c15 + length cols
+
+  bounds : Bounds m n (length cols) e h d c1 c2 c3 c4 c5 c6 c7 c8 c9 c10 c11 c12 c13 c14 c15 c16
+  bounds = record {
+    anorm-ends = refl;
+    anorm-i = refl;
+    anorm-j = refl;
+    anorm-e = refl;
+    ldecomp-ends = refl;
+    ldecomp-i = refl;
+    ldecomp-j = refl;
+    ends = refl;
+    diag = refl;
+    columns = refl;
+    factor-ends = refl;
+    factor-rows = refl;
+    factor-places = refl;
+    matrix-ends = refl;
+    matrix-rows = refl;
+    matrix-places = refl;
+  }
+
+  pub prepared-plan : Prepared off cols vals m n s
+      (cut 0 c1 index) (cut c1 c2 index) (cut c2 c3 index) (cut c3 c4 index) (cut c4 c5 index) (cut c5 c6 index) (cut c6 c7 index) (cut c7 c8 index)
+      (cut c8 c9 index) (cut c9 c10 index) (cut c10 c11 index) (cut c11 c12 index) (cut c12 c13 index) (cut c13 c14 index) (cut c14 c15 index) (cut c15 c16 index)
+  prepared-plan = prepared-of (P .rest) (P .ok) (P .values) (P .slack) (P .plan) refl (P .counts .stored) (P .counts .shared) (P .counts .products) bounds
+
+  -- the places of their bytes fit a word of 64 bits
+  place-fits : (b : ℕ) → b ≤ c16 → Fits w64 (b * 4)
+  place-fits b l =
+      let k = P .ok .csr in
+      record {
+        fits = omega (arith, P .counts .stored, P .counts .shared, P .counts .products, few-stored off cols m k, few-shared off cols m k, few-products off cols m k, k .few, k .nnz, P .ok .wide);
+      }
+
+  pub places-fit : Fits w64 (c1 * 4) × Fits w64 (c2 * 4) × Fits w64 (c3 * 4) × Fits w64 (c4 * 4) × Fits w64 (c5 * 4) × Fits w64 (c6 * 4) × Fits w64 (c7 * 4) × Fits w64 (c8 * 4) × Fits w64 (c9 * 4) × Fits w64 (c10 * 4) × Fits w64 (c11 * 4) × Fits w64 (c12 * 4) × Fits w64 (c13 * 4) × Fits w64 (c14 * 4) × Fits w64 (c15 * 4)
+  places-fit = (place-fits c1 (omega arith), place-fits c2 (omega arith), place-fits c3 (omega arith), place-fits c4 (omega arith), place-fits c5 (omega arith), place-fits c6 (omega arith), place-fits c7 (omega arith), place-fits c8 (omega arith), place-fits c9 (omega arith), place-fits c10 (omega arith), place-fits c11 (omega arith), place-fits c12 (omega arith), place-fits c13 (omega arith), place-fits c14 (omega arith), place-fits c15 (omega arith))
+
+  -- the factor has e entries
+  pub count-plan : length (cut c9 c10 index) ≡ e
+  count-plan = entries-for prepared-plan ∙ sym (P .counts .stored)
+
+pub untouched-count : (a : ℕ) {k j : ℕ} {old new : List Float} → k ≡ j → Untouched (a + k) old new → Untouched (a + j) old new
+untouched-count a {k} {j} {old} {new} e U = subst (λ (i : ℕ). Untouched (a + i) old new) e U
+
+-- W, of E, S and D
+pub words-of : (off cols : List ℕ) (m n e h d : ℕ) → Counted off cols m e h d → 5 * e + 3 * h + 2 * d + 3 * m + n + 2 * length cols + 5 ≡ sizeW off cols m n
+unfolding sizeW
+words-of off cols m n e h d c = omega (arith, c .stored, c .shared, c .products)
+
+-- F, of E
+room-of : (off cols : List ℕ) (m n s e : ℕ) → e ≡ countE off cols m → 4 * (5 * n + 3 * m + 2 * s + e) ≡ sizeF off cols m n s
+unfolding sizeF
+room-of off cols m n s e q = omega (arith, q)
+
+-- ---- the lowest spoilt lane is one of four
+pub lane-under : (C : Call) (N : ℕ) (o : Outcome) → o ≡ solved C N → (k l : ℕ) → o ≡ noAt11 k l → l < C .K
+lane-under C N o e k l f = solved-ends C N .named k l (sym e ∙ f) .2 .0
+
+-- ---- the planned factor's entries are the stored pairs
+planned-stored : (off cols : List ℕ) (m i j : ℕ) → i < m → j < i
+    → has (row (listOf (shape off cols) Lindptr m) (listOf (shape off cols) Lindices m) i) j ≡ stored (neighbours off cols) i j
+unfolding row
+planned-stored off cols m i j h l =
+    ap (λ (xs : List ℕ). has xs j) (row-cut off cols m i h) ∙ picked-has ((shape off cols) .held i) (suc i) j (omega arith) ∙ held-stored off cols i j (omega arith)
+
+-- ---- after the tests
+module _ (a : Given) {output work : List Float} {index : List ℕ} {e h d : ℕ} (Q : Asked10 a (lent output index work) e h d) where
+  output-is : (o : Outcome) (work1 : List Float) → ((k : ℕ) → o ≡ accepted k → memoryAt (a .m) (a .n) (a .s) work1 .x ≡ xAt (call a) k)
+      → written o (take (length output) work1) output ≡ outputAfter (call a) o output
+  output-is (accepted k) work1 x =
+      let z : length output ≡ 4 * (0 + a .n) - 4 * 0 = omega (arith, Q .output) in
+      ap (λ (j : ℕ). take j work1) z ∙ x k refl
+  output-is (noAt11 k l) work1 x = refl
+  output-is (noAt12 k) work1 x = refl
+
+  pub finished : {index1 : List ℕ} {work1 output1 work2 : List Float} {o : Outcome} {r : SolveAnswer}
+      → index1 ≡ words a ++ drop (sizeW (a .offsets) (a .columns) (a .m) (a .n)) index
+      → Untouched (lAt (a .n) (a .m) (a .s) + e) work work1
+      → Run (call a) (a .limit) (memoryAt (a .m) (a .n) (a .s) work1) o
+      → told r ≡ outcomeVerdict o
+      → output1 ≡ written o (take (length output) work1) output
+      → work2 ≡ replicate (4 * (5 * a .n + 3 * a .m + 2 * a .s + e)) null ++ drop (4 * (5 * a .n + 3 * a .m + 2 * a .s + e)) work1
+      → Finished a (lent output index work) (lent output1 index1 work2) r
+  finished {index1} {work1} {output1} {work2} {o} {r} ei U R er eo ew = record {
+    answer = er ∙ ap outcomeVerdict (R .ran .answer);
+    buffers = all;
+    demand3 = demand3 (call a) (words a) (room a) (plannedHas a) (a .limit) (lent output index work) (lent output1 index1 work2) (solved (call a) (a .limit)) (memoryAt (a .m) (a .n) (a .s) work1)
+        (R .ran .tests .0) (R .ran .tests .1) (λ i j l b. planned-stored (a .offsets) (a .columns) (a .m) i j b l) refl all;
+  }
+    where
+      F : ℕ
+      F = 4 * (5 * a .n + 3 * a .m + 2 * a .s + e)
+
+      out : output1 ≡ outputAfter (call a) (solved (call a) (a .limit)) output
+      out = eo ∙ output-is o work1 (R .x) ∙ ap (λ (z : Outcome). outputAfter (call a) z output) (R .ran .answer)
+
+      plan : index1 ≡ words a ++ drop (length (words a)) index
+      plan = ei ∙ ap (λ (k : ℕ). words a ++ drop k index) (sym (plan-size (a .offsets) (a .columns) (a .m) (a .n) (Q .ok)))
+
+      clear : work2 ≡ replicate (room a) null ++ drop (room a) work
+      clear =
+          ew
+          ∙ ap (λ (x : List Float). replicate F null ++ x) (rest-same (lAt (a .n) (a .m) (a .s) + e) F work work1 U (omega arith))
+          ∙ ap (λ (k : ℕ). replicate k null ++ drop k work) (room-of (a .offsets) (a .columns) (a .m) (a .n) (a .s) e (Q .counts .stored))
+
+      all : lent output1 index1 work2 ≡ leaves (call a) (words a) (room a) (a .limit) (lent output index work)
+      all = λ i. record { output = out i; index = plan i; work = clear i }
+
+-- ---- questions 6 to 10
+not-passed : (q p l : ℕ) → refused q p l ≡ passed → ⊥
+not-passed q p l h = let z : _≡_ {A = ℕ} 0 1 = cc in omega arith
+
+module _ (a : Given) (B : Buffers) where
+  -- the verdict of questions 6 to 10, of the counted E, S and D
+  memory-is : (e h d : ℕ) → Counted (a .offsets) (a .columns) (a .m) e h d
+      → sizesVerdict (5 * e + 3 * h + 2 * d + 3 * a .m + a .n + 2 * length (a .columns) + 5) e (a .m) (a .n) (a .s) (length (B .index)) (length (a .b)) (length (a .c)) (length (a .tolerances)) (length (B .output)) (length (B .work)) (a .limit)
+      ≡ memoryVerdict a B
+  unfolding memoryVerdict
+  memory-is e h d c = rw (words-of (a .offsets) (a .columns) (a .m) (a .n) e h d c, c .stored)
+
+  module _ (e h d : ℕ) (c : Counted (a .offsets) (a .columns) (a .m) e h d) where
+    abbrev verdict : Verdict
+    verdict = sizesVerdict (5 * e + 3 * h + 2 * d + 3 * a .m + a .n + 2 * length (a .columns) + 5) e (a .m) (a .n) (a .s) (length (B .index)) (length (a .b)) (length (a .c)) (length (a .tolerances)) (length (B .output)) (length (B .work)) (a .limit)
+
+    pub asked-all : Accepted (a .offsets) (a .columns) (a .m) (a .n) → length (a .values) ≡ length (a .columns) → passed ≡ verdict → Asked10 a B e h d
+    asked-all ok values v =
+        let q = sizes-of _ e (a .m) (a .n) (a .s) (length (B .index)) (length (a .b)) (length (a .c)) (length (a .tolerances)) (length (B .output)) (length (B .work)) (a .limit) (sym v) in
+        record {
+          ok = ok;
+          values = values;
+          counts = c;
+          index = omega (arith, words-of (a .offsets) (a .columns) (a .m) (a .n) e h d c, q .index-long);
+          lists = record { rows = ok .csr .few; columns = ok .wide; slack = q .slack; b-long = q .b-long; c-long = q .c-long; tol-long = q .tolerances-long };
+          output = q .output-long;
+          work = omega (arith, q .work-long);
+          from = q .from;
+          upTo = q .upTo;
+        }
+
+    pub go-on : {B′ : Buffers} {r : SolveAnswer} → passed ≡ verdict → Finished a B B′ r → Continued a B B′ r
+    go-on {B′} {r} v F =
+        let z : memoryVerdict a B ≡ passed = sym (v ∙ memory-is e h d c) in
+        record {
+          answer = F .answer ∙ ap (λ (x : Verdict). andThen x (outcomeVerdict (solved (call a) (a .limit)))) (sym z);
+          buffers = F .buffers ∙ ap (λ (x : Verdict). ifPassed a x (leaves (call a) (words a) (room a) (a .limit) B) B) (sym z);
+          demand3 = λ _. F .demand3;
+        }
+
+    pub refused-here : (r : Refusal) → refusal r ≡ verdict → Continued a B B (answers.Refused r)
+    refused-here r v =
+        let z : memoryVerdict a B ≡ refusal r = sym (v ∙ memory-is e h d c) in
+        record {
+          answer = ap (λ (x : Verdict). andThen x (outcomeVerdict (solved (call a) (a .limit)))) (sym z);
+          buffers = ap (λ (x : Verdict). ifPassed a x (leaves (call a) (words a) (room a) (a .limit) B) B) (sym z);
+          demand3 = λ p. absurd (not-passed (r .question) (r .place) (r .lane) (sym z ∙ p));
+        }
+
+  -- ---- questions 1 to 5
+  abbrev early : Verdict
+  early = firstNo (a .m) (a .n) (a .offsets) (a .columns) (length (a .values))
+
+  begun-is : (v : Verdict) → early ≡ v → begun a B ≡ andThen v (memoryVerdict a B)
+  unfolding begun
+  begun-is v e = ap (λ (x : Verdict). andThen x (memoryVerdict a B)) e
+
+  verdict-is : (v : Verdict) → begun a B ≡ v → solveVerdict a B ≡ andThen v (outcomeVerdict (solved (call a) (a .limit)))
+  unfolding solveVerdict
+  verdict-is v e = ap (λ (x : Verdict). andThen x (outcomeVerdict (solved (call a) (a .limit)))) e
+
+  buffers-are : (v : Verdict) → begun a B ≡ v → solveBuffers a B ≡ ifPassed a v (leaves (call a) (words a) (room a) (a .limit) B) B
+  unfolding solveBuffers
+  buffers-are v e = ap (λ (x : Verdict). ifPassed a x (leaves (call a) (words a) (room a) (a .limit) B) B) e
+
+  pub solved-on : {B′ : Buffers} {r : SolveAnswer} → passed ≡ early → Continued a B B′ r → Solved a B B′ r
+  solved-on {B′} {r} v K =
+      let z : begun a B ≡ memoryVerdict a B = begun-is passed (sym v) in
+      record {
+        answer = K .answer ∙ sym (verdict-is (memoryVerdict a B) z);
+        buffers = K .buffers ∙ sym (buffers-are (memoryVerdict a B) z);
+        demand3 = λ p.
+            let q : memoryVerdict a B ≡ passed = sym z ∙ p in
+            (solved (call a) (a .limit), K .answer ∙ ap (λ (x : Verdict). andThen x (outcomeVerdict (solved (call a) (a .limit)))) q, K .demand3 q);
+      }
+
+  pub solved-not : (r : Refusal) → refusal r ≡ early → Solved a B B (answers.Refused r)
+  solved-not r v =
+      let z : begun a B ≡ refusal r = begun-is (refusal r) (sym v) in
+      record {
+        answer = sym (verdict-is (refusal r) z);
+        buffers = sym (buffers-are (refusal r) z);
+        demand3 = λ p. absurd (not-passed (r .question) (r .place) (r .lane) (sym z ∙ p));
+      }

@@ -1,0 +1,57 @@
+use borrow.Author.Needs.{needs}
+use native.Mathlib.Omega.{arith}
+use mathlib.Core.Path.{_≡_, refl}
+use mathlib.Core.List.{_++_}
+use Prim.Native.Nat.{_-_, _≤_}
+use lib.ListN.{length, take, drop, length-set}
+use Rattle.ipm_simd.proofs.Numbers.{copied-next, copied-all}
+use Rattle.ipm_simd.proofs.copy_front.Statement.{statement}
+use Rattle.ipm_simd.proofs.copy_front.Tie as tie
+
+abbrev Inv-loop : tie.InvT-loop
+Inv-loop output₀ work i₀ output i = (i ≤ length output₀) × (length output ≡ length output₀) × (output ≡ take i work ++ drop i output₀)
+
+abbrev μ-loop : tie.MeasureT-loop
+μ-loop output₀ work i₀ output i = length output₀ - i
+
+loop-holds : tie.Need-loop-holds Inv-loop μ-loop
+loop-holds c = (omega arith, refl, refl)
+
+mul-output : tie.Need-mul-output Inv-loop μ-loop
+mul-output c = search needs
+
+shared-slice-read-output : tie.Need-shared-slice-read-output Inv-loop μ-loop
+shared-slice-read-output c = omega (arith, c .before .before .before .pre, c .before .before .loop .inv .1)
+
+mul-output-2 : tie.Need-mul-output-2 Inv-loop μ-loop
+mul-output-2 c = search needs
+
+slice-write-output : tie.Need-slice-write-output Inv-loop μ-loop
+slice-write-output c = omega (arith, c .before .before .before .pre, c .before .before .loop .inv .1)
+
+add-i : tie.Need-add-i Inv-loop μ-loop
+add-i c = omega (arith, c .before .before .loop .inv .1)
+
+loop-less : tie.Need-loop-less Inv-loop μ-loop
+loop-less c = omega (arith, c .before .before .loop .inv .1)
+
+loop-again : tie.Need-loop-again Inv-loop μ-loop
+loop-again c =
+    let e = c .before .before .before in
+    let l = c .before .before .loop in (
+      omega (arith, l .inv .1),
+      rw length-set (l .inv .1),
+      copied-next (e .args .work .now) (e .args .output .now) (l .output) (l .i) (l .inv .2) (omega (arith, e .pre, l .inv .1)) (omega (arith, l .inv .1)),
+    )
+
+same-length : tie.Need-same-length Inv-loop μ-loop
+same-length c = c .before .loop .inv .1
+
+returns : tie.Need-returns Inv-loop μ-loop
+returns c =
+    let e = c .before .before in
+    let l = c .before .loop in
+    copied-all (e .args .work .now) (e .args .output .now) (l .output) (l .i) (l .inv .2) (omega (arith, l .inv .0, l .inv .1))
+
+pub copy-front-spec : {M : Type 1} → statement M
+copy-front-spec = tie.close (tie.spec Inv-loop μ-loop loop-holds mul-output shared-slice-read-output mul-output-2 slice-write-output add-i loop-less loop-again same-length returns)

@@ -1,0 +1,49 @@
+use borrow.Author.Needs.{needs}
+use mathlib.Core.Path.{sym, ap, _∙_}
+use lib.ListN.{length}
+use Rattle.csr.specs.Verdict.{told}
+use Rattle.csr.proofs.Yes.{accepted-of}
+use Rattle.ipm_simd.specs.Solve.{given, lent}
+use Rattle.ipm_simd.proofs.Questions.{values-of}
+use Rattle.ipm_simd.proofs.Solves.{solved-on, solved-not}
+use Rattle.ipm_simd.proofs.solve.Statement.{statement}
+use Rattle.ipm_simd.proofs.solve.Tie as tie
+
+ask-requires : tie.Need-ask-requires
+ask-requires c κs = search needs
+
+enum-known-r : tie.Need-enum-known-r
+enum-known-r c = search needs
+
+enum-told : tie.Need-enum-told
+enum-told c = search needs
+
+solve-accepted-requires : tie.Need-solve-accepted-requires
+solve-accepted-requires c κs =
+    let a = c .before .before .before .before .before .before .before .before .before .before .before .before .before .before .before .args in
+    let v = sym (c .before .before .before .before .before .ask .ensures) ∙ ap told (c .before .before .before .enum-told .given .1) in (
+      accepted-of (a .m) (a .n) (a .offsets .now) (a .columns .now) (length (a .values .now)) v,
+      values-of (a .m) (a .n) (a .offsets .now) (a .columns .now) (length (a .values .now)) v,
+    )
+
+returns : tie.Need-returns
+returns c =
+    let e = c .before .before .before .before .before .before .before .before .before .before .before .before .before in
+    solved-not (given (e .args .m) (e .args .n) (e .args .s) (e .args .offsets .now) (e .args .columns .now) (e .args .values .now) (e .args .b .now) (e .args .c .now) (e .args .tolerances .now) (e .args .limit)) (lent (e .args .output .now) (e .args .index .now) (e .args .work .now)) (c .before .r .given .0 .0) (sym (ap told (c .before .r .given .1)) ∙ c .before .before .before .ask .ensures)
+
+same-length : tie.Need-same-length
+same-length c = search needs
+
+same-length-2 : tie.Need-same-length-2
+same-length-2 c = search needs
+
+same-length-3 : tie.Need-same-length-3
+same-length-3 c = search needs
+
+returns-2 : tie.Need-returns-2
+returns-2 c =
+    let e = c .before .before .before .before .before .before .before .before .before .before .before .before .before .before .before .before .before .before .before .before .before .before in
+    solved-on (given (e .args .m) (e .args .n) (e .args .s) (e .args .offsets .now) (e .args .columns .now) (e .args .values .now) (e .args .b .now) (e .args .c .now) (e .args .tolerances .now) (e .args .limit)) (lent (e .args .output .now) (e .args .index .now) (e .args .work .now)) (sym (ap told (c .before .before .before .before .before .before .before .before .before .before .enum-told .given .1)) ∙ c .before .before .before .before .before .before .before .before .before .before .before .before .ask .ensures) (c .before .before .before .before .before .before .solve-accepted .ensures)
+
+pub solve-spec : {M : Type 1} → statement M
+solve-spec = tie.close (tie.spec ask-requires enum-known-r enum-told solve-accepted-requires returns same-length same-length-2 same-length-3 returns-2)

@@ -1,0 +1,62 @@
+-- What the parts of a solve start from, and what they leave. Definitions only.
+use mathlib.Core.Path.{_≡_}
+use mathlib.Core.List.{List, _++_}
+use Prim.Native.Nat.{ℕ, _+_, _*_, _≤_}
+use lib.ListN.{length}
+use lib.Ieee.{Float}
+use Rattle.csr.specs.Csr.{Accepted}
+use Rattle.csr.specs.Counts.{countE, countS, countD, sizeW, sizeF}
+use Rattle.lists.specs.Lists.{planWords}
+use Rattle.machine.specs.declared.Outcome.{Outcome}
+use Rattle.machine.specs.declared.Outcome.the-variants.{Accepted as accepted, NoAt11 as noAt11, NoAt12 as noAt12}
+use Rattle.machine.specs.Outcome.{largestLimit, solved}
+use Rattle.machine.specs.Demand3.{Buffers, leaves, Demand3}
+use Rattle.csr.specs.Verdict.{Verdict, passed, andThen}
+use Rattle.tests.specs.Layout.{lAt, Lent}
+use Rattle.ipm_simd.specs.declared.SolveAnswer.{SolveAnswer}
+use Rattle.ipm_simd.specs.Solve.{Given, call, words, room, plannedHas, told, outcomeVerdict, memoryVerdict, ifPassed}
+
+-- e, h and d are E, S and D
+pub record Counted (off cols : List ℕ) (m e h d : ℕ) : Type 0 where
+  pub stored : e ≡ countE off cols m
+  pub shared : h ≡ countS off cols m
+  pub products : d ≡ countD off cols m
+
+-- an accepted matrix with its values, and an index memory that starts with its plan
+pub record Planned (off cols : List ℕ) (vals : List Float) (m n s : ℕ) (index : List ℕ) (e h d : ℕ) : Type 0 where
+  pub ok : Accepted off cols m n
+  pub values : length vals ≡ length cols
+  pub slack : s ≤ m
+  pub counts : Counted off cols m e h d
+  pub rest : List ℕ
+  pub plan : index ≡ planWords off cols m n ++ rest
+
+-- questions 1 to 10 got a yes
+pub record Asked10 (a : Given) (B : Buffers) (e h d : ℕ) : Type 0 where
+  pub ok : Accepted (a .offsets) (a .columns) (a .m) (a .n)
+  pub values : length (a .values) ≡ length (a .columns)
+  pub counts : Counted (a .offsets) (a .columns) (a .m) e h d
+  pub index : sizeW (a .offsets) (a .columns) (a .m) (a .n) ≤ length (B .index)
+  pub lists : Lent (a .m) (a .n) (a .s) (a .b) (a .c) (a .tolerances)
+  pub output : length (B .output) ≡ 4 * a .n
+  pub work : 4 * (lAt (a .n) (a .m) (a .s) + e) ≤ length (B .work)
+  pub from : 1 ≤ a .limit
+  pub upTo : a .limit ≤ largestLimit
+
+-- on acceptance the new list, else the old
+abbrev pub written : Outcome → List Float → List Float → List Float
+written (accepted k) new old = new
+written (noAt11 k l) new old = old
+written (noAt12 k) new old = old
+
+-- the tests were made: the answer, the lent lists and demand 3
+pub record Finished (a : Given) (B B′ : Buffers) (r : SolveAnswer) : Type 0 where
+  pub answer : told r ≡ outcomeVerdict (solved (call a) (a .limit))
+  pub buffers : B′ ≡ leaves (call a) (words a) (room a) (a .limit) B
+  pub demand3 : Demand3 (call a) (words a) (room a) (plannedHas a) (a .limit) B B′ (solved (call a) (a .limit))
+
+-- questions 6 to 10, and then the tests
+pub record Continued (a : Given) (B B′ : Buffers) (r : SolveAnswer) : Type 0 where
+  pub answer : told r ≡ andThen (memoryVerdict a B) (outcomeVerdict (solved (call a) (a .limit)))
+  pub buffers : B′ ≡ ifPassed a (memoryVerdict a B) (leaves (call a) (words a) (room a) (a .limit) B) B
+  pub demand3 : memoryVerdict a B ≡ passed → Demand3 (call a) (words a) (room a) (plannedHas a) (a .limit) B B′ (solved (call a) (a .limit))

@@ -1,0 +1,120 @@
+-- The public call `solve`: its questions, its answer, what it leaves in the lent lists, and demand 3. Definitions only.
+use mathlib.Core.Path.{_≡_}
+use mathlib.Core.Bool.{Bool, _&&_}
+use mathlib.Core.List.{List}
+use Prim.Native.Nat.{ℕ, _+_, _*_}
+use lib.Dec.{eqb, leb}
+use lib.ListN.{length}
+use lib.Ieee.{Float}
+use Rattle.csr.specs.Verdict.{Verdict, passed, planned, refused, accepted as acceptedAt, ask, andThen, refusal}
+use Rattle.csr.specs.Questions.{firstNo}
+use Rattle.csr.specs.Counts.{countE, sizeW, sizeF}
+use Rattle.csr.specs.Pattern.{has, row}
+use Rattle.lists.specs.Lists.{shape, listOf, planWords}
+use Rattle.lists.specs.declared.Which.the-variants.{Lindptr, Lindices}
+use Rattle.machine.specs.declared.Outcome.{Outcome}
+use Rattle.machine.specs.declared.Outcome.the-variants.{Accepted as accepted, NoAt11 as noAt11, NoAt12 as noAt12}
+use Rattle.machine.specs.Outcome.{largestLimit, Call, solved}
+use Rattle.machine.specs.Demand3.{Buffers, leaves, Demand3}
+use Rattle.machine.specs.Work.{callOf}
+use Rattle.ipm_simd.specs.declared.SolveAnswer.{SolveAnswer}
+use Rattle.ipm_simd.specs.declared.SolveAnswer.the-variants.{Accepted, Refused}
+
+-- what a caller lends and states, but for the lists that may change
+pub record Given : Type 0 where
+  pub m : ℕ
+  pub n : ℕ
+  pub s : ℕ
+  pub offsets : List ℕ
+  pub columns : List ℕ
+  pub values : List Float
+  pub b : List Float
+  pub c : List Float
+  pub tolerances : List Float
+  pub limit : ℕ
+
+abbrev pub given : ℕ → ℕ → ℕ → List ℕ → List ℕ → List Float → List Float → List Float → List Float → ℕ → Given
+given m n s offsets columns values b c tolerances limit =
+    record { m = m; n = n; s = s; offsets = offsets; columns = columns; values = values; b = b; c = c; tolerances = tolerances; limit = limit }
+
+abbrev pub lent : List Float → List ℕ → List Float → Buffers
+lent output index work = record { output = output; index = index; work = work }
+
+-- each case of the answer, by document 01's number and values
+abbrev pub told : SolveAnswer → Verdict
+told (Accepted k) = acceptedAt k
+told (Refused r) = refusal r
+
+-- how the tests end, as an answer: 'accepted and the test'; 11 with its test and its lane; 12 with N
+abbrev pub outcomeVerdict : Outcome → Verdict
+outcomeVerdict (accepted k) = acceptedAt k
+outcomeVerdict (noAt11 k l) = refused 11 k l
+outcomeVerdict (noAt12 k) = refused 12 k 0
+
+-- question 8: 'Are b, c, tolerances and output exactly as long as stated?'
+abbrev pub lengthsRight : ℕ → ℕ → ℕ → ℕ → ℕ → ℕ → Bool
+lengthsRight m n b c tolerances output = eqb b (4 * m) && eqb c (4 * n) && eqb tolerances 12 && eqb output (4 * n)
+
+-- questions 6 to 10, by W, E, the sizes, the lengths of the lists, and N
+unfoldable pub sizesVerdict : ℕ → ℕ → ℕ → ℕ → ℕ → ℕ → ℕ → ℕ → ℕ → ℕ → ℕ → ℕ → Verdict
+sizesVerdict W E m n s index b c tolerances output work N =
+    ask (leb W index)
+    (ask (leb s m)
+    (ask (lengthsRight m n b c tolerances output)
+    (ask (leb (4 * (5 * n + 3 * m + 2 * s + E)) work)
+    (ask (leb 1 N && leb N largestLimit)
+    passed
+    (refused 10 0 0))
+    (refused 9 0 0))
+    (refused 8 0 0))
+    (refused 7 0 0))
+    (refused 6 0 0)
+
+module _ (a : Given) where
+  -- the four machines, the plan and the room that the working memory needs
+  abbrev pub call : Call
+  call = callOf (a .m) (a .n) (a .s) (a .offsets) (a .columns) (a .values) (a .b) (a .c) (a .tolerances)
+
+  abbrev pub words : List ℕ
+  words = planWords (a .offsets) (a .columns) (a .m) (a .n)
+
+  abbrev pub room : ℕ
+  room = sizeF (a .offsets) (a .columns) (a .m) (a .n) (a .s)
+
+  -- row i of the plan's lindptr and lindices has j
+  abbrev pub plannedHas : ℕ → ℕ → Bool
+  plannedHas i j = has (row (listOf (shape (a .offsets) (a .columns)) Lindptr (a .m)) (listOf (shape (a .offsets) (a .columns)) Lindices (a .m)) i) j
+
+  -- questions 6 to 10 of a matrix that has passed 1 to 5
+  unfoldable pub memoryVerdict : Buffers → Verdict
+  unfolding sizesVerdict sizeW countE
+  memoryVerdict B =
+      sizesVerdict (sizeW (a .offsets) (a .columns) (a .m) (a .n)) (countE (a .offsets) (a .columns) (a .m)) (a .m) (a .n) (a .s)
+      (length (B .index)) (length (a .b)) (length (a .c)) (length (a .tolerances)) (length (B .output)) (length (B .work)) (a .limit)
+
+  -- questions 1 to 10
+  unfoldable pub begun : Buffers → Verdict
+  unfolding firstNo memoryVerdict
+  begun B = andThen (firstNo (a .m) (a .n) (a .offsets) (a .columns) (length (a .values))) (memoryVerdict B)
+
+  -- 1 to 10, then 11 and 12 by the machines
+  unfoldable pub solveVerdict : Buffers → Verdict
+  unfolding begun solved
+  solveVerdict B = andThen (begun B) (outcomeVerdict (solved call (a .limit)))
+
+  -- 'A no at 1 to 10 changes no buffer.'
+  abbrev pub ifPassed : Verdict → Buffers → Buffers → Buffers
+  ifPassed passed new old = new
+  ifPassed (planned w) new old = old
+  ifPassed (acceptedAt k) new old = old
+  ifPassed (refused q p l) new old = old
+
+  unfoldable pub solveBuffers : Buffers → Buffers
+  unfolding begun sizeF solved
+  solveBuffers B = ifPassed (begun B) (leaves call words room (a .limit) B) B
+
+  -- the answer, the lent lists, and demand 3 whole once questions 1 to 10 got a yes
+  pub record Solved (B B′ : Buffers) (r : SolveAnswer) : Type 0 where
+    pub answer : told r ≡ solveVerdict B
+    pub buffers : B′ ≡ solveBuffers B
+    pub demand3 : begun B ≡ passed → (o : Outcome) × (told r ≡ outcomeVerdict o) × Demand3 call words room plannedHas (a .limit) B B′ o

@@ -1,0 +1,50 @@
+use Prim.Native.Nat.{ℕ, _+_, _*_, _-_, _≤_}
+use mathlib.Core.Path.{_≡_, sym, ap}
+use native.Mathlib.Omega.{arith}
+use Rattle.lists.specs.Cat.{cat, Wrote}
+use Rattle.lists.proofs.Write.{wrote-none, wrote-join, wrote-as, wrote-length, cat-next}
+use Rattle.record.specs.Text.{lineText}
+use Rattle.record.proofs.text.put_lines.Statement.{statement}
+use Rattle.record.proofs.text.put_lines.Tie as tie
+
+abbrev Inv-loop : tie.InvT-loop
+Inv-loop out₀ start x n at₀ e₀ out at e = (e ≤ n) × ((at ≡ start + 68 * e) × Wrote out₀ out start (cat e (lineText x)) at)
+
+abbrev μ-loop : tie.MeasureT-loop
+μ-loop out₀ start x n at₀ e₀ out at e = n - e
+
+loop-holds : tie.Need-loop-holds Inv-loop μ-loop
+unfolding cat
+loop-holds c = (omega arith, (omega arith, wrote-none _ _))
+
+put-line-requires : tie.Need-put-line-requires Inv-loop μ-loop
+put-line-requires c κs = (omega (arith, wrote-length _ _ _ _ _ (c .before .before .loop .inv .1 .1), c .before .before .before .before .before .pre .0), omega (arith, c .before .before .before .before .before .pre .1))
+
+add-e : tie.Need-add-e Inv-loop μ-loop
+add-e c = omega arith
+
+loop-less : tie.Need-loop-less Inv-loop μ-loop
+loop-less c = omega arith
+
+loop-again : tie.Need-loop-again Inv-loop μ-loop
+loop-again c = (omega arith, (omega (arith, c .before .before .put-line .ensures .1), wrote-as _ _ _ _ _ _ (sym (cat-next _ _)) (wrote-join _ _ _ _ _ _ _ _ (c .before .before .before .before .before .loop .inv .1 .1) (c .before .before .put-line .ensures .0))))
+
+same-length : tie.Need-same-length Inv-loop μ-loop
+same-length c = wrote-length _ _ _ _ _ (c .before .loop .inv .1 .1)
+
+returns : tie.Need-returns Inv-loop μ-loop
+returns c = wrote-as _ _ _ _ _ _ (ap (λ (k : ℕ). cat k (lineText (c .before .before .before .before .args .x .now))) (omega arith)) (c .before .loop .inv .1 .1)
+
+pub put-lines-spec : {M : Type 1} → statement M
+put-lines-spec =
+    tie.close
+    (tie.spec
+    Inv-loop
+    μ-loop
+    loop-holds
+    put-line-requires
+    add-e
+    loop-less
+    loop-again
+    same-length
+    returns)

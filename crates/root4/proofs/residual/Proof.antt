@@ -1,0 +1,57 @@
+-- `root4::residual` meets its contract. Assumes nothing.
+use Prim.Native.Nat.{_/_, _%_, _^_}
+use native.Mathlib.Omega.{arith}
+use Rattle.root4.proofs.Exact.{Halves, halves, residual-law}
+use borrow.Author.Needs.{needs}
+use Rattle.root4.proofs.residual.Statement.{statement}
+use Rattle.root4.proofs.residual.Tie as tie
+
+facts : (c : tie.Start) → let q = c .args .q in Halves q (q / 2 ^ 26) (q % 2 ^ 26)
+facts c = halves _ (c .pre .3)
+
+add-wrapping-sub-u64 : tie.Need-add-wrapping-sub-u64
+add-wrapping-sub-u64 c = search needs
+
+mul-wrapping-sub-u64 : tie.Need-mul-wrapping-sub-u64
+mul-wrapping-sub-u64 c = omega (arith, facts c)
+
+wrapping-sub-u64-requires : tie.Need-wrapping-sub-u64-requires
+wrapping-sub-u64-requires c κs = search needs
+
+mul-wrapping-sub-u64-2 : tie.Need-mul-wrapping-sub-u64-2
+mul-wrapping-sub-u64-2 c = omega (arith, facts (c .before))
+
+mul-wrapping-sub-u64-3 : tie.Need-mul-wrapping-sub-u64-3
+mul-wrapping-sub-u64-3 c = omega (arith, facts (c .before))
+
+wrapping-sub-u64-requires-2 : tie.Need-wrapping-sub-u64-requires-2
+wrapping-sub-u64-requires-2 c κs = search needs
+
+mul-wrapping-sub-u64-4 : tie.Need-mul-wrapping-sub-u64-4
+mul-wrapping-sub-u64-4 c = omega (arith, facts (c .before .before))
+
+wrapping-sub-u64-requires-3 : tie.Need-wrapping-sub-u64-requires-3
+wrapping-sub-u64-requires-3 c κs = search needs
+
+add-t8 : tie.Need-add-t8
+add-t8 c = search needs
+
+returns : tie.Need-returns
+returns c =
+    residual-law _ _ _ _ _ _ _ (facts (c .before .before .before)) (c .before .before .wrapping-sub-u64 .ensures) (c .before .wrapping-sub-u642 .ensures) (c .wrapping-sub-u643 .ensures)
+    (c .before .before .wrapping-sub-u64 .ok) (c .before .wrapping-sub-u642 .ok)
+
+pub residual-spec : {M : Type 1} → statement M
+residual-spec =
+    tie.close
+    (tie.spec
+    add-wrapping-sub-u64
+    mul-wrapping-sub-u64
+    wrapping-sub-u64-requires
+    mul-wrapping-sub-u64-2
+    mul-wrapping-sub-u64-3
+    wrapping-sub-u64-requires-2
+    mul-wrapping-sub-u64-4
+    wrapping-sub-u64-requires-3
+    add-t8
+    returns)

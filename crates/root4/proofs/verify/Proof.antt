@@ -1,0 +1,25 @@
+-- `root4::verify` meets its contract. Assumes nothing.
+use mathlib.Core.Path.{sym, subst}
+use lib.Dec.{T}
+use Rattle.root.proofs.Floats.{read-back}
+use borrow.Author.Needs.{needs}
+use Rattle.root4.proofs.verify.Statement.{statement}
+use Rattle.root4.proofs.verify.Tie as tie
+
+float-to-bits-verify-bits : tie.Need-float-to-bits-verify-bits
+float-to-bits-verify-bits c = search needs
+
+float-to-bits-verify-bits-2 : tie.Need-float-to-bits-verify-bits-2
+float-to-bits-verify-bits-2 c = search needs
+
+verify-bits-requires : tie.Need-verify-bits-requires
+verify-bits-requires c κs = search needs
+
+returns : tie.Need-returns
+returns c =
+    let t = c .verify-bits .ensures in
+    record { right = λ e. read-back _ (subst T (sym (c .before .good .0 .1)) tt) _ (t .right e); number = t .number; bound = t .bound }
+
+pub verify-spec : {M : Type 1} → statement M
+verify-spec =
+    tie.close (tie.spec float-to-bits-verify-bits float-to-bits-verify-bits-2 verify-bits-requires returns)

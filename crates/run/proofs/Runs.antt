@@ -1,0 +1,143 @@
+-- The loop over the tests, over the real working memory. Assumes nothing.
+use mathlib.Core.Path.{_≡_, refl, sym, ap, _∙_}
+use mathlib.Core.Logic.{_≢_}
+use mathlib.Core.Bool.{not}
+use mathlib.Core.List.{List, [], _∷_}
+use Prim.Native.Nat.{ℕ, _+_, _*_, _/_, _%_, _≤_, _<_}
+use native.Mathlib.Omega.{arith}
+use borrow.Author.Tests.{eq-eqb}
+use lib.ListN.{length, getD}
+use lib.Ieee.{Float}
+use Rattle.lanes.specs.Lists.{at, first, lane}
+use Rattle.lanes.proofs.Lists.{vec-length, lane-at, first-under}
+use Rattle.lanes.proofs.Quads.{four-lanes}
+use Rattle.machine.specs.Machine.{State, Machine, live, lost, standard, status, yields}
+use Rattle.machine.specs.declared.Status.{Status}
+use Rattle.machine.specs.declared.Status.the-variants.{Spoilt as spoilt, Done as done}
+use Rattle.machine.specs.declared.Outcome.{Outcome}
+use Rattle.machine.specs.declared.Outcome.the-variants.{Accepted as accepted, NoAt11 as noAt11, NoAt12 as noAt12}
+use Rattle.machine.specs.Outcome.{isSpoilt, isDone, allDone, lowestUndone, Call, laneData, laneMachine, laneStatus, xOf, xAt}
+use Rattle.machine.specs.Demand3.{Memory, Has, numbers, Reads, AtTest, Made}
+use Rattle.machine.specs.Work.{callOf, problemOf, Says, Stepped, Ran}
+use Rattle.machine.proofs.Machines.{slot, lane-live, output-at}
+use Rattle.machine.proofs.Ends.{all-yes}
+use Rattle.machine.proofs.Demand3.{made-test}
+use Rattle.machine.proofs.Turns.{Going, steps-reads, made, ran-spoilt, ran-done, ran-spent, steps-on, start-steps}
+use Rattle.tests.specs.Layout.{numbersAt}
+use Rattle.step.specs.Steps.{LanesStep}
+use Rattle.run.specs.Tests.{memoryAt, Bears, Tested, Run}
+use Rattle.run.proofs.Memories.{quads-ext, part-length, numbers-at}
+
+not-accepted-11 : (i l k : ℕ) → noAt11 i l ≡ accepted k → ⊥
+not-accepted-11 i l k e = let z : _≡_ {A = ℕ} 0 1 = cc in omega arith
+
+not-accepted-12 : (i k : ℕ) → noAt12 i ≡ accepted k → ⊥
+not-accepted-12 i k e = let z : _≡_ {A = ℕ} 0 1 = cc in omega arith
+
+same-test : (i k : ℕ) → accepted i ≡ accepted k → i ≡ k
+same-test i k e = cc
+
+done-not : (t : Status) → t ≡ done → t ≢ spoilt
+done-not t p q = let z : _≡_ {A = ℕ} 0 1 = cc in omega arith
+
+-- no lane is spoilt
+pub not-spoilt : (said : List Status) (r : ℕ) → r ≡ first 4 (λ l. isSpoilt (getD said l spoilt)) → (r < 4 → ⊥) → (l : ℕ) → l < 4 → getD said l spoilt ≢ spoilt
+not-spoilt said r e h l a z = h (omega (arith, e, first-under (λ i. isSpoilt (getD said i spoilt)) 4 l a (ap isSpoilt z)))
+
+module _ (m n s : ℕ) (off cols : List ℕ) (vals b c tol : List Float) where
+  abbrev C : Call
+  C = callOf m n s off cols vals b c tol
+
+  -- what the tests say of a lane: what its numbers in the memory yield
+  says-of : (v : List Float) (said : List Status)
+      → ((l : ℕ) → l < 4 → getD said l spoilt ≡ status (problemOf m n s off cols vals) standard (laneData C l) (numbersAt m n s v l)) → Says C (memoryAt m n s v) said
+  says-of v said h l a = h l a ∙ ap (status (problemOf m n s off cols vals) standard (laneData C l)) (sym (numbers-at m n s off cols vals b c tol v l a))
+
+  pub said-at : (v : List Float) (said : List Status) → Says C (memoryAt m n s v) said
+      → (l : ℕ) → l < 4 → getD said l spoilt ≡ status (problemOf m n s off cols vals) standard (laneData C l) (numbersAt m n s v l)
+  said-at v said h l a = h l a ∙ ap (status (problemOf m n s off cols vals) standard (laneData C l)) (numbers-at m n s off cols vals b c tol v l a)
+
+  -- ---- the test
+  yields-of : (k : ℕ) (M : Memory) → Bears C k M → (l : ℕ) → l < 4 → status (C .problem) (C .settings) (laneData C l) (numbers C M l) ≡ laneStatus C l k
+  unfolding laneStatus
+  yields-of k M B l a = go (laneMachine C l k) (B .reads l a) (B .shown l a)
+    where
+      go : (X : Machine) → Has X (numbers C M l) → (X ≡ lost → status (C .problem) (C .settings) (laneData C l) (numbers C M l) ≡ spoilt)
+          → status (C .problem) (C .settings) (laneData C l) (numbers C M l) ≡ yields (C .problem) (C .settings) (laneData C l) X
+      go (live q) e f = ap (status (C .problem) (C .settings) (laneData C l)) e ∙ (unfold yields in refl)
+      go lost e f = f refl ∙ (unfold yields in refl)
+
+  pub tested-at : (k : ℕ) (v : List Float) (said : List Status) → Bears C k (memoryAt m n s v)
+      → ((l : ℕ) → l < 4 → getD said l spoilt ≡ status (problemOf m n s off cols vals) standard (laneData C l) (numbersAt m n s v l))
+      → Tested C k (memoryAt m n s v) said
+  tested-at k v said B h = record {
+    made = record { has = B .reads; says = λ l a. says-of v said h l a ∙ yields-of k (memoryAt m n s v) B l a };
+    says = says-of v said h;
+  }
+
+  -- ---- the step
+  pub stepped-at : {top : ℕ} (v v′ : List Float) → LanesStep (problemOf m n s off cols vals) standard (laneData C) top v v′ → Stepped C (memoryAt m n s v) (memoryAt m n s v′)
+  stepped-at v v′ S l a =
+      numbers-at m n s off cols vals b c tol v′ l a
+      ∙ S .taken l a
+      ∙ rw (numbers-at m n s off cols vals b c tol v l a)
+
+  module _ (N k : ℕ) (M : Memory) (g : Going C N k M) where
+    four : List Status
+    four = σ 0 ∷ σ 1 ∷ σ 2 ∷ σ 3 ∷ []
+      where
+        σ : ℕ → Status
+        σ l = status (C .problem) (C .settings) (laneData C l) (numbers C M l)
+
+    four-says : Says C M four
+    unfolding four
+    four-says = four-lanes (λ (l : ℕ). getD four l spoilt ≡ status (C .problem) (C .settings) (laneData C l) (numbers C M l)) refl refl refl refl
+
+    status-is : (l : ℕ) → l < 4 → status (C .problem) (C .settings) (laneData C l) (numbers C M l) ≡ laneStatus C l (k + 1)
+    status-is l a = sym (four-says l a) ∙ made-test C (k + 1) M four (made C N k M four g four-says) .says l a
+
+    -- the next test's memory bears its machines' numbers
+    pub bears : Bears C (k + 1) M
+    bears = record {
+      reads = steps-reads C N k M g;
+      shown = λ l a e. status-is l a ∙ (unfold laneStatus in ap (yields (C .problem) (C .settings) (laneData C l)) e ∙ (unfold yields in refl));
+    }
+    -- where all the machines are done the memory has their x
+
+  x-at : (k : ℕ) (v : List Float) (said : List Status) → 4 * n ≤ length v → Made C k (memoryAt m n s v) said → ((l : ℕ) → l < 4 → getD said l spoilt ≡ done)
+      → memoryAt m n s v .x ≡ xAt C k
+  x-at k v said room mk d =
+      quads-ext n (memoryAt m n s v .x) (xAt C k) (part-length v 0 n (omega arith)) (unfold xAt in vec-length (4 * n) (λ p. xOf C (laneMachine C (p % 4) k) (p / 4)))
+      (λ e l h a.
+      let t = made-test C k (memoryAt m n s v) said mk in
+      let z : laneMachine C l k ≡ live (numbers C (memoryAt m n s v) l) =
+      lane-live C k (memoryAt m n s v) said t l a (done-not (laneStatus C l k) (sym (t .says l a) ∙ d l a)) in
+      sym (lane-at 4 n l (memoryAt m n s v .x) e h) ∙ sym (output-at C k l e a h ∙ ap (λ (X : Machine). xOf C X e) z))
+
+  -- no lane is left behind: all are done
+  all-of : (said : List Status) (u : ℕ) → u ≡ first 4 (λ l. not (isDone (getD said l spoilt))) → u ≡ 4 → (l : ℕ) → l < 4 → getD said l spoilt ≡ done
+  all-of said u e f =
+      all-yes 4 (λ l _. getD said l spoilt) 0 (unfold allDone lowestUndone in eq-eqb (first 4 (λ l. not (isDone (getD said l spoilt)))) 4 (sym e ∙ f))
+
+  -- ---- the end
+  module _ (N k : ℕ) (v : List Float) (said : List Status) (g : Going C N k (memoryAt m n s v)) (h : Says C (memoryAt m n s v) said) where
+    pub run-spoilt : (r : ℕ) → r ≡ first 4 (λ l. isSpoilt (getD said l spoilt)) → r < 4 → Run C N (memoryAt m n s v) (noAt11 (k + 1) r)
+    run-spoilt r e l = record {
+      ran = ran-spoilt C N k (memoryAt m n s v) said g h r e l;
+      x = λ j z. absurd (not-accepted-11 (k + 1) r j z);
+    }
+
+    module _ (r u : ℕ) (e : r ≡ first 4 (λ l. isSpoilt (getD said l spoilt))) (d : u ≡ first 4 (λ l. not (isDone (getD said l spoilt)))) (no : r < 4 → ⊥) where
+      pub run-done : 4 * n ≤ length v → u ≡ 4 → Run C N (memoryAt m n s v) (accepted (k + 1))
+      run-done room z = record {
+        ran = ran-done C N k (memoryAt m n s v) said g h r u e d no z;
+        x = λ j f.
+            x-at (k + 1) v said room (made C N k (memoryAt m n s v) said g h) (all-of said u d z)
+            ∙ ap (xAt C) (same-test (k + 1) j f);
+      }
+
+      pub run-spent : (u ≡ 4 → ⊥) → k + 1 ≡ N → Run C N (memoryAt m n s v) (noAt12 (k + 1))
+      run-spent z q = record {
+        ran = ran-spent C N k (memoryAt m n s v) said g h r u e d no z q;
+        x = λ j f. absurd (not-accepted-12 (k + 1) j f);
+      }

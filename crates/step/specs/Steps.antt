@@ -1,0 +1,95 @@
+-- What the functions of a step leave in the working memory, lane by lane. Definitions only.
+use Prim.Native.Nat.{ℕ, _*_, _≤_, _<_}
+use mathlib.Core.Path.{_≡_}
+use mathlib.Core.Bool.{Bool, cond, false}
+use mathlib.Core.List.{List}
+use lib.ListN.{getD, length}
+use lib.Ieee.{Float}
+use Rattle.lanes.specs.Lists.{at, vec}
+use Rattle.lanes.specs.Region.{reg}
+use Rattle.lanes.specs.Arithmetic.{_⊘_, null, one, smaller}
+use Rattle.lanes.specs.Constants.{startValue, dampingValue}
+use Rattle.machine.specs.Machine.{Problem, LaneData, Settings, State, Direction, fOf, dxOf, complement, theta, direction, stepLength, moved, status}
+use Rattle.machine.specs.Work.{stepBy, stepOf}
+use Rattle.tests.specs.Layout.{dyAt, rhsAt, lAt, numbersAt, directionAt}
+
+-- nothing from entry `top` on has changed
+pub record Untouched (top : ℕ) (old new : List Float) : Type 0 where
+  pub size : length new ≡ length old
+  pub beyond : (j : ℕ) → 4 * top ≤ j → at new j ≡ at old j
+
+module _ (A : Problem) where
+  -- lane t's numbers, and what its step has worked out, in a memory
+  abbrev pub numbersIn : List Float → ℕ → State
+  numbersIn ws t = numbersAt (A .m) (A .n) (A .s) ws t
+
+  abbrev pub directionIn : List Float → ℕ → Direction
+  directionIn ws t = directionAt (A .m) (A .n) (A .s) ws t
+
+  -- the numbers have not changed
+  pub record Still (top : ℕ) (old new : List Float) : Type 0 where
+    pub frame : Untouched top old new
+    pub kept : (t : ℕ) → t < 4 → numbersIn new t ≡ numbersIn old t
+
+  module _ (H : Settings) (d : ℕ → LaneData) where
+    -- dx, dz and dw of dy
+    abbrev pub changes : ℕ → State → Float → List Float → Direction
+    changes t q mu dy =
+        let dx = dxOf A H (d t) q mu dy in
+        record { dx = dx; dz = complement (A .n) mu (q .z) (q .x) dx; dy = dy; dw = complement (A .s) mu (q .w) (q .y) dy }
+
+    -- the right-hand side is the machine's f
+    pub record RightSide (mu old new : List Float) : Type 0 where
+      pub still : Still (lAt (A .n) (A .m) (A .s)) old new
+      pub rhs : (t : ℕ) → t < 4 → reg 4 new (rhsAt (A .n) (A .m)) (A .m) t ≡ fOf A H (d t) (numbersIn old t) (at mu t)
+
+    -- dx, dz and dw are those of the dy that is there, dy has not changed, and `ratios` are the lanes' thetas
+    pub record Changed (mu old new ratios : List Float) : Type 0 where
+      pub still : Still (lAt (A .n) (A .m) (A .s)) old new
+      pub worked : (t : ℕ) → t < 4 → directionIn new t ≡ changes t (numbersIn old t) (at mu t) (reg 4 old (dyAt (A .n) (A .m)) (A .m) t)
+      pub largest : (t : ℕ) → t < 4 → at ratios t ≡ theta A H (d t) (numbersIn new t) (directionIn new t)
+
+    -- the step is worked out
+    pub record Directed (top : ℕ) (mu old new ratios : List Float) : Type 0 where
+      pub still : Still top old new
+      pub worked : (t : ℕ) → t < 4 → directionIn new t ≡ direction A H (d t) (numbersIn old t) (at mu t)
+      pub largest : (t : ℕ) → t < 4 → at ratios t ≡ theta A H (d t) (numbersIn new t) (directionIn new t)
+
+    -- the step is taken, by the lane's step length or, where the lane is done, by 0
+    pub record Took (top : ℕ) (mu : List Float) (done : List Bool) (old new : List Float) : Type 0 where
+      pub frame : Untouched top old new
+      pub taken :
+          (t : ℕ)
+          → t < 4
+          → let q = numbersIn old t in
+          let r = direction A H (d t) q (at mu t) in
+          numbersIn new t ≡ stepBy A q (cond (getD done t false) null (stepLength A H (d t) q r)) r
+
+    -- each lane takes its own step, as its own test says
+    pub record LanesStep (top : ℕ) (old new : List Float) : Type 0 where
+      pub frame : Untouched top old new
+      pub taken :
+          (t : ℕ) → t < 4 → let q = numbersIn old t in numbersIn new t ≡ stepOf A H (d t) q (status A H (d t) q)
+
+-- each number p becomes 1·p + h·dp
+abbrev pub movedBy : ℕ → ℕ → ℕ → State → Float → Direction → State
+movedBy m n s q h r =
+    record { x = moved n h (q .x) (r .dx); z = moved n h (q .z) (r .dz); y = moved m h (q .y) (r .dy); w = moved s h (q .w) (r .dw) }
+
+-- the numbers are moved by what was worked out
+pub record Advanced (m n s : ℕ) (ratios : List Float) (done : List Bool) (old new : List Float) : Type 0 where
+  pub frame : Untouched (lAt n m s) old new
+  pub taken :
+      (t : ℕ)
+      → t < 4
+      → let h = cond (getD done t false) null (smaller (dampingValue ⊘ at ratios t) one) in
+      numbersAt m n s new t ≡ movedBy m n s (numbersAt m n s old t) h (directionAt m n s old t)
+
+-- every number is 1000.0
+pub record Fresh (m n s : ℕ) (old new : List Float) : Type 0 where
+  pub frame : Untouched (lAt n m s) old new
+  pub all :
+      (t : ℕ)
+      → t < 4
+      → numbersAt m n s new t
+      ≡ record { x = vec n (λ _. startValue); z = vec n (λ _. startValue); y = vec m (λ _. startValue); w = vec s (λ _. startValue) }

@@ -1,0 +1,2 @@
+pub mod ToMachine
+pub mod Tests

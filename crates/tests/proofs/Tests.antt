@@ -1,0 +1,111 @@
+-- The calls of a test give in each lane what the machine's test yields. Assumes nothing.
+use mathlib.Core.Path.{_≡_, refl, sym, ap, _∙_, subst}
+use mathlib.Core.Bool.{Bool, true, false, cond, _&&_}
+use mathlib.Core.List.{List}
+use Prim.Native.Nat.{ℕ, _+_, _-_, _*_, _≤_, _<_}
+use native.Mathlib.Omega.{arith}
+use lib.Dec.{ltb, eqb}
+use borrow.Author.Tests.{eq-eqb}
+use lib.ListN.{length, getD}
+use lib.Ieee.{Float, nan, inf, fin, ne, lt, isNan, up, down}
+use Rattle.lanes.specs.Lists.{at, vec, fold, lane}
+use Rattle.machine.specs.Machine.{Problem, LaneData, Settings, State, standard, primalResidual, dualResidual, R, Q, G, g, mu, status}
+use Rattle.lanes.specs.Arithmetic.{_⊕_, _⊖_, _⊗_, _⊘_, √, Σ, norm, null, one, whole}
+use Rattle.machine.specs.declared.Status.{Status}
+use Rattle.machine.specs.declared.Status.the-variants.{Spoilt, Done, Step}
+use Rattle.lanes.proofs.Lists.{vec-at}
+use Rattle.machine.proofs.Factor.{fold-same}
+use Rattle.lanes.specs.Constants.{centringValue}
+use Rattle.lanes.specs.Lanes.{lanes}
+use Rattle.lanes.specs.Region.{reg}
+use Rattle.lanes.proofs.Regions.{reg-at}
+use Rattle.lanes.proofs.Quads.{lane-of}
+use Rattle.kernels.specs.Kernels.{qAt, rAt}
+use Rattle.links.specs.Planned.{RowsOf, ColsOf}
+use Rattle.tests.specs.Layout.{yAt, wAt, numbersAt, judged}
+use Rattle.tests.proofs.ToMachine.{row-less, col-less}
+
+-- the first of a region's entries
+pub reg-front : (ws : List Float) (o k n t e : ℕ) → e < k → k ≤ n → at (reg 4 ws o k t) e ≡ at (reg 4 ws o n t) e
+reg-front ws o k n t e h l = reg-at 4 ws o k t e h ∙ sym (reg-at 4 ws o n t e (omega arith))
+
+pub nan-test : (g : Float) → ne g g ≡ isNan g
+unfolding ne isNan
+nan-test nan = refl
+nan-test (inf true) = refl
+nan-test (inf false) = refl
+nan-test (fin true m e) = rw (eq-eqb (m * up e * down e) (m * up e * down e) refl)
+nan-test (fin false m e) = rw (eq-eqb (m * up e * down e) (m * up e * down e) refl)
+
+Σ-same : (n : ℕ) (f h : ℕ → Float) → ((k : ℕ) → k < n → f k ≡ h k) → Σ n f ≡ Σ n h
+unfolding Σ
+Σ-same n f h e = fold-same n (λ k v. v ⊕ f k) (λ k v. v ⊕ h k) null (λ k b r. ap (λ (x : Float). r ⊕ x) (e k b))
+
+squares : (n : ℕ) (f h : ℕ → Float) → ((k : ℕ) → k < n → f k ≡ h k) → √ (Σ n (λ k. f k ⊗ f k)) ≡ norm n (vec n h)
+unfolding norm
+squares n f h e = ap √ (Σ-same n (λ k. f k ⊗ f k) (λ k. at (vec n h) k ⊗ at (vec n h) k) (λ k b. rw (vec-at n h k b, e k b)))
+
+module _ (A : Problem) (d : LaneData) (q : State) where
+  r-machine : RowsOf A → √ (Σ (A .m) (λ i. rAt (A .off) (A .cols) (A .vals) (A .s) (d .b) (q .x) (q .w) i ⊗ rAt (A .off) (A .cols) (A .vals) (A .s) (d .b) (q .x) (q .w) i)) ⊘ (one ⊕ norm (A .n) (q .x)) ≡ R A standard d q
+  unfolding R
+  r-machine rows =
+      ap (λ (v : Float). v ⊘ (one ⊕ norm (A .n) (q .x)))
+      (squares (A .m) (rAt (A .off) (A .cols) (A .vals) (A .s) (d .b) (q .x) (q .w)) (primalResidual A standard d q) (λ i h. unfold rAt primalResidual in row-less A rows i h (q .x) _))
+
+  q-machine : (toff rows places : List ℕ) → ColsOf A toff rows places
+      → √ (Σ (A .n) (λ e. qAt toff rows places (A .vals) (d .c) (q .z) (q .y) e ⊗ qAt toff rows places (A .vals) (d .c) (q .z) (q .y) e)) ⊘ (one ⊕ norm (A .m) (q .y)) ≡ Q A standard d q
+  unfolding Q
+  q-machine toff rows places C =
+      ap (λ (v : Float). v ⊘ (one ⊕ norm (A .m) (q .y)))
+      (squares (A .n) (qAt toff rows places (A .vals) (d .c) (q .z) (q .y)) (dualResidual A standard d q) (λ e h. unfold qAt dualResidual in col-less A toff rows places C e h (q .y) _))
+
+module _ (A : Problem) (d : ℕ → LaneData) (work : List Float) (slack : A .s ≤ A .m) where
+  abbrev q : ℕ → State
+  q t = numbersAt (A .m) (A .n) (A .s) work t
+
+  abbrev gSum : ℕ → Float
+  gSum t = Σ (A .n) (λ e. at (q t .z) e ⊗ at (q t .x) e) ⊕ Σ (A .s) (λ i. at (q t .w) i ⊗ at (reg 4 work (yAt (A .n)) (A .s) t) i)
+
+  g-lanes : {gs : List Float} → gs ≡ lanes gSum → (l : ℕ) → l < 4 → at gs l ≡ g A standard (d l) (q l)
+  unfolding g
+  g-lanes e l b =
+      lane-of gSum e l b
+      ∙ ap (λ (v : Float). Σ (A .n) (λ e. at (q l .z) e ⊗ at (q l .x) e) ⊕ v)
+      (Σ-same (A .s) (λ i. at (q l .w) i ⊗ at (reg 4 work (yAt (A .n)) (A .s) l) i) (λ i. at (q l .w) i ⊗ at (q l .y) i)
+      (λ i h. ap (λ (v : Float). at (q l .w) i ⊗ v) (reg-front work (yAt (A .n)) (A .s) (A .m) l i h slack)))
+
+  pub mu-lanes : {gs ts : List Float} → gs ≡ lanes gSum → ts ≡ lanes (λ t. centringValue ⊗ at gs t ⊘ whole (A .n + A .s))
+      → (l : ℕ) → l < 4 → at ts l ≡ mu A standard (d l) (q l)
+  unfolding mu
+  mu-lanes {gs} eg et l b = lane-of (λ t. centringValue ⊗ at gs t ⊘ whole (A .n + A .s)) et l b ∙ rw (g-lanes eg l b)
+
+  module _ (toff rows places : List ℕ) (rs : RowsOf A) (C : ColsOf A toff rows places) where
+    abbrev rSum : ℕ → Float
+    rSum t = Σ (A .m) (λ i. rAt (A .off) (A .cols) (A .vals) (A .s) (d t .b) (q t .x) (q t .w) i ⊗ rAt (A .off) (A .cols) (A .vals) (A .s) (d t .b) (q t .x) (q t .w) i)
+
+    abbrev qSum : ℕ → Float
+    qSum t = Σ (A .n) (λ e. qAt toff rows places (A .vals) (d t .c) (q t .z) (q t .y) e ⊗ qAt toff rows places (A .vals) (d t .c) (q t .z) (q t .y) e)
+
+    pub tested : {nx ny r qs gs ts gg : List Float} {k : Status}
+        → nx ≡ lanes (λ t. norm (A .n) (q t .x)) → ny ≡ lanes (λ t. norm (A .m) (q t .y))
+        → r ≡ lanes (λ t. √ (rSum t) ⊘ (one ⊕ at nx t)) → qs ≡ lanes (λ t. √ (qSum t) ⊘ (one ⊕ at ny t))
+        → gs ≡ lanes gSum → ts ≡ lanes (λ t. centringValue ⊗ at gs t ⊘ whole (A .n + A .s)) → gg ≡ lanes (λ t. at gs t ⊘ (one ⊕ at nx t ⊕ at ny t))
+        → (l : ℕ) → l < 4 → k ≡ judged (at r l) (at qs l) (at gg l) (at ts l) (d l .primal) (d l .dual) (d l .gap)
+        → k ≡ status A standard (d l) (q l)
+    tested {nx} {ny} {r} {qs} {gs} {ts} {gg} {k} ex ey er eq eg et eh l b ek =
+        ek ∙ rw (re, qe, he, mu-lanes eg et l b) (unfold status in refl)
+      where
+        nxe : at nx l ≡ norm (A .n) (q l .x)
+        nxe = lane-of (λ t. norm (A .n) (q t .x)) ex l b
+
+        nye : at ny l ≡ norm (A .m) (q l .y)
+        nye = lane-of (λ t. norm (A .m) (q t .y)) ey l b
+
+        re : at r l ≡ R A standard (d l) (q l)
+        re = lane-of (λ t. √ (rSum t) ⊘ (one ⊕ at nx t)) er l b ∙ rw nxe (r-machine A (d l) (q l) rs)
+
+        qe : at qs l ≡ Q A standard (d l) (q l)
+        qe = lane-of (λ t. √ (qSum t) ⊘ (one ⊕ at ny t)) eq l b ∙ rw nye (q-machine A (d l) (q l) toff rows places C)
+
+        he : at gg l ≡ G A standard (d l) (q l)
+        he = lane-of (λ t. at gs t ⊘ (one ⊕ at nx t ⊕ at ny t)) eh l b ∙ rw (g-lanes eg l b, nxe, nye) (unfold G in refl)

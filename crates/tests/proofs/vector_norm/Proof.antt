@@ -1,0 +1,17 @@
+use Rattle.lanes.specs.Arithmetic.{norm}
+use borrow.Author.Needs.{needs}
+use Rattle.tests.proofs.vector_norm.Statement.{statement}
+use Rattle.tests.proofs.vector_norm.Tie as tie
+
+dot-product-requires : tie.Need-dot-product-requires
+dot-product-requires c κs = search needs
+
+root4-requires : tie.Need-root4-requires
+root4-requires c κs = search needs
+
+returns : tie.Need-returns
+unfolding norm
+returns c = rw (c .root4 .ensures, c .before .dot-product .ensures)
+
+pub vector-norm-spec : {M : Type 1} → statement M
+vector-norm-spec = tie.close (tie.spec dot-product-requires root4-requires returns)

@@ -1,0 +1,144 @@
+/*
+ * A four-lane interior-point solver for linear programs that share one matrix. Lane l solves
+ *
+ *     maximise c.x   where   A x + w = b,   x >= 0,   w >= 0 in the first s rows and absent in the others,
+ *
+ * with its own b, c and tolerances. All four lanes share A, which is m rows by n columns in compressed rows.
+ *
+ * Link libipm_c.a, written by `rt staticlib ipm_c` to target/staticlib. No function allocates, keeps state, blocks or
+ * fails otherwise than by its answer, so calls may run in several threads, each on memory of its own.
+ *
+ * Pointers: none is NULL, even where the length after it is 0; each is aligned to its element; the parts must not
+ * overlap. A length counts elements, not bytes. Parts without `const` are written as said below, the others only read.
+ *
+ * Lanes: in b, c and output lane l of entry k is at 4 * k + l.
+ */
+#ifndef IPM_H
+#define IPM_H
+
+#include <stddef.h>
+#include <stdint.h>
+
+#ifdef __cplusplus
+extern "C" {
+#endif
+
+/* The limits of one call. */
+enum { IPM_LANES = 4, IPM_ROWS_MOST = 256, IPM_COLUMNS_MOST = 1024, IPM_ENTRIES_MOST = 16384, IPM_TESTS_MOST = 10000 };
+
+/*
+ * An answer is question * 2^40 + place * 2^8 + lane. Question 0 is a yes; its place is W (ipm_plan) or the test at
+ * which all lanes were done, counted from 1 (ipm_solve). Any other question is the first that had a no. Place and
+ * lane are 0 where nothing is said of them.
+ */
+enum {
+    IPM_YES = 0,
+    IPM_ROWS = 1,         /* m is not from 1 to 256 */
+    IPM_COLUMNS = 2,      /* n is not from 1 to 1,024 */
+    IPM_LISTS = 3,        /* offsets, columns or values do not fit together, or t is above 16,384 */
+    IPM_EMPTY_ROW = 4,    /* a row has no entry; place: the first such row */
+    IPM_COLUMN_ORDER = 5, /* a row's columns do not rise strictly or reach n; place: the first such row */
+    IPM_INDEX = 6,        /* the index memory has fewer than W words */
+    IPM_SLACK_ROWS = 7,   /* s is above m */
+    IPM_LENGTHS = 8,      /* b, c, tolerances or output is not exactly as long as stated */
+    IPM_WORK = 9,         /* the working memory has fewer than F numbers */
+    IPM_LIMIT = 10,       /* the limit is not from 1 to 10,000 */
+    IPM_SPOILT = 11,      /* a lane met a NaN; place: the test, lane: the lowest such lane */
+    IPM_NOT_DONE = 12     /* not all lanes were done at any test up to the limit; place: the limit */
+};
+
+static inline unsigned ipm_question(uint64_t answer) { return (unsigned)(answer >> 40); }
+static inline uint32_t ipm_place(uint64_t answer) { return (uint32_t)(answer >> 8); }
+static inline unsigned ipm_lane(uint64_t answer) { return (unsigned)(answer & 0xff); }
+
+/*
+ * Plans the factor of a matrix: asks questions 1 to 6 in order and, after six yeses, writes the plan to the first W
+ * words of `index`, leaves the rest and answers W as the place. A no changes nothing.
+ *
+ * ipm_solve plans for itself, so this call serves to learn W, to ask about a matrix, or to look at the lists.
+ */
+uint64_t ipm_plan(
+    size_t m,                                  /* rows, 1 to 256 */
+    size_t n,                                  /* columns, 1 to 1,024 */
+    const uint32_t *offsets, size_t offsets_len, /* m + 1: row i's entries are offsets[i] .. offsets[i + 1] - 1 */
+    const uint32_t *columns, size_t columns_len, /* t, at most 16,384: each entry's column, rising in each row */
+    uint32_t *index, size_t index_len);          /* at least W words; see ipm_index_enough */
+
+/*
+ * Solves the four lanes: asks questions 1 to 12 in order. A no at 1 to 10 changes nothing. After 11, 12 or a yes the
+ * first W words of `index` hold the plan, the first F numbers of `work` are +0.0, and the rest of both is as before.
+ * `output` changes only after a yes, when it holds x.
+ */
+uint64_t ipm_solve(
+    size_t m,                                    /* rows, 1 to 256 */
+    size_t n,                                    /* columns, 1 to 1,024 */
+    size_t s,                                    /* rows 0 to s - 1 are <= b, the others = b; at most m */
+    const uint32_t *offsets, size_t offsets_len, /* m + 1: row i's entries are offsets[i] .. offsets[i + 1] - 1 */
+    const uint32_t *columns, size_t columns_len, /* t, at most 16,384: each entry's column, rising in each row */
+    const double *values, size_t values_len,     /* t: each entry's value; 0.0 counts as an entry */
+    const double *b, size_t b_len,               /* 4 m: right sides, lane l of row i at 4 i + l */
+    const double *c, size_t c_len,               /* 4 n: objective, lane l of column e at 4 e + l */
+    const double *tolerances, size_t tolerances_len, /* 12: four primal, four dual, four optimality */
+    size_t limit,                                /* tests to make at most, 1 to 10,000 */
+    double *output, size_t output_len,           /* 4 n: x, lane l of column e at 4 e + l */
+    uint32_t *index, size_t index_len,           /* at least W words; see ipm_index_enough */
+    double *work, size_t work_len);              /* at least F numbers; see ipm_work_enough */
+
+/* The bits of the IEEE 754 square root of the binary64 number with these bits; NaN and below zero: 7FF8000000000000. */
+uint64_t ipm_root_bits(uint64_t bits);
+
+/*
+ * Memory. With E entries of the factor, S pairs of entries that share a column and D products,
+ *
+ *     W = 5 E + 3 S + 2 D + 3 m + n + 2 t + 5     and     F = 4 (5 n + 3 m + 2 s + E).
+ *
+ * E, S and D depend on where the entries stand. The two functions below give enough for any matrix of a size, as
+ * though the factor were full; a sparse matrix needs far less. To hold just W words, call ipm_plan once in memory
+ * that is enough (or in memory that grows while the answer is IPM_INDEX) and take the place of its yes. Sizes beyond
+ * the limits give 0: such a call is refused before memory is asked about.
+ */
+static inline int ipm_size_right(size_t m, size_t n, size_t t) {
+    return m <= IPM_ROWS_MOST && n <= IPM_COLUMNS_MOST && t <= IPM_ENTRIES_MOST;
+}
+
+/* At most 12,107,397 words. */
+static inline size_t ipm_index_enough(size_t m, size_t n, size_t t) {
+    if (!ipm_size_right(m, n, t)) return 0;
+    size_t stored = m * (m + 1) / 2;               /* E: all pairs of rows */
+    size_t shared = t * (m + 1) / 2;               /* S: all columns full */
+    size_t products = m * (m + 1) / 2 * (m + 2) / 3 - stored; /* D: all k < j <= i */
+    return 5 * stored + 3 * shared + 2 * products + 3 * m + n + 2 * t + 5;
+}
+
+/* At most 157,184 numbers. */
+static inline size_t ipm_work_enough(size_t m, size_t n, size_t s) {
+    if (!ipm_size_right(m, n, 0) || s > m) return 0;
+    return IPM_LANES * (5 * n + 3 * m + 2 * s + m * (m + 1) / 2);
+}
+
+/* What a question asks, as an engineer would say the no to it. */
+static inline const char *ipm_text(uint64_t answer) {
+    static const char *const texts[] = {
+        "yes",
+        "the number of rows is not from 1 to 256",
+        "the number of columns is not from 1 to 1,024",
+        "offsets, columns and values do not fit together, or there are more than 16,384 entries",
+        "a row has no entry",
+        "a row's columns do not rise strictly or reach the number of columns",
+        "the index memory is too small",
+        "there are more slack rows than rows",
+        "b, c, tolerances or output has the wrong length",
+        "the working memory is too small",
+        "the limit is not from 1 to 10,000",
+        "a lane met a NaN",
+        "not all lanes were done within the limit",
+    };
+    unsigned question = ipm_question(answer);
+    return question <= IPM_NOT_DONE ? texts[question] : "no such answer";
+}
+
+#ifdef __cplusplus
+}
+#endif
+
+#endif

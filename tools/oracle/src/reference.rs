@@ -1,0 +1,90 @@
+//! The answers of document 01, by the machine and the lists written from it.
+
+use crate::backend::{Backend, Test, Told, Trace};
+use crate::machine::{Machine, Shape, Verdict};
+use crate::plan::{lists, plan_words};
+use crate::problem::{Answer, LANES, Matrix, Planned, Problem, Refusal, settled_bits};
+use crate::questions::{Room, ask_plan, ask_solve};
+
+/// A run of the four machines: its answer, how it came about, and the lanes that were spoilt by their wait.
+pub struct Run {
+    pub answer: Answer,
+    pub trace: Trace,
+    pub spoilt_waiting: [bool; LANES],
+}
+
+impl Run {
+    fn refused(no: Refusal) -> Self {
+        Run { answer: Answer::Refused(no), trace: Trace::default(), spoilt_waiting: [false; LANES] }
+    }
+
+    /// The first test at which the lane was done.
+    pub fn first_done(&self, l: usize) -> Option<usize> {
+        self.trace.tests.iter().position(|test| test.done[l]).map(|k| k + 1)
+    }
+}
+
+/// The answer once questions 1 to 10 have a yes, or the test goes on.
+fn stopped(verdicts: [Verdict; LANES], test: usize, machines: &[Machine]) -> Option<Answer> {
+    if let Some(lane) = verdicts.iter().position(|&verdict| verdict == Verdict::Spoilt) {
+        return Some(Answer::Refused(Refusal { question: 11, place: test, lane }));
+    }
+    if verdicts != [Verdict::Done; LANES] {
+        return None;
+    }
+    let columns = machines[0].x.len();
+    let numbers = (0..columns).flat_map(|e| machines.iter().map(move |machine| settled_bits(machine.x[e])));
+    Some(Answer::Accepted { test, x: numbers.collect() })
+}
+
+/// The whole of document 01's solve.
+pub fn run(problem: &Problem, room: Room) -> Run {
+    if let Err(no) = ask_solve(problem, room) {
+        return Run::refused(no);
+    }
+    let shape = Shape::new(problem);
+    let mut machines: Vec<Machine> = (0..LANES).map(|l| Machine::new(&shape, problem, l)).collect();
+    let mut run = Run::refused(Refusal::at(12, problem.limit));
+    for test in 1..=problem.limit {
+        let verdicts: [Verdict; LANES] = std::array::from_fn(|l| machines[l].test());
+        let spoilt = verdicts.map(|verdict| verdict == Verdict::Spoilt);
+        run.trace.tests.push(Test { spoilt, done: verdicts.map(|verdict| verdict == Verdict::Done) });
+        if let Some(answer) = stopped(verdicts, test, &machines) {
+            run.answer = answer;
+            break;
+        }
+        for (l, machine) in machines.iter_mut().enumerate() {
+            match verdicts[l] {
+                Verdict::Done => run.spoilt_waiting[l] = machine.wait(),
+                _ => machine.step(),
+            }
+        }
+    }
+    run.trace.numbers = std::array::from_fn(|l| machines[l].numbers());
+    run
+}
+
+/// The plan's words, one list after another.
+pub fn plan(matrix: &Matrix, index: usize) -> Planned {
+    let counts = ask_plan(matrix, index)?;
+    let words = lists(matrix).concat();
+    assert_eq!(words.len(), plan_words(matrix, counts), "the lists fill W words");
+    Ok(words)
+}
+
+pub struct Reference;
+
+impl Backend for Reference {
+    fn name(&self) -> &'static str {
+        "reference"
+    }
+
+    fn solve(&mut self, problem: &Problem) -> Result<Option<Told>, String> {
+        let run = run(problem, Room::ample(problem));
+        Ok(Some(Told { answer: run.answer, trace: Some(run.trace) }))
+    }
+
+    fn plan(&mut self, matrix: &Matrix) -> Result<Option<Planned>, String> {
+        Ok(Some(plan(matrix, usize::MAX)))
+    }
+}
