@@ -2,14 +2,9 @@
 use mathlib.Core.Path.{_≡_}
 use mathlib.Core.Bool.{Bool}
 use mathlib.Core.List.{List, [], _∷_, _++_}
-use Prim.Native.Nat.{ℕ, suc, _+_, _-_, _<_, _≤_}
+use Prim.Native.Nat.{ℕ, suc, _+_, _<_, _≤_}
 use lib.ListN.{length, getD}
-use Rattle.csr.specs.Counts.{sum}
-use Rattle.csr.specs.Pattern.{row, has}
-use lib.Dec.{ltb}
-use mathlib.Core.Bool.{true, false}
-use Rattle.lists.specs.Lists.{find, chosen}
-use Rattle.lists.specs.declared.Take.{Take}
+use Rattle.csr.specs.Pattern.{row}
 use Rattle.lists.specs.Cat.{cat, pick}
 
 -- the k below n that h holds, rising

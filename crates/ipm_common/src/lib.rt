@@ -1,17 +1,18 @@
+// The plan: the sixteen lists of a matrix, by the Rust's `from_matrix` with its transpose.
 ghost use mathlib.Core.Path.{_≡_};
-ghost use mathlib.Core.List.{List, [], _∷_, _++_};
-ghost use mathlib.Core.Bool.{Bool, true, false};
+ghost use mathlib.Core.List.{_++_};
+ghost use mathlib.Core.Bool.{true, false};
 ghost use Prim.Native.Nat.{ℕ, suc, _+_, _*_, _<_, _≤_};
-ghost use lib.ListN.{length, getD, drop, set};
+ghost use lib.ListN.{length, getD, drop};
 ghost use Rattle.pattern.specs.Word.{bit};
-ghost use Rattle.csr.specs.Counts.{sum, sizeW};
+ghost use Rattle.csr.specs.Counts.{sum, countE, countS, countD, sizeW};
 ghost use Rattle.lists.specs.Cat.{Wrote, cat};
 ghost use Rattle.csr.specs.Chain.{Below};
-ghost use Rattle.lists.specs.Lists.{shape, planOf, planWords, walkOf, piece, weight, before, listOf, tenOf, begins, chosen, sharedOf};
+ghost use Rattle.lists.specs.Lists.{shape, planOf, planWords, walkOf, piece, weight, before, listOf, tenOf};
 ghost use Rattle.lists.specs.Ready.{Ready, Accepted};
 ghost use Rattle.ipm_common.specs.Kept.{kept, Rows, placesOf, Room};
 ghost use Rattle.shared.specs.Marked.{Marked};
-ghost use Rattle.ipm_common.specs.Plan.{told, planVerdict, planIndex, Answered};
+ghost use Rattle.ipm_common.specs.Plan.{told, planVerdict, planIndex, Answered, Tallied, Counted};
 ghost use Rattle.transpose.specs.Bins.{Grid};
 ghost use Rattle.csr.specs.Pattern.{row};
 use csr::Asked;
@@ -335,8 +336,15 @@ pub fn put_plan(
     transpose::transpose(off, cols, m, n, next, again, index, b)
 }
 
-// W: E is a count of ones, S and D + E count what pairs of rows share, of the matrix and of the factor.
-fn words(
+// E, S and D.
+pub struct Tally {
+    pub e: u32,
+    pub s: usize,
+    pub d: u32,
+}
+
+// E is a count of ones, S and D + E count what pairs of rows share, of the matrix and of the factor.
+fn count_all(
     m: usize,
     n: usize,
     offsets: &[u32],
@@ -345,25 +353,33 @@ fn words(
     lp: &[u32],
     li: &[u32],
     next: &mut [u32],
-) -> usize
+) -> Tally
     requires { ⌜ Accepted (now offsets) (now columns) m n × Ready (now offsets) (now columns) m (now p) × Rows (bit (now p)) (now lp) (now li) m × Room m n (now next) ⌝ }
-    ensures { λ r. ⌜ r ≡ sizeW (now (offsets .entry)) (now (columns .entry)) m n ⌝ }
+    ensures { λ r. ⌜ Tallied (now (offsets .entry)) (now (columns .entry)) m (r .e) (r .s) (r .d) ⌝ }
 {
-    let e = pattern::count(p, m) as usize;
+    let e = pattern::count(p, m);
     lists::clear(next, n);
     let s = transpose::count_rows(offsets, columns, m, n, next);
     lists::clear(next, m);
     let b = transpose::count_rows(lp, li, m, m, next);
-    5 * e + 3 * s + 2 * (b - e) + 3 * m + n + 2 * columns.len() + 5
+    Tally {
+        e,
+        s,
+        d: (b as u32) - e,
+    }
 }
 
-// The answer of plan: its words, or the first no.
-pub enum PlanAnswer {
-    Planned(usize),
-    Refused(Refusal),
+// W.
+fn words(m: usize, n: usize, t: usize, sizes: Tally) -> usize
+    requires { ⌜ (m ≤ 256) × (n ≤ 1024) × (t ≤ 16384) × (sizes .s ≤ 16777216) ⌝ }
+    ensures { λ r. ⌜ r ≡ 5 * sizes .e + 3 * sizes .s + 2 * sizes .d + 3 * m + n + 2 * t + 5 ⌝ }
+{
+    let e = sizes.e as usize;
+    let d = sizes.d as usize;
+    5 * e + 3 * sizes.s + 2 * d + 3 * m + n + 2 * t + 5
 }
 
-// Question 6, and the plan of a matrix that is accepted, in memories that are long enough.
+// The counts of a matrix that is accepted, and the plan where it is wanted and has room; the memories are long enough.
 fn plan_in(
     m: usize,
     n: usize,
@@ -375,19 +391,23 @@ fn plan_in(
     next: &mut [u32],
     again: &mut [u32],
     index: &mut [u32],
-) -> PlanAnswer
+    wanted: bool,
+) -> Tally
     requires { ⌜ Accepted (now offsets) (now columns) m n × (m < length (now lp)) × (sum m suc ≤ length (now li)) × (length (now li) ≤ 65536) × (n ≤ length (now mark)) × ((c : ℕ) → getD (now mark) c 0 ≡ 0) × Room m n (now next) × Room m n (now again) ⌝ }
-    ensures { λ r. ⌜ Answered m n (now (offsets .entry)) (now (columns .entry)) (now (index .entry)) (now (index .exit)) (told r) ⌝ }
+    ensures { λ r. ⌜ Counted m n (now (offsets .entry)) (now (columns .entry)) wanted (now (index .entry)) (now (index .exit)) (r .e) (r .s) (r .d) ⌝ }
 {
     let mut p = [0u64; 1024];
     shared::pattern(offsets, columns, m, n, mark, &mut p);
     list_rows(&p, m, lp, li);
-    let w = words(m, n, offsets, columns, &p, lp, li, next);
-    if index.len() < w {
-        return PlanAnswer::Refused(Refusal::new(Refusal::INDEX_MEMORY, 0, 0));
+    let t = count_all(m, n, offsets, columns, &p, lp, li, next);
+    if !wanted {
+        return t;
+    }
+    if index.len() < words(m, n, columns.len(), t) {
+        return t;
     }
     put_plan(offsets, columns, m, n, &p, lp, li, mark, next, again, index);
-    PlanAnswer::Planned(w)
+    t
 }
 
 // What is set to 0 before a plan is short where the matrix is small.
@@ -398,9 +418,16 @@ const FEW_COLUMNS: usize = 32;
 const SOME_ROWS: usize = 64;
 
 // At most 16 rows and 32 columns.
-fn plan_few(m: usize, n: usize, offsets: &[u32], columns: &[u32], index: &mut [u32]) -> PlanAnswer
+fn plan_few(
+    m: usize,
+    n: usize,
+    offsets: &[u32],
+    columns: &[u32],
+    index: &mut [u32],
+    wanted: bool,
+) -> Tally
     requires { ⌜ Accepted (now offsets) (now columns) m n × (m ≤ 16) × (n ≤ 32) ⌝ }
-    ensures { λ r. ⌜ Answered m n (now (offsets .entry)) (now (columns .entry)) (now (index .entry)) (now (index .exit)) (told r) ⌝ }
+    ensures { λ r. ⌜ Counted m n (now (offsets .entry)) (now (columns .entry)) wanted (now (index .entry)) (now (index .exit)) (r .e) (r .s) (r .d) ⌝ }
 {
     let mut lp = [0u32; 17];
     let mut li = [0u32; 136];
@@ -418,13 +445,21 @@ fn plan_few(m: usize, n: usize, offsets: &[u32], columns: &[u32], index: &mut [u
         &mut next,
         &mut again,
         index,
+        wanted,
     )
 }
 
 // At most 64 rows.
-fn plan_some(m: usize, n: usize, offsets: &[u32], columns: &[u32], index: &mut [u32]) -> PlanAnswer
+fn plan_some(
+    m: usize,
+    n: usize,
+    offsets: &[u32],
+    columns: &[u32],
+    index: &mut [u32],
+    wanted: bool,
+) -> Tally
     requires { ⌜ Accepted (now offsets) (now columns) m n × (m ≤ 64) ⌝ }
-    ensures { λ r. ⌜ Answered m n (now (offsets .entry)) (now (columns .entry)) (now (index .entry)) (now (index .exit)) (told r) ⌝ }
+    ensures { λ r. ⌜ Counted m n (now (offsets .entry)) (now (columns .entry)) wanted (now (index .entry)) (now (index .exit)) (r .e) (r .s) (r .d) ⌝ }
 {
     let mut lp = [0u32; 65];
     let mut li = [0u32; 2080];
@@ -442,13 +477,21 @@ fn plan_some(m: usize, n: usize, offsets: &[u32], columns: &[u32], index: &mut [
         &mut next,
         &mut again,
         index,
+        wanted,
     )
 }
 
 // As many rows as there may be.
-fn plan_many(m: usize, n: usize, offsets: &[u32], columns: &[u32], index: &mut [u32]) -> PlanAnswer
+fn plan_many(
+    m: usize,
+    n: usize,
+    offsets: &[u32],
+    columns: &[u32],
+    index: &mut [u32],
+    wanted: bool,
+) -> Tally
     requires { ⌜ Accepted (now offsets) (now columns) m n ⌝ }
-    ensures { λ r. ⌜ Answered m n (now (offsets .entry)) (now (columns .entry)) (now (index .entry)) (now (index .exit)) (told r) ⌝ }
+    ensures { λ r. ⌜ Counted m n (now (offsets .entry)) (now (columns .entry)) wanted (now (index .entry)) (now (index .exit)) (r .e) (r .s) (r .d) ⌝ }
 {
     let mut lp = [0u32; 257];
     let mut li = [0u32; 32896];
@@ -466,7 +509,55 @@ fn plan_many(m: usize, n: usize, offsets: &[u32], columns: &[u32], index: &mut [
         &mut next,
         &mut again,
         index,
+        wanted,
     )
+}
+
+// The counts, and the plan where it is wanted and has room.
+fn plan_sized(
+    m: usize,
+    n: usize,
+    offsets: &[u32],
+    columns: &[u32],
+    index: &mut [u32],
+    wanted: bool,
+) -> Tally
+    requires { ⌜ Accepted (now offsets) (now columns) m n ⌝ }
+    ensures { λ r. ⌜ Counted m n (now (offsets .entry)) (now (columns .entry)) wanted (now (index .entry)) (now (index .exit)) (r .e) (r .s) (r .d) ⌝ }
+{
+    if m <= SOME_ROWS {
+        if m <= FEW_ROWS && n <= FEW_COLUMNS {
+            plan_few(m, n, offsets, columns, index, wanted)
+        } else {
+            plan_some(m, n, offsets, columns, index, wanted)
+        }
+    } else {
+        plan_many(m, n, offsets, columns, index, wanted)
+    }
+}
+
+// E, S and D of a matrix that is accepted.
+pub fn sizes(m: usize, n: usize, offsets: &[u32], columns: &[u32]) -> Tally
+    requires { ⌜ Accepted (now offsets) (now columns) m n ⌝ }
+    ensures { λ r. ⌜ (r .e ≡ countE (now (offsets .entry)) (now (columns .entry)) m) × (r .s ≡ countS (now (offsets .entry)) (now (columns .entry)) m) × (r .d ≡ countD (now (offsets .entry)) (now (columns .entry)) m) × (r .s ≤ 16777216) ⌝ }
+{
+    let mut none = [0u32; 1];
+    plan_sized(m, n, offsets, columns, &mut none, false)
+}
+
+// The plan of a matrix that is accepted, to the first words of an index memory with room for it.
+pub fn write_plan(offsets: &[u32], columns: &[u32], m: usize, n: usize, index: &mut [u32]) -> usize
+    requires { ⌜ Accepted (now offsets) (now columns) m n × (sizeW (now offsets) (now columns) m n ≤ length (now index)) ⌝ }
+    ensures { λ r. ⌜ (now (index .exit) ≡ planWords (now (offsets .entry)) (now (columns .entry)) m n ++ drop (sizeW (now (offsets .entry)) (now (columns .entry)) m n) (now (index .entry))) × (r ≡ sizeW (now (offsets .entry)) (now (columns .entry)) m n) ⌝ }
+{
+    let t = plan_sized(m, n, offsets, columns, index, true);
+    words(m, n, columns.len(), t)
+}
+
+// The answer of plan: its words, or the first no.
+pub enum PlanAnswer {
+    Planned(usize),
+    Refused(Refusal),
 }
 
 // Question 6, and the plan of a matrix that is accepted.
@@ -480,14 +571,12 @@ fn plan_accepted(
     requires { ⌜ Accepted (now offsets) (now columns) m n ⌝ }
     ensures { λ r. ⌜ Answered m n (now (offsets .entry)) (now (columns .entry)) (now (index .entry)) (now (index .exit)) (told r) ⌝ }
 {
-    if m <= SOME_ROWS {
-        if m <= FEW_ROWS && n <= FEW_COLUMNS {
-            plan_few(m, n, offsets, columns, index)
-        } else {
-            plan_some(m, n, offsets, columns, index)
-        }
+    let t = plan_sized(m, n, offsets, columns, index, true);
+    let w = words(m, n, columns.len(), t);
+    if index.len() < w {
+        PlanAnswer::Refused(Refusal::new(Refusal::INDEX_MEMORY, 0, 0))
     } else {
-        plan_many(m, n, offsets, columns, index)
+        PlanAnswer::Planned(w)
     }
 }
 

@@ -9,7 +9,7 @@ use native.Mathlib.Decide.{ℕ-discrete, decLt}
 use lib.Dec.{eqb, ltb}
 use lib.ListN.{length, getD, take, drop, length-take, length-drop}
 use borrow.Author.Tests.{ne-eqb, eq-eqb, lt-ltb, le-ltb}
-use Rattle.csr.specs.Pattern.{has, shares, row, neighbours}
+use Rattle.csr.specs.Pattern.{has, shares, row}
 use Rattle.csr.specs.Counts.{one, common}
 use Rattle.pattern.specs.Word.{bit, Put, Seeded}
 use Rattle.pattern.specs.Word.{Clear}
@@ -40,14 +40,6 @@ common-some (x ∷ xs) ys n = go (has ys x) refl (common-some xs ys)
     go : (t : Bool) → has ys x ≡ t → (common xs ys ≢ 0 → shares xs ys ≡ true) → has ys x || shares xs ys ≡ true
     go true q ih = rw q
     go false q ih = rw q (ih (λ e. n (ap (λ (s : Bool). one s + common xs ys) q ∙ omega arith)))
-
-pub neighbours-none : (off cols : List ℕ) (i j : ℕ) → common (row off cols i) (row off cols j) ≡ 0 → neighbours off cols i j ≡ false
-unfolding neighbours
-neighbours-none off cols i j e = common-none (row off cols i) (row off cols j) e
-
-pub neighbours-some : (off cols : List ℕ) (i j : ℕ) → common (row off cols i) (row off cols j) ≢ 0 → neighbours off cols i j ≡ true
-unfolding neighbours
-neighbours-some off cols i j e = common-some (row off cols i) (row off cols j) e
 
 -- row i is seeded up to j
 abbrev pub SeedPart : (ℕ → ℕ → Bool) → List ℕ → ℕ → ℕ → Type 0

@@ -9,9 +9,9 @@ use native.Mathlib.Nat.{add-zero}
 use native.Mathlib.Numerals.{add-one}
 use lib.ListN.{getD, replicate}
 use borrow.Author.Tests.{le-leb, lt-leb}
-use Rattle.csr.specs.Pattern.{stored, neighbours, row}
+use Rattle.csr.specs.Pattern.{stored, neighbours}
 use Rattle.csr.specs.Chain.{stored-diag}
-use Rattle.csr.specs.Counts.{sum, one, common, isStored, countE, countD}
+use Rattle.csr.specs.Counts.{sum, one, isStored, countE, countD}
 use Rattle.pattern.specs.Word.{bit, digit, Done, OtherRows, rowOnes}
 use Rattle.pattern.specs.Word.{Clear}
 use Rattle.pattern.proofs.Digits.{sum-ext, sum-add, digit-zero}
@@ -106,14 +106,6 @@ module _ (off cols p : List ℕ) (m : ℕ) (hm : m ≤ 256) (d : (i : ℕ) → i
 pub sum-next : (n : ℕ) (f : ℕ → ℕ) → sum (n + 1) f ≡ sum n f + f n
 unfolding sum
 sum-next n f = ap (λ (x : ℕ). sum x f) (add-one n)
-
--- how many bits rows a and b have in common
-unfoldable pub bothN : List ℕ → ℕ → ℕ → ℕ
-bothN p a b = sum 256 (λ k. one (bit p a k && bit p b k))
-
--- how many columns rows a and b have in common
-unfoldable pub commonN : List ℕ → List ℕ → ℕ → ℕ → ℕ
-commonN off cols a b = common (row off cols a) (row off cols b)
 
 pub zeros : (n k : ℕ) → _≡_ {A = ℕ} (getD (replicate n 0) k 0) 0
 zeros zero k = refl

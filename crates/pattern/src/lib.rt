@@ -1,12 +1,11 @@
+// The pattern of the factor: 256 bits for each row, four words of 64.
 ghost use mathlib.Core.Path.{_≡_};
-ghost use mathlib.Core.Bool.{Bool, true, false, _&&_, _||_};
+ghost use mathlib.Core.Bool.{Bool, true, false, _&&_};
 ghost use Prim.Native.Nat.{ℕ, _+_, _*_, _<_, _≤_};
-ghost use lib.ListN.{length, getD};
+ghost use lib.ListN.{length};
 ghost use Rattle.pattern.specs.Word.{bit, Put, Done, Seeded, OtherRows, rowOnes};
-ghost use Rattle.csr.specs.Counts.{sum, one, common, countE, countS, countD};
-ghost use Rattle.csr.specs.Pattern.{neighbours, row};
-ghost use Rattle.csr.specs.Csr.{Csr, Rising};
-ghost use Rattle.pattern.specs.Word.{Clear};
+ghost use Rattle.csr.specs.Counts.{sum, one};
+ghost use Rattle.csr.specs.Pattern.{row};
 
 // Is bit j of row i set?
 pub fn test(p: &[u64], i: usize, j: usize) -> bool

@@ -92,7 +92,7 @@ module _ (off cols : List ℕ) (m n i : ℕ) (ok : Grid off cols m n) (hi : i < 
         (in-step off cols Numbers i (k - getD off i 0) e i (ok .rising i hi) (in-q off cols m n i ok hi Numbers k e i lo hk he refl) (e-at off cols m n i ok hi Numbers k e i lo hk he refl) refl)
         (tally-put next n (inRow off cols Numbers i (k - getD off i 0)) e i e-in (omega (arith, e-in)) b))
 
-    pub count-asks : (e < length next) × (getD next e 0 < 65536)
+    pub count-asks : (e < length next) × (getD next e 0 < 256)
     count-asks = (
       omega (arith, e-in),
       omega (

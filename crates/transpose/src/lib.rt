@@ -1,12 +1,12 @@
+// The transpose of CSR lists by counting, and what pairs of rows share, counted by column.
 ghost use mathlib.Core.Path.{_≡_};
-ghost use mathlib.Core.List.{List};
 ghost use Prim.Native.Nat.{ℕ, suc, _+_, _*_, _-_, _<_, _≤_};
 ghost use lib.ListN.{length, getD, set};
 ghost use Rattle.csr.specs.Counts.{sum, common, countS};
 ghost use Rattle.csr.specs.Pattern.{row};
 ghost use lib.Seq.{sets};
 ghost use Rattle.lists.specs.Cat.{Wrote, cat};
-ghost use Rattle.transpose.specs.Bins.{Bins, putIn, rowsOf, roomOf, Outside, Grid, Tally, Starts, seen, endsFrom, sideIn};
+ghost use Rattle.transpose.specs.Bins.{Bins, rowsOf, roomOf, Outside, Grid, Tally, Starts, seen, endsFrom, sideIn};
 ghost use Rattle.lists.specs.Lists.{told};
 use lists::What;
 
@@ -65,7 +65,7 @@ pub fn scatter_row(
 
 // One more in the count of column e, and the count.
 pub fn bump(next: &mut [u32], e: usize) -> usize
-    requires { ⌜ (e < length (now next)) × (getD (now next) e 0 < 65536) ⌝ }
+    requires { ⌜ (e < length (now next)) × (getD (now next) e 0 < 256) ⌝ }
     ensures { λ r. ⌜ (r ≡ getD (now (next .entry)) e 0 + 1) × (now (next .exit) ≡ set (now (next .entry)) e (getD (now (next .entry)) e 0 + 1)) ⌝ }
 {
     let q = next[e] + 1;
@@ -76,7 +76,7 @@ pub fn bump(next: &mut [u32], e: usize) -> usize
 // The entries of row i, each counted in its column: how many columns it shares with the rows up to it.
 pub fn count_row(off: &[u32], cols: &[u32], m: usize, n: usize, i: usize, next: &mut [u32]) -> usize
     requires { ⌜ Grid (now off) (now cols) m n × (i < m) × (n ≤ length (now next)) × Tally (now next) n (seen (now off) (now cols) i) ⌝ }
-    ensures { λ r. ⌜ Tally (now (next .exit)) n (seen (now (off .entry)) (now (cols .entry)) (i + 1)) × (r ≡ sum (suc i) (λ j. common (row (now (off .entry)) (now (cols .entry)) i) (row (now (off .entry)) (now (cols .entry)) j))) × (r ≤ 65536 * (getD (now (off .entry)) (i + 1) 0 - getD (now (off .entry)) i 0)) ⌝ }
+    ensures { λ r. ⌜ Tally (now (next .exit)) n (seen (now (off .entry)) (now (cols .entry)) (i + 1)) × (r ≡ sum (suc i) (λ j. common (row (now (off .entry)) (now (cols .entry)) i) (row (now (off .entry)) (now (cols .entry)) j))) × (r ≤ 256 * (getD (now (off .entry)) (i + 1) 0 - getD (now (off .entry)) i 0)) ⌝ }
 {
     let a = at(off, i);
     let b = at(off, i + 1);
@@ -93,7 +93,7 @@ pub fn count_row(off: &[u32], cols: &[u32], m: usize, n: usize, i: usize, next: 
 // How many entries each column has, and S.
 pub fn count_rows(off: &[u32], cols: &[u32], m: usize, n: usize, next: &mut [u32]) -> usize
     requires { ⌜ Grid (now off) (now cols) m n × (n ≤ length (now next)) × ((c : ℕ) → c < n → getD (now next) c 0 ≡ 0) ⌝ }
-    ensures { λ r. ⌜ Tally (now (next .exit)) n (seen (now (off .entry)) (now (cols .entry)) m) × (r ≡ countS (now (off .entry)) (now (cols .entry)) m) × (r ≤ 4294967296) ⌝ }
+    ensures { λ r. ⌜ Tally (now (next .exit)) n (seen (now (off .entry)) (now (cols .entry)) m) × (r ≡ countS (now (off .entry)) (now (cols .entry)) m) × (r ≤ 16777216) ⌝ }
 {
     let mut s: usize = 0;
     let mut i: usize = 0;

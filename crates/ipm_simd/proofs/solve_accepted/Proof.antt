@@ -10,7 +10,7 @@ use Rattle.ipm_simd.proofs.solve_accepted.Statement.{statement}
 use Rattle.ipm_simd.proofs.solve_accepted.Tie as tie
 
 sizes-requires : tie.Need-sizes-requires
-sizes-requires c κs = c .before .before .before .before .before .before .before .before .before .pre .0 .csr
+sizes-requires c κs = c .before .before .before .before .before .before .before .before .before .pre .0
 
 cast-e : tie.Need-cast-e
 cast-e c =

@@ -17,7 +17,7 @@ use Rattle.transpose.proofs.count_row.Tie as tie
 abbrev Inv-loop : tie.InvT-loop
 Inv-loop off cols m n i next₀ a b s₀ k₀ next s k =
     (getD off i 0 ≤ k) × (length next ≡ length next₀) × Tally next n (inRow off cols Numbers i (k - getD off i 0)) × (k ≤ getD off (i + 1) 0) ×
-    (s ≡ pairs.over (pairs.upTo off cols i) (take (k - getD off i 0) (row off cols i))) × (s ≤ 65536 * (k - getD off i 0))
+    (s ≡ pairs.over (pairs.upTo off cols i) (take (k - getD off i 0) (row off cols i))) × (s ≤ 256 * (k - getD off i 0))
 
 abbrev μ-loop : tie.MeasureT-loop
 μ-loop off cols m n i next₀ a b s₀ k₀ next s k = b - k

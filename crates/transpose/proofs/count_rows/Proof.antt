@@ -14,7 +14,7 @@ use Rattle.transpose.proofs.count_rows.Tie as tie
 abbrev Inv-loop : tie.InvT-loop
 Inv-loop off cols m n next₀ s₀ i₀ next s i =
     (i ≤ m) × (length next ≡ length next₀) × Tally next n (seen off cols i) ×
-    (s ≡ sum i (λ a. sum (suc a) (λ b. common (row off cols a) (row off cols b)))) × (s ≤ 65536 * getD off i 0)
+    (s ≡ sum i (λ a. sum (suc a) (λ b. common (row off cols a) (row off cols b)))) × (s ≤ 256 * getD off i 0)
 
 abbrev μ-loop : tie.MeasureT-loop
 μ-loop off cols m n next₀ s₀ i₀ next s i = m - i
