@@ -393,11 +393,11 @@ fn plan_in(
     index: &mut [u32],
     wanted: bool,
 ) -> Tally
-    requires { ⌜ Accepted (now offsets) (now columns) m n × (m < length (now lp)) × (sum m suc ≤ length (now li)) × (length (now li) ≤ 65536) × (n ≤ length (now mark)) × ((c : ℕ) → getD (now mark) c 0 ≡ 0) × Room m n (now next) × Room m n (now again) ⌝ }
+    requires { ⌜ Accepted (now offsets) (now columns) m n × (m < length (now lp)) × (sum m suc ≤ length (now li)) × (length (now li) ≤ 65536) × (n ≤ length (now mark)) × Room m n (now next) × Room m n (now again) ⌝ }
     ensures { λ r. ⌜ Counted m n (now (offsets .entry)) (now (columns .entry)) wanted (now (index .entry)) (now (index .exit)) (r .e) (r .s) (r .d) ⌝ }
 {
     let mut p = [0u64; 1024];
-    shared::pattern(offsets, columns, m, n, mark, &mut p);
+    pattern::pattern(offsets, columns, m, &mut p);
     list_rows(&p, m, lp, li);
     let t = count_all(m, n, offsets, columns, &p, lp, li, next);
     if !wanted {

@@ -1,6 +1,5 @@
 -- From the parts of a solve to its contract. Assumes nothing.
 use mathlib.Core.Path.{_≡_, refl, sym, ap, _∙_, subst}
-use mathlib.Core.Bool.{true}
 use mathlib.Core.List.{List, _++_}
 use Prim.Native.Nat.{ℕ, suc, _+_, _-_, _*_, _≤_, _<_}
 use native.Mathlib.Omega.{arith}
@@ -8,11 +7,11 @@ use lib.ListN.{length, take, drop, replicate, length-append}
 use lib.Ieee.{Float}
 use mir.Syntax.{w64}
 use mir.Val.{Fits}
-use Rattle.csr.specs.Verdict.{Verdict, passed, planned, refused, accepted as acceptedAt, andThen, refusal}
+use Rattle.csr.specs.Verdict.{Verdict, passed, planned, refused, andThen, refusal}
 use Rattle.csr.specs.declared.Refusal.{Refusal}
 use Rattle.csr.specs.Questions.{firstNo}
 use Rattle.csr.specs.Csr.{Accepted}
-use Rattle.csr.specs.Counts.{countE, countS, countD, sizeW, sizeF}
+use Rattle.csr.specs.Counts.{countE, sizeW, sizeF}
 use Rattle.csr.specs.Pattern.{has, row, neighbours, stored}
 use Rattle.lanes.specs.Arithmetic.{null}
 use Rattle.lists.specs.Lists.{shape, listOf, planWords}
@@ -23,7 +22,7 @@ use Rattle.sparse.specs.Sparse.{cut}
 use Rattle.machine.specs.declared.Outcome.{Outcome}
 use Rattle.machine.specs.declared.Outcome.the-variants.{Accepted as accepted, NoAt11 as noAt11, NoAt12 as noAt12}
 use Rattle.machine.specs.Outcome.{Call, solved, xAt}
-use Rattle.machine.specs.Demand3.{Memory, Buffers, outputAfter, leaves, Demand3}
+use Rattle.machine.specs.Demand3.{Buffers, outputAfter, leaves}
 use Rattle.machine.proofs.Demand3.{solved-ends, demand3}
 use Rattle.links.specs.Prepared.{Prepared, Bounds}
 use Rattle.links.proofs.Cuts.{prepared-of}
@@ -39,7 +38,7 @@ use Rattle.ipm_simd.specs.declared.SolveAnswer.the-variants as answers
 use Rattle.ipm_simd.specs.Solve.{Given, lent, call, words, room, plannedHas, told, outcomeVerdict, sizesVerdict, memoryVerdict, begun, solveVerdict, ifPassed, solveBuffers, Solved}
 use Rattle.ipm_simd.specs.Parts.{Counted, Planned, Asked10, written, Finished, Continued}
 use Rattle.ipm_simd.proofs.Numbers.{rest-same}
-use Rattle.ipm_simd.proofs.Questions.{values-of, sizes-of}
+use Rattle.ipm_simd.proofs.Questions.{sizes-of}
 
 -- ---- the index memory has room for the plan
 pub plan-room : {off cols : List ℕ} {vals : List Float} {m n s : ℕ} {index : List ℕ} {e h d : ℕ} → Planned off cols vals m n s index e h d

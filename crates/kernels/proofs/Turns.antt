@@ -1,20 +1,19 @@
 -- A turn of each loop: the entry that it works out is the definition's, of the memory as it was before the loop. Assumes nothing.
-use mathlib.Core.Path.{_≡_, refl, sym, ap, _∙_}
+use mathlib.Core.Path.{_≡_, sym, _∙_}
 use mathlib.Core.Bool.{cond}
-use mathlib.Core.List.{List, [], _∷_}
-use Prim.Native.Nat.{ℕ, zero, suc, _+_, _-_, _*_, _≤_, _<_}
+use mathlib.Core.List.{List}
+use Prim.Native.Nat.{ℕ, _+_, _-_, _<_}
 use native.Mathlib.Omega.{arith}
 use lib.Dec.{ltb}
-use lib.ListN.{length, getD}
+use lib.ListN.{length}
 use lib.Ieee.{Float, neg}
-use Rattle.lanes.specs.Lists.{at, vec, grow, fold, lane}
+use Rattle.lanes.specs.Lists.{at, vec, fold, lane}
 use Rattle.lanes.specs.Arithmetic.{_⊕_, _⊖_, _⊗_, _⊘_, null, one, larger, Σ}
-use Rattle.machine.specs.Machine.{complement, moved, largestRatio}
 use Rattle.lanes.proofs.Lists.{lane-at}
-use Rattle.lanes.specs.Lanes.{lanes, cell, quad, put}
-use Rattle.lanes.specs.Region.{reg, Kept, Fills, Apart}
+use Rattle.lanes.specs.Lanes.{lanes, cell, quad}
+use Rattle.lanes.specs.Region.{reg, Fills, Apart}
 use Rattle.lanes.proofs.Regions.{grown, kept-apart, apart-front}
-use Rattle.lanes.proofs.Quads.{lanes-ext, lane-of, reg-quad, own-quad, other-quad, fold-turn}
+use Rattle.lanes.proofs.Quads.{lanes-ext, reg-quad, own-quad, other-quad, fold-turn}
 use Rattle.lanes.specs.Region.{Grows}
 use Rattle.rows.specs.Parts.{plusRow, lessRow, plusCol, lessCol}
 use Rattle.kernels.specs.Kernels.{uAt, dxAt, qAt, fAt, rAt}

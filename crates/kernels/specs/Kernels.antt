@@ -1,10 +1,10 @@
 -- What the kernels work out, in one lane, by the lists that the program reads. Definitions only.
-use Prim.Native.Nat.{ℕ, _+_, _-_, _*_, _≤_, _<_}
+use Prim.Native.Nat.{ℕ, _-_}
 use mathlib.Core.Bool.{cond}
 use mathlib.Core.List.{List}
 use lib.Dec.{ltb}
 use lib.Ieee.{Float, neg}
-use Rattle.lanes.specs.Lists.{at, vec}
+use Rattle.lanes.specs.Lists.{at}
 use Rattle.lanes.specs.Arithmetic.{_⊕_, _⊖_, _⊗_, _⊘_, null}
 use Rattle.rows.specs.Parts.{plusRow, lessRow, plusCol, lessCol}
 

@@ -31,7 +31,7 @@ module _ (nb : ℕ → ℕ → Bool) (p q r : List ℕ) (i : ℕ) (hi : i < 256)
 
 -- ---- sums
 
-sum-zero : (n : ℕ) (f : ℕ → ℕ) → ((k : ℕ) → k < n → f k ≡ 0) → sum n f ≡ 0
+pub sum-zero : (n : ℕ) (f : ℕ → ℕ) → ((k : ℕ) → k < n → f k ≡ 0) → sum n f ≡ 0
 unfolding sum
 sum-zero zero f h = refl
 sum-zero (suc n) f h = omega (arith, sum-zero n f (λ k l. h k (omega arith)), h n (omega arith))

@@ -3,7 +3,7 @@
 use mathlib.Core.Path.{_≡_}
 use mathlib.Core.Bool.{Bool, false, _&&_, _||_}
 use mathlib.Core.List.{List}
-use Prim.Native.Nat.{ℕ, _+_, _*_, _/_, _%_, _^_, _<_}
+use Prim.Native.Nat.{ℕ, suc, _+_, _*_, _/_, _%_, _^_, _<_}
 use lib.Dec.{eqb, leb, ltb}
 use lib.ListN.{getD}
 use Rattle.csr.specs.Pattern.{stored}
@@ -42,3 +42,7 @@ rowOnes p i = sum 256 (λ j. one (bit p i j))
 -- row i of p is clear
 abbrev pub Clear : List ℕ → ℕ → Type 0
 Clear p i = (b : ℕ) → b < 256 → bit p i b ≡ false
+
+-- p is q with bit f - 1 of row i set, if f is not 0
+abbrev pub Linked : List ℕ → List ℕ → ℕ → ℕ → Type 0
+Linked q p i f = (a b : ℕ) → a < 256 → b < 256 → bit p a b ≡ (eqb a i && eqb f (suc b)) || bit q a b

@@ -2,10 +2,15 @@
 ghost use mathlib.Core.Path.{_≡_};
 ghost use mathlib.Core.Bool.{Bool, true, false, _&&_};
 ghost use Prim.Native.Nat.{ℕ, _+_, _*_, _<_, _≤_};
-ghost use lib.ListN.{length};
+ghost use lib.ListN.{length, getD};
 ghost use Rattle.pattern.specs.Word.{bit, Put, Done, Seeded, OtherRows, rowOnes};
 ghost use Rattle.csr.specs.Counts.{sum, one};
-ghost use Rattle.csr.specs.Pattern.{row};
+ghost use Rattle.csr.specs.Pattern.{neighbours, row};
+ghost use Rattle.csr.specs.Csr.{Csr};
+ghost use Rattle.pattern.specs.Word.{Clear, Linked};
+ghost use Rattle.pattern.specs.Links.{orElse, firstOf, links, Inside, Firsts};
+ghost use mathlib.Core.Bool.{cond};
+ghost use lib.Dec.{eqb};
 
 // Is bit j of row i set?
 pub fn test(p: &[u64], i: usize, j: usize) -> bool
@@ -75,6 +80,57 @@ pub fn count(p: &[u64], m: usize) -> u32
         i += 1;
     }
     e
+}
+
+fn at(s: &[u32], i: usize) -> usize
+    requires { ⌜ i < length (now s) ⌝ }
+    ensures { λ r. ⌜ r ≡ getD (now (s .entry)) i 0 ⌝ }
+{
+    s[i] as usize
+}
+
+// Row i is linked to the first row of column e, or is that row itself.
+fn link(p: &mut [u64], first: &mut [u32], e: usize, i: usize)
+    requires { ⌜ (length (now p) ≡ 1024) × (e < length (now first)) × (i < 256) × (getD (now first) e 0 ≤ i + 1) ⌝ }
+    ensures first { λ _. ⌜ ((x : ℕ) → getD (now (first .exit)) x 0 ≡ cond (eqb x e) (orElse (getD (now (first .entry)) e 0) (i + 1)) (getD (now (first .entry)) x 0)) ⌝ }
+    ensures bits { λ _. ⌜ Linked (now (p .entry)) (now (p .exit)) i (getD (now (first .entry)) e 0) ⌝ }
+{
+    let f = first[e];
+    if f == 0 {
+        first[e] = (i as u32) + 1;
+    } else {
+        put(p, i, (f - 1) as usize);
+    }
+}
+
+// Put the links and the diagonal of row i into a clear row. `first` holds one more than the first row of each column.
+pub fn seed_row(off: &[u32], cols: &[u32], m: usize, p: &mut [u64], first: &mut [u32], i: usize)
+    requires { ⌜ Csr (now off) (now cols) m × Inside (now off) (now cols) m 1024 × (i < m) × (length (now p) ≡ 1024) × Clear (now p) i × (length (now first) ≡ 1024) × Firsts (now first) (firstOf (now off) (now cols) i) ⌝ }
+    ensures other { λ _. ⌜ OtherRows (now (p .entry)) (now (p .exit)) i ⌝ }
+    ensures row { λ _. ⌜ Seeded (links (now (off .entry)) (now (cols .entry))) (now (p .exit)) i ⌝ }
+    ensures first { λ _. ⌜ Firsts (now (first .exit)) (firstOf (now (off .entry)) (now (cols .entry)) (i + 1)) ⌝ }
+{
+    let r = csr::get_row(off, cols, i);
+    let mut q: usize = 0;
+    while q < r.len() {
+        link(p, first, at(r, q), i);
+        q += 1;
+    }
+    put(p, i, i);
+}
+
+// The whole pattern, into clear rows.
+pub fn pattern(off: &[u32], cols: &[u32], m: usize, p: &mut [u64])
+    requires { ⌜ Csr (now off) (now cols) m × Inside (now off) (now cols) m 1024 × (length (now p) ≡ 1024) × ((i : ℕ) → i < 256 → Clear (now p) i) ⌝ }
+    ensures { λ _. ⌜ ((i : ℕ) → i < m → Done (neighbours (now (off .entry)) (now (cols .entry))) (now (p .exit)) i) ⌝ }
+{
+    let mut first = [0u32; 1024];
+    let mut i: usize = 0;
+    while i < m {
+        seed_row(off, cols, m, p, &mut first, i);
+        fill_row(p, i);
+        i += 1;
+    }
 }
 
 // How many bits rows i and j have in common.

@@ -1,13 +1,12 @@
 -- A part between two offsets: its length, and what stands in it. Assumes nothing.
-use mathlib.Core.Path.{_≡_, refl, sym, ap, _∙_, subst}
+use mathlib.Core.Path.{_≡_, refl, sym, _∙_, subst}
 use mathlib.Core.List.{List}
-use Prim.Native.Nat.{ℕ, _+_, _-_, _*_, _≤_, _<_}
+use Prim.Native.Nat.{ℕ, _+_, _-_, _≤_, _<_}
 use native.Mathlib.Omega.{arith}
 use lib.ListN.{length, getD, drop, length-drop}
 use lib.Seq.{getD-take, getD-drop, length-take-le}
-use lib.Ieee.{Float}
 use Rattle.sparse.specs.Sparse.{cut, Csr}
-use Rattle.rows.specs.Parts.{span, Rows, Cols}
+use Rattle.rows.specs.Parts.{span}
 
 pub cut-length {ℓ} : {A : Type ℓ} (a e : ℕ) (xs : List A) → e ≤ length xs → length (cut a e xs) ≡ e - a
 cut-length a e xs h = length-take-le (e - a) (drop a xs) (simp length-drop (omega arith))

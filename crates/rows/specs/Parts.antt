@@ -1,11 +1,10 @@
 -- A row and a column of the matrix, by the lists that the program reads. Definitions only.
-use Prim.Native.Nat.{ℕ, _+_, _-_, _*_, _≤_, _<_}
+use Prim.Native.Nat.{ℕ, _+_, _-_, _<_}
 use mathlib.Core.Path.{_≡_}
 use mathlib.Core.List.{List}
 use lib.ListN.{getD, length}
 use lib.Ieee.{Float}
 use Rattle.lanes.specs.Lists.{at}
-use Rattle.lanes.specs.Arithmetic.{null}
 use Rattle.sparse.specs.Sparse.{cut, plusAll, lessAll, Csr}
 
 -- part i between the offsets

@@ -1,10 +1,10 @@
 -- The working memory's lists, entry by entry and lane by lane. Assumes nothing.
-use mathlib.Core.Path.{_≡_, refl, sym, ap, _∙_}
+use mathlib.Core.Path.{_≡_, sym, ap, _∙_}
 use mathlib.Core.List.{List}
 use Prim.Native.Nat.{ℕ, _+_, _-_, _*_, _/_, _%_, _≤_, _<_}
 use native.Mathlib.Omega.{arith}
 use native.Mathlib.Nat.{div-add-mod', div-lt-iff-lt-mul, mod-lt}
-use lib.ListN.{length, getD, replicate, length-replicate, getD-replicate}
+use lib.ListN.{length, replicate, length-replicate, getD-replicate}
 use lib.Seq.{ext-getD}
 use lib.Ieee.{Float, nan}
 use Rattle.lanes.specs.Lists.{at, vec, lane}
@@ -13,10 +13,8 @@ use Rattle.lanes.specs.Region.{reg}
 use Rattle.lanes.specs.Constants.{startValue}
 use Rattle.lanes.proofs.Lists.{vec-same, vec-at}
 use Rattle.lanes.proofs.Regions.{reg-at}
-use Rattle.sparse.specs.Sparse.{cut}
 use Rattle.rows.proofs.Spans.{cut-length, cut-at}
 use Rattle.machine.specs.Machine.{State}
-use Rattle.machine.specs.Outcome.{Call}
 use Rattle.machine.specs.Demand3.{numbers, fresh}
 use Rattle.machine.specs.Work.{callOf}
 use Rattle.machine.proofs.Machines.{slot}

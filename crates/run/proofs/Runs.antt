@@ -8,21 +8,20 @@ use native.Mathlib.Omega.{arith}
 use borrow.Author.Tests.{eq-eqb}
 use lib.ListN.{length, getD}
 use lib.Ieee.{Float}
-use Rattle.lanes.specs.Lists.{at, first, lane}
+use Rattle.lanes.specs.Lists.{first, lane}
 use Rattle.lanes.proofs.Lists.{vec-length, lane-at, first-under}
 use Rattle.lanes.proofs.Quads.{four-lanes}
-use Rattle.machine.specs.Machine.{State, Machine, live, lost, standard, status, yields}
+use Rattle.machine.specs.Machine.{Machine, live, lost, standard, status, yields}
 use Rattle.machine.specs.declared.Status.{Status}
 use Rattle.machine.specs.declared.Status.the-variants.{Spoilt as spoilt, Done as done}
-use Rattle.machine.specs.declared.Outcome.{Outcome}
 use Rattle.machine.specs.declared.Outcome.the-variants.{Accepted as accepted, NoAt11 as noAt11, NoAt12 as noAt12}
 use Rattle.machine.specs.Outcome.{isSpoilt, isDone, allDone, lowestUndone, Call, laneData, laneMachine, laneStatus, xOf, xAt}
-use Rattle.machine.specs.Demand3.{Memory, Has, numbers, Reads, AtTest, Made}
-use Rattle.machine.specs.Work.{callOf, problemOf, Says, Stepped, Ran}
-use Rattle.machine.proofs.Machines.{slot, lane-live, output-at}
+use Rattle.machine.specs.Demand3.{Memory, Has, numbers, Made}
+use Rattle.machine.specs.Work.{callOf, problemOf, Says, Stepped}
+use Rattle.machine.proofs.Machines.{lane-live, output-at}
 use Rattle.machine.proofs.Ends.{all-yes}
 use Rattle.machine.proofs.Demand3.{made-test}
-use Rattle.machine.proofs.Turns.{Going, steps-reads, made, ran-spoilt, ran-done, ran-spent, steps-on, start-steps}
+use Rattle.machine.proofs.Turns.{Going, steps-reads, made, ran-spoilt, ran-done, ran-spent}
 use Rattle.tests.specs.Layout.{numbersAt}
 use Rattle.step.specs.Steps.{LanesStep}
 use Rattle.run.specs.Tests.{memoryAt, Bears, Tested, Run}

@@ -1,35 +1,25 @@
--- Marked columns of a list, one or how many. Assumes nothing.
+-- How many columns of a list are marked. Assumes nothing.
 use mathlib.Core.Path.{_≡_, refl, sym, ap, ap₂, _∙_}
-use mathlib.Core.Bool.{Bool, true, false, _||_}
+use mathlib.Core.Bool.{Bool, true, false}
 use mathlib.Core.List.{List, [], _∷_}
-use Prim.Native.Nat.{ℕ, suc, _+_, _<_, _≤_}
+use Prim.Native.Nat.{ℕ, _+_, _<_, _≤_}
 use native.Mathlib.Omega.{arith}
 use native.Mathlib.Numerals.{add-one}
 use lib.Dec.{ltb}
 use lib.ListN.{length, getD, drop, drop-of-length-le}
 use lib.Seq.{drop-cons}
 use borrow.Author.Tests.{lt-ltb, le-ltb}
-use Rattle.csr.specs.Pattern.{has, shares, row, neighbours}
-use Rattle.csr.specs.Chain.{Below, shares-sym}
+use Rattle.csr.specs.Pattern.{has, row}
+use Rattle.csr.specs.Chain.{Below}
 use Rattle.csr.specs.Csr.{Rising}
 use Rattle.csr.specs.Counts.{one, common}
 use Rattle.lists.proofs.Merge.{length-both}
 use Rattle.transpose.specs.Bins.{Grid}
-use Rattle.shared.specs.Marked.{Marked, marked, anyOf, countOf}
+use Rattle.shared.specs.Marked.{Marked, marked, countOf}
 use Rattle.shared.proofs.Marks.{both-sym}
 
 -- ---- a walk through a list
 module _ (h : ℕ → Bool) (b : List ℕ) (q : ℕ) (l : q < length b) where
-  pub any-yes : h (getD b q 0) ≡ true → anyOf h (drop q b) ≡ anyOf h b → true ≡ anyOf h b
-  unfolding anyOf
-  any-yes e so = sym (ap (anyOf h) (drop-cons b q 0 l) ∙ ap (λ (t : Bool). t || anyOf h (drop (suc q) b)) e) ∙ so
-
-  pub any-no : h (getD b q 0) ≡ false → anyOf h (drop q b) ≡ anyOf h b → anyOf h (drop (q + 1) b) ≡ anyOf h b
-  unfolding anyOf
-  any-no e so =
-      ap (λ (k : ℕ). anyOf h (drop k b)) (add-one q)
-      ∙ sym (ap (anyOf h) (drop-cons b q 0 l) ∙ ap (λ (t : Bool). t || anyOf h (drop (suc q) b)) e) ∙ so
-
   count-one : countOf h (drop q b) ≡ one (h (getD b q 0)) + countOf h (drop (q + 1) b)
   unfolding countOf
   count-one = ap (countOf h) (drop-cons b q 0 l) ∙ ap (λ (k : ℕ). one (h (getD b q 0)) + countOf h (drop k b)) (sym (add-one q))
@@ -39,10 +29,6 @@ module _ (h : ℕ → Bool) (b : List ℕ) (q : ℕ) (l : q < length b) where
 
   pub count-no : (n : ℕ) → h (getD b q 0) ≡ false → n + countOf h (drop q b) ≡ countOf h b → n + countOf h (drop (q + 1) b) ≡ countOf h b
   count-no n e so = omega (arith, so, count-one, ap one e)
-
-pub any-end : (h : ℕ → Bool) (b : List ℕ) (q : ℕ) → length b ≤ q → anyOf h (drop q b) ≡ anyOf h b → false ≡ anyOf h b
-unfolding anyOf
-any-end h b q l so = sym (ap (anyOf h) (drop-of-length-le b l)) ∙ so
 
 pub count-end : (h : ℕ → Bool) (b : List ℕ) (q n : ℕ) → length b ≤ q → n + countOf h (drop q b) ≡ countOf h b → n ≡ countOf h b
 unfolding countOf
@@ -57,11 +43,6 @@ module _ (mark : List ℕ) (lo n : ℕ) (xs : List ℕ) (k : Marked mark lo xs n
       go true e = lt-ltb lo (getD mark v 0) (omega (arith, k .into v l e))
       go false e = le-ltb lo (getD mark v 0) (k .out v l e)
 
-  any-has : (ys : List ℕ) → Below n ys → anyOf (marked mark lo) ys ≡ shares ys xs
-  unfolding anyOf shares
-  any-has [] b = refl
-  any-has (y ∷ ys) b = ap₂ _||_ (marked-has y (b .0)) (any-has ys (b .1))
-
   count-has : (ys : List ℕ) → Below n ys → countOf (marked mark lo) ys ≡ common ys xs
   unfolding countOf common
   count-has [] b = refl
@@ -72,13 +53,6 @@ common-sym xs ys u v = sym (length-both xs ys) ∙ ap length (both-sym xs ys u v
 
 module _ (off cols : List ℕ) (m n : ℕ) (g : Grid off cols m n) (mark : List ℕ) (i j : ℕ) (hi : i < m) (hj : j < m)
     (k : Marked mark (getD off i 0) (row off cols i) n) (lo : ℕ) (e : lo ≡ getD off i 0) (b : List ℕ) (eb : b ≡ row off cols j) where
-  pub any-neighbours : anyOf (marked mark lo) b ≡ neighbours off cols i j
-  unfolding neighbours
-  any-neighbours =
-      ap₂ (λ (x : ℕ) (l : List ℕ). anyOf (marked mark x) l) e eb
-      ∙ any-has mark (getD off i 0) n (row off cols i) k (row off cols j) (g .within j hj)
-      ∙ shares-sym (row off cols j) (row off cols i)
-
   pub count-common : countOf (marked mark lo) b ≡ common (row off cols i) (row off cols j)
   count-common =
       ap₂ (λ (x : ℕ) (l : List ℕ). countOf (marked mark x) l) e eb

@@ -1,6 +1,6 @@
 -- A row of the matrix marked in a memory over the columns. Definitions only.
 use mathlib.Core.Path.{_≡_}
-use mathlib.Core.Bool.{Bool, true, false, _||_}
+use mathlib.Core.Bool.{Bool, true, false}
 use mathlib.Core.List.{List, [], _∷_, _++_}
 use Prim.Native.Nat.{ℕ, suc, _+_, _-_, _<_, _≤_}
 use lib.Dec.{ltb}
@@ -29,12 +29,7 @@ hit t mark lo y v = pick (ltb lo (getD mark v 0)) (chosen t (getD mark v 0 - 1) 
 abbrev pub marked : List ℕ → ℕ → ℕ → Bool
 marked mark lo v = ltb lo (getD mark v 0)
 
--- does h hold for a number of the list?
-unfoldable pub anyOf : (ℕ → Bool) → List ℕ → Bool
-anyOf h [] = false
-anyOf h (x ∷ xs) = h x || anyOf h xs
-
--- for how many?
+-- for how many numbers of the list does h hold?
 unfoldable pub countOf : (ℕ → Bool) → List ℕ → ℕ
 countOf h [] = 0
 countOf h (x ∷ xs) = one (h x) + countOf h xs

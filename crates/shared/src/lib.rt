@@ -2,14 +2,13 @@
 ghost use mathlib.Core.Path.{_≡_};
 ghost use Prim.Native.Nat.{ℕ, _+_, _<_, _≤_};
 ghost use lib.ListN.{length, getD, set};
-ghost use Rattle.csr.specs.Pattern.{row, neighbours};
+ghost use Rattle.csr.specs.Pattern.{row};
 ghost use Rattle.csr.specs.Chain.{Below};
 ghost use Rattle.csr.specs.Counts.{common};
-ghost use Rattle.pattern.specs.Word.{OtherRows, Seeded, Clear, Done};
 ghost use Rattle.lists.specs.Cat.{Wrote};
 ghost use Rattle.lists.specs.Lists.{shape, chosen, sharedOf};
 ghost use Rattle.transpose.specs.Bins.{Grid};
-ghost use Rattle.shared.specs.Marked.{Marked, hit, alongOf, marked, anyOf, countOf};
+ghost use Rattle.shared.specs.Marked.{Marked, hit, alongOf, marked, countOf};
 use lists::Take;
 
 // A word as a number.
@@ -112,22 +111,6 @@ pub fn shared_marked(
     hits(take, mark, lo as u32, a as u32, &cols[a..b], index, start)
 }
 
-// Is a column of the list marked?
-fn any_marked(mark: &[u32], lo: u32, b: &[u32]) -> bool
-    requires { ⌜ Below (length (now mark)) (now b) ⌝ }
-    ensures { λ r. ⌜ r ≡ anyOf (marked (now (mark .entry)) lo) (now (b .entry)) ⌝ }
-{
-    let mut q: usize = 0;
-    while q < b.len() {
-        let v = word_at(b, q);
-        if lo < mark[v] {
-            return true;
-        }
-        q += 1;
-    }
-    false
-}
-
 // How many columns of the list are marked.
 fn count_marked(mark: &[u32], lo: u32, b: &[u32]) -> usize
     requires { ⌜ Below (length (now mark)) (now b) ⌝ }
@@ -145,23 +128,6 @@ fn count_marked(mark: &[u32], lo: u32, b: &[u32]) -> usize
     n
 }
 
-// Are rows i and j neighbours? Row i is marked.
-pub fn any_shared(
-    off: &[u32],
-    cols: &[u32],
-    m: usize,
-    wide: usize,
-    mark: &[u32],
-    i: usize,
-    j: usize,
-) -> bool
-    requires { ⌜ Grid (now off) (now cols) m wide × (i < m) × (j < m) × (wide ≤ length (now mark)) × Marked (now mark) (getD (now off) i 0) (row (now off) (now cols) i) wide ⌝ }
-    ensures { λ r. ⌜ r ≡ neighbours (now (off .entry)) (now (cols .entry)) i j ⌝ }
-{
-    let lo = word_at(off, i);
-    any_marked(mark, lo as u32, csr::get_row(off, cols, j))
-}
-
 // How many columns rows i and j share. Row i is marked.
 pub fn count_shared(
     off: &[u32],
@@ -177,42 +143,4 @@ pub fn count_shared(
 {
     let lo = word_at(off, i);
     count_marked(mark, lo as u32, csr::get_row(off, cols, j))
-}
-
-// Put the neighbours and the diagonal of row i, which is marked, into a clear row.
-pub fn seed_row(
-    off: &[u32],
-    cols: &[u32],
-    m: usize,
-    wide: usize,
-    mark: &[u32],
-    p: &mut [u64],
-    i: usize,
-)
-    requires { ⌜ Grid (now off) (now cols) m wide × (i < m) × (length (now p) ≡ 1024) × Clear (now p) i × (wide ≤ length (now mark)) × Marked (now mark) (getD (now off) i 0) (row (now off) (now cols) i) wide ⌝ }
-    ensures other { λ _. ⌜ OtherRows (now (p .entry)) (now (p .exit)) i ⌝ }
-    ensures row { λ _. ⌜ Seeded (neighbours (now (off .entry)) (now (cols .entry))) (now (p .exit)) i ⌝ }
-{
-    let mut j: usize = 0;
-    while j < i {
-        if any_shared(off, cols, m, wide, mark, i, j) {
-            pattern::put(p, i, j);
-        }
-        j += 1;
-    }
-    pattern::put(p, i, i);
-}
-
-// The whole pattern, into clear rows.
-pub fn pattern(off: &[u32], cols: &[u32], m: usize, wide: usize, mark: &mut [u32], p: &mut [u64])
-    requires { ⌜ Grid (now off) (now cols) m wide × (length (now p) ≡ 1024) × ((i : ℕ) → i < 256 → Clear (now p) i) × (wide ≤ length (now mark)) × ((c : ℕ) → c < wide → getD (now mark) c 0 ≤ getD (now off) 0 0) ⌝ }
-    ensures { λ _. ⌜ ((i : ℕ) → i < m → Done (neighbours (now (off .entry)) (now (cols .entry))) (now (p .exit)) i) ⌝ }
-{
-    let mut i: usize = 0;
-    while i < m {
-        mark_row(off, cols, m, wide, i, mark);
-        seed_row(off, cols, m, wide, mark, p, i);
-        pattern::fill_row(p, i);
-        i += 1;
-    }
 }

@@ -1,14 +1,13 @@
 -- A loop over the places that a list names: what it keeps, and a turn of it. Assumes nothing.
-use mathlib.Core.Path.{_≡_, refl, sym, ap, _∙_}
-use mathlib.Core.List.{List, [], _∷_}
-use Prim.Native.Nat.{ℕ, zero, suc, _+_, _-_, _*_, _≤_, _<_}
+use mathlib.Core.Path.{_≡_}
+use mathlib.Core.List.{List}
+use Prim.Native.Nat.{ℕ, _+_, _-_, _≤_, _<_}
 use native.Mathlib.Omega.{arith}
 use lib.ListN.{length, getD}
-use lib.Ieee.{Float, nan, binary64, add, sub, mul}
+use lib.Ieee.{Float, nan, binary64, mul}
 use Rattle.lanes.specs.Lists.{at, fold}
 use Rattle.lanes.specs.Lanes.{lanes}
 use Rattle.lanes.proofs.Quads.{fold-from, fold-turn}
-use Rattle.sparse.specs.Sparse.{plusAll, lessAll, lessEach}
 
 -- k of n turns are done, each with a left and a right number for each lane
 pub record Sum (op : Float → Float → Float) (A B : ℕ → ℕ → Float) (n : ℕ) (start acc : List Float) (k : ℕ) : Type 0 where

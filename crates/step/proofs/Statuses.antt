@@ -1,9 +1,9 @@
 -- The start, and the step that the statuses ask for. Assumes nothing.
-use mathlib.Core.Path.{_≡_, refl, sym, ap, _∙_}
+use mathlib.Core.Path.{_≡_, refl, ap, _∙_}
 use mathlib.Core.Logic.{_≢_}
 use mathlib.Core.Bool.{Bool, true, false, cond, _&&_}
 use mathlib.Core.List.{List}
-use Prim.Native.Nat.{ℕ, _+_, _*_, _≤_, _<_}
+use Prim.Native.Nat.{ℕ, _<_}
 use native.Mathlib.Omega.{arith}
 use lib.ListN.{getD}
 use lib.Ieee.{Float, lt, isNan}
@@ -11,7 +11,7 @@ use Rattle.lanes.specs.Lists.{at, vec}
 use Rattle.lanes.specs.Arithmetic.{null}
 use Rattle.lanes.specs.Constants.{startValue}
 use Rattle.lanes.specs.Lanes.{lanes}
-use Rattle.lanes.specs.Region.{reg, Kept, Fills, Apart, before, after}
+use Rattle.lanes.specs.Region.{reg, Kept, Fills, Apart, before}
 use Rattle.lanes.proofs.Regions.{kept-apart}
 use Rattle.lanes.proofs.Quads.{lane-of}
 use Rattle.machine.specs.Machine.{Problem, LaneData, Settings, State, R, Q, G, mu, status, direction, stepLength, stepped}

@@ -1,11 +1,11 @@
 -- The calls of a step, one after the other, leave in each lane what the machine works out. Assumes nothing.
-use mathlib.Core.Path.{_≡_, refl, sym, ap, _∙_}
+use mathlib.Core.Path.{_≡_, refl, ap, _∙_}
 use mathlib.Core.Logic.{inr}
 use mathlib.Core.Bool.{Bool, cond, false}
 use mathlib.Core.List.{List}
 use Prim.Native.Nat.{ℕ, _+_, _*_, _≤_, _<_}
 use native.Mathlib.Omega.{arith}
-use lib.ListN.{length, getD}
+use lib.ListN.{getD}
 use lib.Ieee.{Float, neg}
 use Rattle.lanes.specs.Lists.{at, vec}
 use Rattle.lanes.specs.Arithmetic.{_⊖_, _⊗_, _⊘_, null, one, larger, smaller}
@@ -21,7 +21,7 @@ use Rattle.machine.proofs.Factor.{fold-same}
 use Rattle.sparse.specs.Sparse.{front, back}
 use Rattle.kernels.specs.Kernels.{uAt, dxAt, fAt}
 use Rattle.links.specs.Planned.{RowsOf, ColsOf, LowOf, HighOf, Holds}
-use Rattle.tests.specs.Layout.{yAt, dyAt, rhsAt, wAt, dwAt, lAt, numbersAt, directionAt}
+use Rattle.tests.specs.Layout.{yAt, dyAt, rhsAt, wAt, dwAt, lAt}
 use Rattle.tests.proofs.ToMachine.{row-plus, col-plus, front-machine, back-machine}
 use Rattle.tests.proofs.Tests.{reg-front}
 use Rattle.step.specs.Steps.{numbersIn, directionIn, changes, Untouched, Still, RightSide, Changed, Directed, Advanced, Took}

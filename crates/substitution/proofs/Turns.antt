@@ -1,20 +1,18 @@
 -- What the loops of the two substitutions keep, and a turn of each. Assumes nothing.
 use mathlib.Core.Path.{_≡_, refl, sym, ap, _∙_}
-use mathlib.Core.Logic.{_⊎_, inl, inr}
-use mathlib.Core.List.{List, [], _∷_}
-use Prim.Native.Nat.{ℕ, zero, suc, _+_, _-_, _*_, _≤_, _<_}
+use mathlib.Core.List.{List}
+use Prim.Native.Nat.{ℕ, suc, _+_, _-_, _*_, _≤_, _<_}
 use native.Mathlib.Omega.{arith}
-use native.Mathlib.Numerals.{add-one}
-use lib.ListN.{length, getD, take, drop, set, length-take, length-drop}
+use lib.ListN.{length, getD, drop, set, length-drop}
 use lib.Seq.{getD-take, getD-drop, length-take-le}
-use lib.Ieee.{Float, nan, binary64, div}
+use lib.Ieee.{Float, binary64, div}
 use Rattle.lanes.specs.Lists.{at, grow}
 use Rattle.lanes.specs.Lanes.{lanes, each2, quad, put}
 use Rattle.lanes.specs.Region.{reg, Kept, Fills, Apart}
 use Rattle.lanes.proofs.Regions.{reg-put, grown, kept-apart, kept-put, apart-front, kept-none}
 use Rattle.lanes.proofs.Quads.{lanes-ext, lane-of, reg-quad}
 use Rattle.lanes.specs.Region.{Grows}
-use Rattle.sparse.specs.Sparse.{cut, lessEach, frontAt, front, backAt, back, Low, High}
+use Rattle.sparse.specs.Sparse.{cut, lessEach, frontAt, front, backAt, back}
 
 -- ---- parts of lists
 

@@ -1,18 +1,15 @@
 -- The calls of a test give in each lane what the machine's test yields. Assumes nothing.
-use mathlib.Core.Path.{_≡_, refl, sym, ap, _∙_, subst}
-use mathlib.Core.Bool.{Bool, true, false, cond, _&&_}
+use mathlib.Core.Path.{_≡_, refl, sym, ap, _∙_}
+use mathlib.Core.Bool.{true, false}
 use mathlib.Core.List.{List}
 use Prim.Native.Nat.{ℕ, _+_, _-_, _*_, _≤_, _<_}
 use native.Mathlib.Omega.{arith}
-use lib.Dec.{ltb, eqb}
 use borrow.Author.Tests.{eq-eqb}
-use lib.ListN.{length, getD}
-use lib.Ieee.{Float, nan, inf, fin, ne, lt, isNan, up, down}
-use Rattle.lanes.specs.Lists.{at, vec, fold, lane}
-use Rattle.machine.specs.Machine.{Problem, LaneData, Settings, State, standard, primalResidual, dualResidual, R, Q, G, g, mu, status}
-use Rattle.lanes.specs.Arithmetic.{_⊕_, _⊖_, _⊗_, _⊘_, √, Σ, norm, null, one, whole}
+use lib.Ieee.{Float, nan, inf, fin, ne, isNan, up, down}
+use Rattle.lanes.specs.Lists.{at, vec, lane}
+use Rattle.machine.specs.Machine.{Problem, LaneData, State, standard, primalResidual, dualResidual, R, Q, G, g, mu, status}
+use Rattle.lanes.specs.Arithmetic.{_⊕_, _⊗_, _⊘_, √, Σ, norm, null, one, whole}
 use Rattle.machine.specs.declared.Status.{Status}
-use Rattle.machine.specs.declared.Status.the-variants.{Spoilt, Done, Step}
 use Rattle.lanes.proofs.Lists.{vec-at}
 use Rattle.machine.proofs.Factor.{fold-same}
 use Rattle.lanes.specs.Constants.{centringValue}
@@ -22,7 +19,7 @@ use Rattle.lanes.proofs.Regions.{reg-at}
 use Rattle.lanes.proofs.Quads.{lane-of}
 use Rattle.kernels.specs.Kernels.{qAt, rAt}
 use Rattle.links.specs.Planned.{RowsOf, ColsOf}
-use Rattle.tests.specs.Layout.{yAt, wAt, numbersAt, judged}
+use Rattle.tests.specs.Layout.{yAt, numbersAt, judged}
 use Rattle.tests.proofs.ToMachine.{row-less, col-less}
 
 -- the first of a region's entries

@@ -1,22 +1,20 @@
 -- What the kernels work out by their lists is what the machine works out by its rules. Assumes nothing.
-use mathlib.Core.Path.{_≡_, refl, sym, ap, _∙_, subst}
-use mathlib.Core.Bool.{Bool, cond, _&&_}
+use mathlib.Core.Path.{_≡_, refl, sym, ap, _∙_}
+use mathlib.Core.Bool.{Bool, _&&_}
 use mathlib.Core.List.{List, [], _∷_, _++_}
-use Prim.Native.Nat.{ℕ, zero, suc, _+_, _-_, _*_, _≤_, _<_}
+use Prim.Native.Nat.{ℕ, zero, suc, _+_, _-_, _≤_, _<_}
 use native.Mathlib.Omega.{arith}
 use lib.Dec.{ltb}
-use lib.ListN.{length, getD, set, drop, length-drop}
-use lib.Seq.{getD-take, getD-drop, length-take-le}
-use lib.Ieee.{Float, nan, neg}
+use lib.ListN.{length, getD, set}
+use lib.Ieee.{Float, nan}
 use Rattle.csr.specs.Pattern.{has, row}
-use Rattle.lanes.specs.Lists.{at, grow, vec, fold, each, Between}
-use Rattle.machine.specs.Machine.{Problem, LaneData, Settings, State, holds, entry, inFactor, forward, backward, columnProduct, rowProduct, primalResidual, dualResidual, uOf, vOf, fOf, dxOf}
+use Rattle.lanes.specs.Lists.{at, grow, fold, each, Between}
+use Rattle.machine.specs.Machine.{Problem, holds, entry, inFactor, forward, backward, columnProduct}
 use Rattle.lanes.specs.Arithmetic.{_⊕_, _⊖_, _⊗_, _⊘_, null}
-use Rattle.lanes.proofs.Lists.{vec-same}
 use Rattle.machine.proofs.Factor.{fold-same}
 use Rattle.machine.proofs.Entries.{through, along}
-use Rattle.sparse.specs.Sparse.{cut, plusAll, lessAll, lessEach, frontAt, front, backAt, back, Csr, Low, High}
-use Rattle.rows.specs.Parts.{span, plusRow, lessRow, plusCol, lessCol, Rows, Cols}
+use Rattle.sparse.specs.Sparse.{cut, plusAll, lessAll, lessEach, frontAt, front, backAt, back}
+use Rattle.rows.specs.Parts.{span, plusRow, lessRow, plusCol, lessCol}
 use Rattle.rows.proofs.Spans.{cut-length, cut-at}
 use Rattle.links.specs.Planned.{RowsOf, ColsOf, LowOf, HighOf, Holds}
 

@@ -1,5 +1,5 @@
 -- The regions of the working memory: x, z, dx, dz, tmp of n entries; y, dy, rhs of m; w, dw of s; l of E. Definitions only.
-use Prim.Native.Nat.{ℕ, _+_, _*_, _≤_, _<_}
+use Prim.Native.Nat.{ℕ, _+_, _*_, _≤_}
 use mathlib.Core.Path.{_≡_}
 use mathlib.Core.Bool.{cond, _&&_}
 use mathlib.Core.List.{List}

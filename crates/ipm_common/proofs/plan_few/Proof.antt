@@ -1,7 +1,6 @@
 -- `ipm_common::plan_few` meets its contract. Assumes nothing.
 use native.Mathlib.Omega.{arith}
 use borrow.Author.Needs.{needs}
-use Rattle.pattern.proofs.Whole.{zeros}
 use Rattle.ipm_common.proofs.Lists.{tri-le, tri-16}
 use Rattle.ipm_common.proofs.plan_few.Statement.{statement}
 use Rattle.ipm_common.proofs.plan_few.Tie as tie
@@ -31,7 +30,6 @@ plan-in-requires c κs =
       omega (arith, tri-le (s .args .m) 16 m, tri-16),
       omega arith,
       omega (arith, n),
-      zeros 33,
       record { rows = omega (arith, m); columns = omega (arith, n) },
       record { rows = omega (arith, m); columns = omega (arith, n) },
     )

@@ -1,7 +1,6 @@
 -- `ipm_common::plan_many` meets its contract. Assumes nothing.
 use native.Mathlib.Omega.{arith}
 use borrow.Author.Needs.{needs}
-use Rattle.pattern.proofs.Whole.{zeros}
 use Rattle.ipm_common.proofs.Lists.{tri-le, tri-256}
 use Rattle.ipm_common.proofs.plan_many.Statement.{statement}
 use Rattle.ipm_common.proofs.plan_many.Tie as tie
@@ -31,7 +30,6 @@ plan-in-requires c κs =
       omega (arith, tri-le (s .args .m) 256 m, tri-256),
       omega arith,
       omega (arith, n),
-      zeros 1025,
       record { rows = omega (arith, m); columns = omega (arith, n) },
       record { rows = omega (arith, m); columns = omega (arith, n) },
     )

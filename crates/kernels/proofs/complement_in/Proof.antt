@@ -1,11 +1,6 @@
 use borrow.Author.Needs.{needs}
 use Rattle.kernels.proofs.complement_in.Statement.{statement}
 use Rattle.kernels.proofs.complement_in.Tie as tie
-use Rattle.kernels.proofs.complement_in.Reads as reads
-use Rattle.kernels.proofs.complement_in.Lts as lts
-use Rattle.lanes.proofs.div4.Reads as div4-reads
-use Rattle.lanes.proofs.mul4.Reads as mul4-reads
-use Rattle.lanes.proofs.sub4.Reads as sub4-reads
 
 mul4-requires : tie.Need-mul4-requires
 mul4-requires c κs = search needs

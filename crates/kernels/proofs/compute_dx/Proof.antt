@@ -1,27 +1,11 @@
 use native.Mathlib.Omega.{arith}
-use mathlib.Core.Path.{_≡_, _∙_, ap, sym, refl}
-use mathlib.Core.List.{List}
-use Prim.Native.Nat.{ℕ, _-_, _+_, _≤_, _<_}
-use lib.ListN.{length, getD}
-use lib.Ieee.{Float}
-use Rattle.lanes.specs.Lists.{at, vec, fold}
-use Rattle.lanes.specs.Arithmetic.{null, Σ, _⊗_}
-use Rattle.machine.specs.Machine.{complement, moved, largestRatio}
-use Rattle.lanes.specs.Lanes.{lanes}
-use Rattle.lanes.specs.Region.{reg}
+use Prim.Native.Nat.{_-_, _≤_}
 use Rattle.lanes.proofs.Regions.{grows-none}
-use Rattle.lanes.proofs.Quads.{grows-turn, reg-quad, fold-turn}
+use Rattle.lanes.proofs.Quads.{grows-turn}
 use Rattle.lanes.specs.Region.{Grows}
-use Rattle.kernels.proofs.Turns.{lane-quad, filled, uLane, u-turn, dxLane, dx-turn, qLane, q-turn, fLane, f-turn, rLane, r-turn, otherLane, other-turn, movedLane, moved-turn, array-lanes, sum-turn, sum-none, steepLane}
+use Rattle.kernels.proofs.Turns.{filled, dxLane, dx-turn}
 use Rattle.kernels.proofs.compute_dx.Statement.{statement}
 use Rattle.kernels.proofs.compute_dx.Tie as tie
-use Rattle.kernels.proofs.compute_dx.Reads as reads
-use Rattle.kernels.proofs.compute_dx.Lts as lts
-use Rattle.kernels.proofs.dx_in.Reads as dx-in-reads
-use Rattle.kernels.proofs.zero4.Reads as zero4-reads
-use Rattle.lanes.proofs.get4.Reads as get4-reads
-use Rattle.lanes.proofs.put4.Reads as put4-reads
-use Rattle.rows.proofs.col_plus.Reads as col-plus-reads
 
 abbrev Inv-loop : tie.InvT-loop
 Inv-loop toff rows places vals c work₀ x z y dy out n m mu zero e₀ work e = (e ≤ n) × Grows 4 out e (λ t _. dxLane toff rows places vals c x z y n m mu dy work₀ t) work₀ work

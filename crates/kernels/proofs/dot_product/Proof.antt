@@ -1,25 +1,14 @@
 use native.Mathlib.Omega.{arith}
-use mathlib.Core.Path.{_≡_, _∙_, ap, sym, refl}
-use mathlib.Core.List.{List}
-use Prim.Native.Nat.{ℕ, _-_, _+_, _≤_, _<_}
-use lib.ListN.{length, getD}
-use lib.Ieee.{Float}
-use Rattle.lanes.specs.Lists.{at, vec, fold}
-use Rattle.lanes.specs.Arithmetic.{null, Σ, _⊗_}
-use Rattle.machine.specs.Machine.{complement, moved, largestRatio}
+use mathlib.Core.Path.{_≡_, _∙_}
+use Prim.Native.Nat.{_-_, _≤_}
+use Rattle.lanes.specs.Lists.{at}
+use Rattle.lanes.specs.Arithmetic.{Σ, _⊗_}
 use Rattle.lanes.specs.Lanes.{lanes}
 use Rattle.lanes.specs.Region.{reg}
-use Rattle.lanes.proofs.Regions.{grows-none}
-use Rattle.lanes.proofs.Quads.{grows-turn, reg-quad, fold-turn}
-use Rattle.lanes.specs.Region.{Grows}
-use Rattle.kernels.proofs.Turns.{lane-quad, filled, uLane, u-turn, dxLane, dx-turn, qLane, q-turn, fLane, f-turn, rLane, r-turn, otherLane, other-turn, movedLane, moved-turn, array-lanes, sum-turn, sum-none, steepLane}
+use Rattle.lanes.proofs.Quads.{reg-quad}
+use Rattle.kernels.proofs.Turns.{sum-turn, sum-none}
 use Rattle.kernels.proofs.dot_product.Statement.{statement}
 use Rattle.kernels.proofs.dot_product.Tie as tie
-use Rattle.kernels.proofs.dot_product.Reads as reads
-use Rattle.kernels.proofs.dot_product.Lts as lts
-use Rattle.kernels.proofs.product_in.Reads as product-in-reads
-use Rattle.kernels.proofs.zero4.Reads as zero4-reads
-use Rattle.lanes.proofs.get4.Reads as get4-reads
 
 abbrev Inv-loop : tie.InvT-loop
 Inv-loop work p q k acc₀ e₀ acc e = (e ≤ k) × (acc ≡ lanes (λ t. Σ e (λ j. at (reg 4 work p k t) j ⊗ at (reg 4 work q k t) j)))
@@ -34,25 +23,37 @@ loop-holds : tie.Need-loop-holds Inv-loop μ-loop
 loop-holds c = (omega arith, sum-none (λ t e. at (reg 4 (c .before .before .args .work .now) (c .before .before .args .p) (c .before .before .args .k) t) e) (λ t e. at (reg 4 (c .before .before .args .work .now) (c .before .before .args .q) (c .before .before .args .k) t) e) (c .zero4 .ensures))
 
 add-get4 : tie.Need-add-get4 Inv-loop μ-loop
-add-get4 c = omega (arith, c .before .before .before .before .pre .0, c .before .before .before .before .pre .1, c .before .before .before .before .fits, c .before .before .before .before .good)
+add-get4 c =
+    let e = c .before .before .before .before in
+    omega (arith, e .pre .0, e .pre .1, e .fits, e .good)
 
 get4-requires : tie.Need-get4-requires Inv-loop μ-loop
-get4-requires c κs = omega (arith, c .before .before .before .before .pre .0, c .before .before .before .before .pre .1, c .before .before .before .before .fits, c .before .before .before .before .good)
+get4-requires c κs =
+    let e = c .before .before .before .before in
+    omega (arith, e .pre .0, e .pre .1, e .fits, e .good)
 
 add-get4-2 : tie.Need-add-get4-2 Inv-loop μ-loop
-add-get4-2 c = omega (arith, c .before .before .before .before .before .pre .0, c .before .before .before .before .before .pre .1, c .before .before .before .before .before .fits, c .before .before .before .before .before .good)
+add-get4-2 c =
+    let e = c .before .before .before .before .before in
+    omega (arith, e .pre .0, e .pre .1, e .fits, e .good)
 
 get4-requires-2 : tie.Need-get4-requires-2 Inv-loop μ-loop
-get4-requires-2 c κs = omega (arith, c .before .before .before .before .before .pre .0, c .before .before .before .before .before .pre .1, c .before .before .before .before .before .fits, c .before .before .before .before .before .good)
+get4-requires-2 c κs =
+    let e = c .before .before .before .before .before in
+    omega (arith, e .pre .0, e .pre .1, e .fits, e .good)
 
 product-in-requires : tie.Need-product-in-requires Inv-loop μ-loop
 product-in-requires c κs = tt
 
 add-e : tie.Need-add-e Inv-loop μ-loop
-add-e c = omega (arith, c .before .before .before .before .before .before .before .pre .0, c .before .before .before .before .before .before .before .pre .1, c .before .before .before .before .before .before .before .fits, c .before .before .before .before .before .before .before .good)
+add-e c =
+    let e = c .before .before .before .before .before .before .before in
+    omega (arith, e .pre .0, e .pre .1, e .fits, e .good)
 
 loop-less : tie.Need-loop-less Inv-loop μ-loop
-loop-less c = omega (arith, c .before .before .before .before .before .before .before .pre .0, c .before .before .before .before .before .before .before .pre .1, c .before .before .before .before .before .before .before .fits, c .before .before .before .before .before .before .before .good)
+loop-less c =
+    let e = c .before .before .before .before .before .before .before in
+    omega (arith, e .pre .0, e .pre .1, e .fits, e .good)
 
 loop-again : tie.Need-loop-again Inv-loop μ-loop
 loop-again c = (
@@ -61,7 +62,9 @@ loop-again c = (
 )
 
 returns : tie.Need-returns Inv-loop μ-loop
-returns c = let z : c .before .loop .e ≡ c .before .before .before .before .args .k = omega arith in rw z at (c .before .loop .inv .1)
+returns c =
+    let l = c .before .loop in
+    let z : l .e ≡ c .before .before .before .before .args .k = omega arith in rw z at (l .inv .1)
 
 pub dot-product-spec : {M : Type 1} → statement M
 dot-product-spec =

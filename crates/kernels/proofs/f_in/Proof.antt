@@ -1,10 +1,6 @@
 use borrow.Author.Needs.{needs}
 use Rattle.kernels.proofs.f_in.Statement.{statement}
 use Rattle.kernels.proofs.f_in.Tie as tie
-use Rattle.kernels.proofs.f_in.Reads as reads
-use Rattle.kernels.proofs.f_in.Lts as lts
-use Rattle.lanes.proofs.neg4.Reads as neg4-reads
-use Rattle.lanes.proofs.sub4.Reads as sub4-reads
 
 sub4-requires : tie.Need-sub4-requires
 sub4-requires c κs = search needs

@@ -1,11 +1,6 @@
 use borrow.Author.Needs.{needs}
 use Rattle.kernels.proofs.moved_in.Statement.{statement}
 use Rattle.kernels.proofs.moved_in.Tie as tie
-use Rattle.kernels.proofs.moved_in.Reads as reads
-use Rattle.kernels.proofs.moved_in.Lts as lts
-use Rattle.kernels.proofs.one4.Reads as one4-reads
-use Rattle.lanes.proofs.add4.Reads as add4-reads
-use Rattle.lanes.proofs.mul4.Reads as mul4-reads
 
 one4-requires : tie.Need-one4-requires
 one4-requires c κs = search needs

@@ -2,9 +2,6 @@ use Rattle.lanes.proofs.Consts.{one-bits}
 use borrow.Author.Needs.{needs}
 use Rattle.kernels.proofs.one4.Statement.{statement}
 use Rattle.kernels.proofs.one4.Tie as tie
-use Rattle.kernels.proofs.one4.Reads as reads
-use Rattle.kernels.proofs.one4.Lts as lts
-use Rattle.lanes.proofs.splat.Reads as splat-reads
 
 splat-requires : tie.Need-splat-requires
 splat-requires c κs = search needs

@@ -1,11 +1,6 @@
 use borrow.Author.Needs.{needs}
 use Rattle.kernels.proofs.ratio_in.Statement.{statement}
 use Rattle.kernels.proofs.ratio_in.Tie as tie
-use Rattle.kernels.proofs.ratio_in.Reads as reads
-use Rattle.kernels.proofs.ratio_in.Lts as lts
-use Rattle.lanes.proofs.div4.Reads as div4-reads
-use Rattle.lanes.proofs.larger4.Reads as larger4-reads
-use Rattle.lanes.proofs.neg4.Reads as neg4-reads
 
 neg4-requires : tie.Need-neg4-requires
 neg4-requires c κs = search needs

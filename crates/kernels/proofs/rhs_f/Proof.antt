@@ -1,28 +1,11 @@
 use native.Mathlib.Omega.{arith}
-use mathlib.Core.Path.{_≡_, _∙_, ap, sym, refl}
-use mathlib.Core.List.{List}
-use Prim.Native.Nat.{ℕ, _-_, _+_, _≤_, _<_}
-use lib.ListN.{length, getD}
-use lib.Ieee.{Float}
-use Rattle.lanes.specs.Lists.{at, vec, fold}
-use Rattle.lanes.specs.Arithmetic.{null, Σ, _⊗_}
-use Rattle.machine.specs.Machine.{complement, moved, largestRatio}
-use Rattle.lanes.specs.Lanes.{lanes}
-use Rattle.lanes.specs.Region.{reg}
+use Prim.Native.Nat.{_-_, _≤_}
 use Rattle.lanes.proofs.Regions.{grows-none}
-use Rattle.lanes.proofs.Quads.{grows-turn, reg-quad, fold-turn}
+use Rattle.lanes.proofs.Quads.{grows-turn}
 use Rattle.lanes.specs.Region.{Grows}
-use Rattle.kernels.proofs.Turns.{lane-quad, filled, uLane, u-turn, dxLane, dx-turn, qLane, q-turn, fLane, f-turn, rLane, r-turn, otherLane, other-turn, movedLane, moved-turn, array-lanes, sum-turn, sum-none, steepLane}
+use Rattle.kernels.proofs.Turns.{filled, fLane, f-turn}
 use Rattle.kernels.proofs.rhs_f.Statement.{statement}
 use Rattle.kernels.proofs.rhs_f.Tie as tie
-use Rattle.kernels.proofs.rhs_f.Reads as reads
-use Rattle.kernels.proofs.rhs_f.Lts as lts
-use Rattle.kernels.proofs.f_in.Reads as f-in-reads
-use Rattle.kernels.proofs.v_start.Reads as v-start-reads
-use Rattle.kernels.proofs.zero4.Reads as zero4-reads
-use Rattle.lanes.proofs.get4.Reads as get4-reads
-use Rattle.lanes.proofs.put4.Reads as put4-reads
-use Rattle.rows.proofs.row_plus.Reads as row-plus-reads
 
 abbrev Inv-loop : tie.InvT-loop
 Inv-loop off cols vals b work₀ x y u out n m s mu zero i₀ work i = (i ≤ m) × Grows 4 out i (λ t _. fLane off cols vals b x n m s y u mu work₀ t) work₀ work

@@ -1,12 +1,6 @@
 use borrow.Author.Needs.{needs}
 use Rattle.kernels.proofs.u_in.Statement.{statement}
 use Rattle.kernels.proofs.u_in.Tie as tie
-use Rattle.kernels.proofs.u_in.Reads as reads
-use Rattle.kernels.proofs.u_in.Lts as lts
-use Rattle.lanes.proofs.add4.Reads as add4-reads
-use Rattle.lanes.proofs.div4.Reads as div4-reads
-use Rattle.lanes.proofs.mul4.Reads as mul4-reads
-use Rattle.lanes.proofs.sub4.Reads as sub4-reads
 
 div4-requires : tie.Need-div4-requires
 div4-requires c κs = search needs

@@ -1,25 +1,12 @@
 use native.Mathlib.Omega.{arith}
-use mathlib.Core.Path.{_≡_, _∙_, ap, sym, refl}
-use mathlib.Core.List.{List}
-use Prim.Native.Nat.{ℕ, _-_, _+_, _≤_, _<_}
-use lib.ListN.{length, getD}
-use lib.Ieee.{Float}
-use Rattle.lanes.specs.Lists.{at, vec, fold}
-use Rattle.lanes.specs.Arithmetic.{null, Σ, _⊗_}
-use Rattle.machine.specs.Machine.{complement, moved, largestRatio}
-use Rattle.lanes.specs.Lanes.{lanes}
-use Rattle.lanes.specs.Region.{reg}
+use Prim.Native.Nat.{_-_, _≤_}
+use Rattle.machine.specs.Machine.{moved}
 use Rattle.lanes.proofs.Regions.{grows-none}
-use Rattle.lanes.proofs.Quads.{grows-turn, reg-quad, fold-turn}
+use Rattle.lanes.proofs.Quads.{grows-turn}
 use Rattle.lanes.specs.Region.{Grows}
-use Rattle.kernels.proofs.Turns.{lane-quad, filled, uLane, u-turn, dxLane, dx-turn, qLane, q-turn, fLane, f-turn, rLane, r-turn, otherLane, other-turn, movedLane, moved-turn, array-lanes, sum-turn, sum-none, steepLane}
+use Rattle.kernels.proofs.Turns.{filled, movedLane, moved-turn}
 use Rattle.kernels.proofs.vector_update.Statement.{statement}
 use Rattle.kernels.proofs.vector_update.Tie as tie
-use Rattle.kernels.proofs.vector_update.Reads as reads
-use Rattle.kernels.proofs.vector_update.Lts as lts
-use Rattle.kernels.proofs.moved_in.Reads as moved-in-reads
-use Rattle.lanes.proofs.get4.Reads as get4-reads
-use Rattle.lanes.proofs.put4.Reads as put4-reads
 
 abbrev Inv-loop : tie.InvT-loop
 Inv-loop work₀ p dp k h e₀ work e = (e ≤ k) × Grows 4 p e (λ t _. movedLane p dp k h work₀ t) work₀ work
@@ -31,44 +18,68 @@ loop-holds : tie.Need-loop-holds Inv-loop μ-loop
 loop-holds c = (omega arith, grows-none 4 _ _ _)
 
 add-get4 : tie.Need-add-get4 Inv-loop μ-loop
-add-get4 c = omega (arith, c .before .before .before .before .pre .1, c .before .before .before .before .pre .2, c .before .before .loop .inv .1 .kept .size, c .before .before .before .before .fits, c .before .before .before .before .good)
+add-get4 c =
+    let e = c .before .before .before .before in
+    omega (arith, e .pre .1, e .pre .2, c .before .before .loop .inv .1 .kept .size, e .fits, e .good)
 
 get4-requires : tie.Need-get4-requires Inv-loop μ-loop
-get4-requires c κs = omega (arith, c .before .before .before .before .pre .1, c .before .before .before .before .pre .2, c .before .before .loop .inv .1 .kept .size, c .before .before .before .before .fits, c .before .before .before .before .good)
+get4-requires c κs =
+    let e = c .before .before .before .before in
+    omega (arith, e .pre .1, e .pre .2, c .before .before .loop .inv .1 .kept .size, e .fits, e .good)
 
 add-get4-2 : tie.Need-add-get4-2 Inv-loop μ-loop
-add-get4-2 c = omega (arith, c .before .before .before .before .before .before .pre .1, c .before .before .before .before .before .before .pre .2, c .before .before .before .before .loop .inv .1 .kept .size, c .before .before .before .before .before .before .fits, c .before .before .before .before .before .before .good)
+add-get4-2 c =
+    let e = c .before .before .before .before .before .before in
+    omega (arith, e .pre .1, e .pre .2, c .before .before .before .before .loop .inv .1 .kept .size, e .fits, e .good)
 
 get4-requires-2 : tie.Need-get4-requires-2 Inv-loop μ-loop
-get4-requires-2 c κs = omega (arith, c .before .before .before .before .before .before .pre .1, c .before .before .before .before .before .before .pre .2, c .before .before .before .before .loop .inv .1 .kept .size, c .before .before .before .before .before .before .fits, c .before .before .before .before .before .before .good)
+get4-requires-2 c κs =
+    let e = c .before .before .before .before .before .before in
+    omega (arith, e .pre .1, e .pre .2, c .before .before .before .before .loop .inv .1 .kept .size, e .fits, e .good)
 
 moved-in-requires : tie.Need-moved-in-requires Inv-loop μ-loop
 moved-in-requires c κs = tt
 
 add-put4 : tie.Need-add-put4 Inv-loop μ-loop
-add-put4 c = omega (arith, c .before .before .before .before .before .before .before .before .before .pre .1, c .before .before .before .before .before .before .before .before .before .pre .2, c .before .before .before .before .before .before .before .loop .inv .1 .kept .size, c .before .before .before .before .before .before .before .before .before .fits, c .before .before .before .before .before .before .before .before .before .good)
+add-put4 c =
+    let e = c .before .before .before .before .before .before .before .before .before in
+    let l = c .before .before .before .before .before .before .before .loop in
+    omega (arith, e .pre .1, e .pre .2, l .inv .1 .kept .size, e .fits, e .good)
 
 put4-requires : tie.Need-put4-requires Inv-loop μ-loop
-put4-requires c κs = omega (arith, c .before .before .before .before .before .before .before .before .before .pre .1, c .before .before .before .before .before .before .before .before .before .pre .2, c .before .before .before .before .before .before .before .loop .inv .1 .kept .size, c .before .before .before .before .before .before .before .before .before .fits, c .before .before .before .before .before .before .before .before .before .good)
+put4-requires c κs =
+    let e = c .before .before .before .before .before .before .before .before .before in
+    let l = c .before .before .before .before .before .before .before .loop in
+    omega (arith, e .pre .1, e .pre .2, l .inv .1 .kept .size, e .fits, e .good)
 
 add-e : tie.Need-add-e Inv-loop μ-loop
-add-e c = omega (arith, c .before .before .before .before .before .before .before .before .before .before .before .before .pre .1, c .before .before .before .before .before .before .before .before .before .before .before .before .pre .2, c .before .before .before .before .before .before .before .before .before .before .loop .inv .1 .kept .size, c .before .before .before .before .before .before .before .before .before .before .before .before .fits, c .before .before .before .before .before .before .before .before .before .before .before .before .good)
+add-e c =
+    let e = c .before .before .before .before .before .before .before .before .before .before .before .before in
+    let l = c .before .before .before .before .before .before .before .before .before .before .loop in
+    omega (arith, e .pre .1, e .pre .2, l .inv .1 .kept .size, e .fits, e .good)
 
 loop-less : tie.Need-loop-less Inv-loop μ-loop
-loop-less c = omega (arith, c .before .before .before .before .before .before .before .before .before .before .before .before .pre .1, c .before .before .before .before .before .before .before .before .before .before .before .before .pre .2, c .before .before .before .before .before .before .before .before .before .before .loop .inv .1 .kept .size, c .before .before .before .before .before .before .before .before .before .before .before .before .fits, c .before .before .before .before .before .before .before .before .before .before .before .before .good)
+loop-less c =
+    let e = c .before .before .before .before .before .before .before .before .before .before .before .before in
+    let l = c .before .before .before .before .before .before .before .before .before .before .loop in
+    omega (arith, e .pre .1, e .pre .2, l .inv .1 .kept .size, e .fits, e .good)
 
 loop-again : tie.Need-loop-again Inv-loop μ-loop
-loop-again c = (
-  omega arith,
-  grows-turn (c .before .before .before .before .before .before .before .before .before .before .loop .inv .1) (omega (arith, c .before .before .before .before .before .before .before .before .before .before .before .before .pre .1)) (moved-turn (c .before .before .before .before .before .before .before .before .before .before .before .before .args .dp) (c .before .before .before .before .before .before .before .before .before .before .before .before .args .h) (c .before .before .before .before .before .before .before .before .before .before .loop .inv .1) (c .before .before .before .before .before .before .before .before .before .before .before .before .pre .0) (c .before .before .before .before .before .before .before .before .before .loop-test .taken) (c .before .before .before .before .before .before .before .get4 .ensures) (c .before .before .before .before .before .get42 .ensures) (c .before .before .before .before .moved-in .ensures)) (c .before .before .put4 .ensures),
-)
+loop-again c =
+    let e = c .before .before .before .before .before .before .before .before .before .before .before .before in
+    let l = c .before .before .before .before .before .before .before .before .before .before .loop in (
+      omega arith,
+      grows-turn (l .inv .1) (omega (arith, e .pre .1)) (moved-turn (e .args .dp) (e .args .h) (l .inv .1) (e .pre .0) (c .before .before .before .before .before .before .before .before .before .loop-test .taken) (c .before .before .before .before .before .before .before .get4 .ensures) (c .before .before .before .before .before .get42 .ensures) (c .before .before .before .before .moved-in .ensures)) (c .before .before .put4 .ensures),
+    )
 
 same-length : tie.Need-same-length Inv-loop μ-loop
 same-length c = c .before .loop .inv .1 .kept .size
 
 returns : tie.Need-returns Inv-loop μ-loop
 unfolding moved
-returns c = filled (λ t. movedLane (c .before .before .before .args .p) (c .before .before .before .args .dp) (c .before .before .before .args .k) (c .before .before .before .args .h) (c .before .before .before .args .work .now) t) (c .before .loop .inv .1) (omega arith)
+returns c =
+    let e = c .before .before .before in
+    filled (λ t. movedLane (e .args .p) (e .args .dp) (e .args .k) (e .args .h) (e .args .work .now) t) (c .before .loop .inv .1) (omega arith)
 
 pub vector-update-spec : {M : Type 1} → statement M
 vector-update-spec =

@@ -1,15 +1,12 @@
 use native.Mathlib.Omega.{arith}
-use mathlib.Core.Path.{_≡_, _∙_, ap, sym, refl}
-use Prim.Native.Nat.{ℕ, _-_, _+_, _≤_, _<_}
-use lib.ListN.{length, getD}
+use mathlib.Core.Path.{refl}
+use Prim.Native.Nat.{ℕ, _-_, _+_, _<_}
+use lib.ListN.{length}
 use Rattle.rows.proofs.Spans.{span-same, span-all}
-use Rattle.rows.specs.Parts.{plusRow, lessRow, plusCol, lessCol}
+use Rattle.rows.specs.Parts.{plusCol}
 use borrow.Author.Needs.{needs}
 use Rattle.rows.proofs.col_plus.Statement.{statement}
 use Rattle.rows.proofs.col_plus.Tie as tie
-use Rattle.rows.proofs.col_plus.Reads as reads
-use Rattle.rows.proofs.col_plus.Lts as lts
-use Rattle.sparse.proofs.plus_col.Reads as plus-col-reads
 
 mul-a : tie.Need-mul-a
 mul-a c = search needs
@@ -18,7 +15,9 @@ shared-slice-read-a : tie.Need-shared-slice-read-a
 shared-slice-read-a c = search needs
 
 cast-a : tie.Need-cast-a
-cast-a c = omega (arith, c .shared-slice-known6 .given (c .before .before .before .before .before .before .args .e))
+cast-a c =
+    let e = c .before .before .before .before .before .before in
+    omega (arith, c .shared-slice-known6 .given (e .args .e))
 
 add-g : tie.Need-add-g
 add-g c = search needs
@@ -30,31 +29,49 @@ shared-slice-read-g : tie.Need-shared-slice-read-g
 shared-slice-read-g c = search needs
 
 cast-g : tie.Need-cast-g
-cast-g c = omega (arith, c .shared-slice-known7 .given (c .before .before .before .before .before .before .before .args .e + 1))
+cast-g c =
+    let e = c .before .before .before .before .before .before .before in
+    omega (arith, c .shared-slice-known7 .given (e .args .e + 1))
 
 mul-plus-col : tie.Need-mul-plus-col
-mul-plus-col c = omega (arith, c .before .before .before .before .before .before .before .pre .0 .csr .rises (c .before .before .before .before .before .before .before .args .e) (c .before .before .before .before .before .before .before .pre .1), c .before .before .before .before .before .before .before .pre .0 .csr .ends (c .before .before .before .before .before .before .before .args .e) (c .before .before .before .before .before .before .before .pre .1), c .before .before .before .before .before .before .before .pre .0 .sizes)
+mul-plus-col c =
+    let e = c .before .before .before .before .before .before .before in
+    omega (arith, e .pre .0 .csr .rises (e .args .e) (e .pre .1), e .pre .0 .csr .ends (e .args .e) (e .pre .1), e .pre .0 .sizes)
 
 sub-plus-col : tie.Need-sub-plus-col
-sub-plus-col c = omega (arith, c .before .before .before .before .before .before .before .pre .0 .csr .rises (c .before .before .before .before .before .before .before .args .e) (c .before .before .before .before .before .before .before .pre .1), c .before .before .before .before .before .before .before .pre .0 .csr .ends (c .before .before .before .before .before .before .before .args .e) (c .before .before .before .before .before .before .before .pre .1), c .before .before .before .before .before .before .before .pre .0 .sizes)
+sub-plus-col c =
+    let e = c .before .before .before .before .before .before .before in
+    omega (arith, e .pre .0 .csr .rises (e .args .e) (e .pre .1), e .pre .0 .csr .ends (e .args .e) (e .pre .1), e .pre .0 .sizes)
 
 part-plus-col-start : tie.Need-part-plus-col-start
-part-plus-col-start c = omega (arith, c .before .before .before .before .before .before .before .pre .0 .csr .rises (c .before .before .before .before .before .before .before .args .e) (c .before .before .before .before .before .before .before .pre .1), c .before .before .before .before .before .before .before .pre .0 .csr .ends (c .before .before .before .before .before .before .before .args .e) (c .before .before .before .before .before .before .before .pre .1), c .before .before .before .before .before .before .before .pre .0 .sizes)
+part-plus-col-start c =
+    let e = c .before .before .before .before .before .before .before in
+    omega (arith, e .pre .0 .csr .rises (e .args .e) (e .pre .1), e .pre .0 .csr .ends (e .args .e) (e .pre .1), e .pre .0 .sizes)
 
 part-plus-col-end : tie.Need-part-plus-col-end
-part-plus-col-end c = omega (arith, c .before .before .before .before .before .before .before .pre .0 .csr .rises (c .before .before .before .before .before .before .before .args .e) (c .before .before .before .before .before .before .before .pre .1), c .before .before .before .before .before .before .before .pre .0 .csr .ends (c .before .before .before .before .before .before .before .args .e) (c .before .before .before .before .before .before .before .pre .1), c .before .before .before .before .before .before .before .pre .0 .sizes)
+part-plus-col-end c =
+    let e = c .before .before .before .before .before .before .before in
+    omega (arith, e .pre .0 .csr .rises (e .args .e) (e .pre .1), e .pre .0 .csr .ends (e .args .e) (e .pre .1), e .pre .0 .sizes)
 
 mul-plus-col-2 : tie.Need-mul-plus-col-2
-mul-plus-col-2 c = omega (arith, c .before .before .before .before .before .before .before .before .pre .0 .csr .rises (c .before .before .before .before .before .before .before .before .args .e) (c .before .before .before .before .before .before .before .before .pre .1), c .before .before .before .before .before .before .before .before .pre .0 .csr .ends (c .before .before .before .before .before .before .before .before .args .e) (c .before .before .before .before .before .before .before .before .pre .1), c .before .before .before .before .before .before .before .before .pre .0 .sizes)
+mul-plus-col-2 c =
+    let e = c .before .before .before .before .before .before .before .before in
+    omega (arith, e .pre .0 .csr .rises (e .args .e) (e .pre .1), e .pre .0 .csr .ends (e .args .e) (e .pre .1), e .pre .0 .sizes)
 
 sub-plus-col-2 : tie.Need-sub-plus-col-2
-sub-plus-col-2 c = omega (arith, c .before .before .before .before .before .before .before .before .pre .0 .csr .rises (c .before .before .before .before .before .before .before .before .args .e) (c .before .before .before .before .before .before .before .before .pre .1), c .before .before .before .before .before .before .before .before .pre .0 .csr .ends (c .before .before .before .before .before .before .before .before .args .e) (c .before .before .before .before .before .before .before .before .pre .1), c .before .before .before .before .before .before .before .before .pre .0 .sizes)
+sub-plus-col-2 c =
+    let e = c .before .before .before .before .before .before .before .before in
+    omega (arith, e .pre .0 .csr .rises (e .args .e) (e .pre .1), e .pre .0 .csr .ends (e .args .e) (e .pre .1), e .pre .0 .sizes)
 
 part-plus-col-start-2 : tie.Need-part-plus-col-start-2
-part-plus-col-start-2 c = omega (arith, c .before .before .before .before .before .before .before .before .pre .0 .csr .rises (c .before .before .before .before .before .before .before .before .args .e) (c .before .before .before .before .before .before .before .before .pre .1), c .before .before .before .before .before .before .before .before .pre .0 .csr .ends (c .before .before .before .before .before .before .before .before .args .e) (c .before .before .before .before .before .before .before .before .pre .1), c .before .before .before .before .before .before .before .before .pre .0 .sizes)
+part-plus-col-start-2 c =
+    let e = c .before .before .before .before .before .before .before .before in
+    omega (arith, e .pre .0 .csr .rises (e .args .e) (e .pre .1), e .pre .0 .csr .ends (e .args .e) (e .pre .1), e .pre .0 .sizes)
 
 part-plus-col-end-2 : tie.Need-part-plus-col-end-2
-part-plus-col-end-2 c = omega (arith, c .before .before .before .before .before .before .before .before .pre .0 .csr .rises (c .before .before .before .before .before .before .before .before .args .e) (c .before .before .before .before .before .before .before .before .pre .1), c .before .before .before .before .before .before .before .before .pre .0 .csr .ends (c .before .before .before .before .before .before .before .before .args .e) (c .before .before .before .before .before .before .before .before .pre .1), c .before .before .before .before .before .before .before .before .pre .0 .sizes)
+part-plus-col-end-2 c =
+    let e = c .before .before .before .before .before .before .before .before in
+    omega (arith, e .pre .0 .csr .rises (e .args .e) (e .pre .1), e .pre .0 .csr .ends (e .args .e) (e .pre .1), e .pre .0 .sizes)
 
 plus-col-requires : tie.Need-plus-col-requires
 plus-col-requires c κs = ((span-same (c .before .before .before .before .before .before .before .before .before .pre .0 .csr) (c .before .before .before .before .before .before .before .before .before .args .e) (c .before .before .before .before .before .before .before .before .before .pre .1) (c .before .before .before .before .before .before .before .before .before .args .places .now) (c .before .before .before .before .before .before .before .before .before .pre .0 .sizes), span-all (c .before .before .before .before .before .before .before .before .before .pre .0 .csr) (c .before .before .before .before .before .before .before .before .before .args .e) (c .before .before .before .before .before .before .before .before .before .pre .1) (c .before .before .before .before .before .before .before .before .before .args .rows .now) (λ (e : ℕ). e < c .before .before .before .before .before .before .before .before .before .args .m) refl (c .before .before .before .before .before .before .before .before .before .pre .0 .csr .below), span-all (c .before .before .before .before .before .before .before .before .before .pre .0 .csr) (c .before .before .before .before .before .before .before .before .before .args .e) (c .before .before .before .before .before .before .before .before .before .pre .1) (c .before .before .before .before .before .before .before .before .before .args .places .now) (λ (e : ℕ). e < length (c .before .before .before .before .before .before .before .before .before .args .vals .now)) (c .before .before .before .before .before .before .before .before .before .pre .0 .sizes) (c .before .before .before .before .before .before .before .before .before .pre .0 .range)), c .before .before .before .before .before .before .before .before .before .pre .2)

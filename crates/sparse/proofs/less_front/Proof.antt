@@ -1,18 +1,14 @@
 use native.Mathlib.Omega.{arith}
-use mathlib.Core.Path.{_≡_, _∙_, ap}
+use mathlib.Core.Path.{_∙_}
 use Prim.Native.Nat.{_-_, _+_}
 use lib.ListN.{length, getD}
-use lib.Ieee.{binary64, add, sub, nan}
+use lib.Ieee.{binary64, sub, nan}
 use Rattle.lanes.specs.Region.{reg}
 use Rattle.lanes.proofs.Quads.{reg-quad}
 use Rattle.sparse.proofs.Loops.{Sum, sum-start, sum-turn, sum-end}
-use Rattle.sparse.specs.Sparse.{plusAll, lessAll, lessEach}
+use Rattle.sparse.specs.Sparse.{lessEach}
 use Rattle.sparse.proofs.less_front.Statement.{statement}
 use Rattle.sparse.proofs.less_front.Tie as tie
-use Rattle.sparse.proofs.less_front.Reads as reads
-use Rattle.sparse.proofs.less_front.Lts as lts
-use Rattle.lanes.proofs.get4.Reads as get4-reads
-use Rattle.sparse.proofs.less_in.Reads as less-in-reads
 
 abbrev Inv-loop : tie.InvT-loop
 Inv-loop es work d n l count a acc₀ k₀ acc k =
@@ -34,10 +30,14 @@ cast-j : tie.Need-cast-j Inv-loop μ-loop
 cast-j c = omega (arith, c .shared-slice-known3 .given (c .before .before .loop .k))
 
 add-get4 : tie.Need-add-get4 Inv-loop μ-loop
-add-get4 c = omega (arith, c .before .before .before .before .before .pre .0 (c .before .before .loop .k) (c .before .loop-test .taken))
+add-get4 c =
+    let e = c .before .before .before .before .before in
+    omega (arith, e .pre .0 (c .before .before .loop .k) (c .before .loop-test .taken))
 
 get4-requires : tie.Need-get4-requires Inv-loop μ-loop
-get4-requires c κs = omega (arith, c .before .before .before .before .before .pre .0 (c .before .before .loop .k) (c .before .loop-test .taken))
+get4-requires c κs =
+    let e = c .before .before .before .before .before in
+    omega (arith, e .pre .0 (c .before .before .loop .k) (c .before .loop-test .taken))
 
 add-get4-2 : tie.Need-add-get4-2 Inv-loop μ-loop
 add-get4-2 c = omega arith

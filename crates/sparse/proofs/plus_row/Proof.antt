@@ -1,19 +1,14 @@
 use native.Mathlib.Omega.{arith}
-use mathlib.Core.Path.{_≡_, _∙_, ap}
-use Prim.Native.Nat.{_-_, _+_}
+use mathlib.Core.Path.{_∙_}
+use Prim.Native.Nat.{_-_}
 use lib.ListN.{length, getD}
-use lib.Ieee.{binary64, add, sub, nan}
+use lib.Ieee.{binary64, add, nan}
 use Rattle.lanes.specs.Region.{reg}
 use Rattle.lanes.proofs.Quads.{reg-quad}
 use Rattle.sparse.proofs.Loops.{Sum, sum-start, sum-turn, sum-end}
-use Rattle.sparse.specs.Sparse.{plusAll, lessAll, lessEach}
+use Rattle.sparse.specs.Sparse.{plusAll}
 use Rattle.sparse.proofs.plus_row.Statement.{statement}
 use Rattle.sparse.proofs.plus_row.Tie as tie
-use Rattle.sparse.proofs.plus_row.Reads as reads
-use Rattle.sparse.proofs.plus_row.Lts as lts
-use Rattle.lanes.proofs.get4.Reads as get4-reads
-use Rattle.lanes.proofs.splat.Reads as splat-reads
-use Rattle.sparse.proofs.plus_in.Reads as plus-in-reads
 
 abbrev Inv-loop : tie.InvT-loop
 Inv-loop es vs work x n acc₀ k₀ acc k =
@@ -44,10 +39,14 @@ splat-requires : tie.Need-splat-requires Inv-loop μ-loop
 splat-requires c κs = tt
 
 add-get4 : tie.Need-add-get4 Inv-loop μ-loop
-add-get4 c = omega (arith, c .before .before .before .before .before .before .before .before .pre .0 .1 (c .before .before .before .before .loop .k) (c .before .before .before .loop-test .taken))
+add-get4 c =
+    let e = c .before .before .before .before .before .before .before .before in
+    omega (arith, e .pre .0 .1 (c .before .before .before .before .loop .k) (c .before .before .before .loop-test .taken))
 
 get4-requires : tie.Need-get4-requires Inv-loop μ-loop
-get4-requires c κs = omega (arith, c .before .before .before .before .before .before .before .before .pre .0 .1 (c .before .before .before .before .loop .k) (c .before .before .before .loop-test .taken))
+get4-requires c κs =
+    let e = c .before .before .before .before .before .before .before .before in
+    omega (arith, e .pre .0 .1 (c .before .before .before .before .loop .k) (c .before .before .before .loop-test .taken))
 
 plus-in-requires : tie.Need-plus-in-requires Inv-loop μ-loop
 plus-in-requires c κs = tt

@@ -1,22 +1,11 @@
 use native.Mathlib.Omega.{arith}
-use mathlib.Core.Path.{_≡_, _∙_, ap, sym}
-use Prim.Native.Nat.{_-_, _+_, _≤_, _<_}
-use lib.ListN.{length, getD}
-use lib.Ieee.{binary64, nan}
-use Rattle.lanes.specs.Region.{reg}
-use Rattle.lanes.proofs.Regions.{grows-none}
-use Rattle.lanes.proofs.Quads.{grows-turn}
-use Rattle.lanes.specs.Region.{Grows}
-use Rattle.substitution.proofs.Turns.{cut-length, cut-at, front-value, front-turn, front-end, back-value, Falls, falls-start, falls-turn, falls-end, solve-end}
-use Rattle.sparse.specs.Sparse.{frontAt}
+use mathlib.Core.Path.{_∙_, sym}
+use Prim.Native.Nat.{_-_, _+_, _<_}
+use lib.ListN.{getD}
+use Rattle.substitution.proofs.Turns.{cut-length, cut-at, back-value}
 use borrow.Author.Needs.{needs}
 use Rattle.substitution.proofs.back_entry.Statement.{statement}
 use Rattle.substitution.proofs.back_entry.Tie as tie
-use Rattle.substitution.proofs.back_entry.Reads as reads
-use Rattle.substitution.proofs.back_entry.Lts as lts
-use Rattle.lanes.proofs.div4.Reads as div4-reads
-use Rattle.lanes.proofs.get4.Reads as get4-reads
-use Rattle.sparse.proofs.less_back.Reads as less-back-reads
 
 mul-a : tie.Need-mul-a
 mul-a c = search needs
@@ -25,10 +14,14 @@ shared-slice-read-a : tie.Need-shared-slice-read-a
 shared-slice-read-a c = search needs
 
 cast-a : tie.Need-cast-a
-cast-a c = omega (arith, c .shared-slice-known6 .given (c .before .before .before .before .before .before .args .i))
+cast-a c =
+    let e = c .before .before .before .before .before .before in
+    omega (arith, c .shared-slice-known6 .given (e .args .i))
 
 add-a : tie.Need-add-a
-add-a c = omega (arith, c .shared-slice-known6 .given (c .before .before .before .before .before .before .args .i))
+add-a c =
+    let e = c .before .before .before .before .before .before in
+    omega (arith, c .shared-slice-known6 .given (e .args .i))
 
 add-e : tie.Need-add-e
 add-e c = search needs
@@ -40,7 +33,9 @@ shared-slice-read-e : tie.Need-shared-slice-read-e
 shared-slice-read-e c = search needs
 
 cast-e : tie.Need-cast-e
-cast-e c = omega (arith, c .shared-slice-known7 .given (c .before .before .before .before .before .before .before .args .i + 1))
+cast-e c =
+    let e = c .before .before .before .before .before .before .before in
+    omega (arith, c .shared-slice-known7 .given (e .args .i + 1))
 
 add-get4 : tie.Need-add-get4
 add-get4 c = search needs
@@ -49,28 +44,44 @@ get4-requires : tie.Need-get4-requires
 get4-requires c κs = search needs
 
 mul-less-back : tie.Need-mul-less-back
-mul-less-back c = omega (arith, c .before .before .before .before .before .before .before .before .pre .0 .0 .rises (c .before .before .before .before .before .before .before .before .args .i) (c .before .before .before .before .before .before .before .before .pre .0 .1), c .before .before .before .before .before .before .before .before .pre .0 .0 .ends (c .before .before .before .before .before .before .before .before .args .i) (c .before .before .before .before .before .before .before .before .pre .0 .1), c .before .before .before .before .before .before .before .before .pre .0 .0 .sizes)
+mul-less-back c =
+    let e = c .before .before .before .before .before .before .before .before in
+    omega (arith, e .pre .0 .0 .rises (e .args .i) (e .pre .0 .1), e .pre .0 .0 .ends (e .args .i) (e .pre .0 .1), e .pre .0 .0 .sizes)
 
 sub-less-back : tie.Need-sub-less-back
-sub-less-back c = omega (arith, c .before .before .before .before .before .before .before .before .pre .0 .0 .rises (c .before .before .before .before .before .before .before .before .args .i) (c .before .before .before .before .before .before .before .before .pre .0 .1), c .before .before .before .before .before .before .before .before .pre .0 .0 .ends (c .before .before .before .before .before .before .before .before .args .i) (c .before .before .before .before .before .before .before .before .pre .0 .1), c .before .before .before .before .before .before .before .before .pre .0 .0 .sizes)
+sub-less-back c =
+    let e = c .before .before .before .before .before .before .before .before in
+    omega (arith, e .pre .0 .0 .rises (e .args .i) (e .pre .0 .1), e .pre .0 .0 .ends (e .args .i) (e .pre .0 .1), e .pre .0 .0 .sizes)
 
 part-less-back-start : tie.Need-part-less-back-start
-part-less-back-start c = omega (arith, c .before .before .before .before .before .before .before .before .pre .0 .0 .rises (c .before .before .before .before .before .before .before .before .args .i) (c .before .before .before .before .before .before .before .before .pre .0 .1), c .before .before .before .before .before .before .before .before .pre .0 .0 .ends (c .before .before .before .before .before .before .before .before .args .i) (c .before .before .before .before .before .before .before .before .pre .0 .1), c .before .before .before .before .before .before .before .before .pre .0 .0 .sizes)
+part-less-back-start c =
+    let e = c .before .before .before .before .before .before .before .before in
+    omega (arith, e .pre .0 .0 .rises (e .args .i) (e .pre .0 .1), e .pre .0 .0 .ends (e .args .i) (e .pre .0 .1), e .pre .0 .0 .sizes)
 
 part-less-back-end : tie.Need-part-less-back-end
-part-less-back-end c = omega (arith, c .before .before .before .before .before .before .before .before .pre .0 .0 .rises (c .before .before .before .before .before .before .before .before .args .i) (c .before .before .before .before .before .before .before .before .pre .0 .1), c .before .before .before .before .before .before .before .before .pre .0 .0 .ends (c .before .before .before .before .before .before .before .before .args .i) (c .before .before .before .before .before .before .before .before .pre .0 .1), c .before .before .before .before .before .before .before .before .pre .0 .0 .sizes)
+part-less-back-end c =
+    let e = c .before .before .before .before .before .before .before .before in
+    omega (arith, e .pre .0 .0 .rises (e .args .i) (e .pre .0 .1), e .pre .0 .0 .ends (e .args .i) (e .pre .0 .1), e .pre .0 .0 .sizes)
 
 mul-less-back-2 : tie.Need-mul-less-back-2
-mul-less-back-2 c = omega (arith, c .before .before .before .before .before .before .before .before .before .pre .0 .0 .rises (c .before .before .before .before .before .before .before .before .before .args .i) (c .before .before .before .before .before .before .before .before .before .pre .0 .1), c .before .before .before .before .before .before .before .before .before .pre .0 .0 .ends (c .before .before .before .before .before .before .before .before .before .args .i) (c .before .before .before .before .before .before .before .before .before .pre .0 .1), c .before .before .before .before .before .before .before .before .before .pre .0 .0 .sizes)
+mul-less-back-2 c =
+    let e = c .before .before .before .before .before .before .before .before .before in
+    omega (arith, e .pre .0 .0 .rises (e .args .i) (e .pre .0 .1), e .pre .0 .0 .ends (e .args .i) (e .pre .0 .1), e .pre .0 .0 .sizes)
 
 sub-less-back-2 : tie.Need-sub-less-back-2
-sub-less-back-2 c = omega (arith, c .before .before .before .before .before .before .before .before .before .pre .0 .0 .rises (c .before .before .before .before .before .before .before .before .before .args .i) (c .before .before .before .before .before .before .before .before .before .pre .0 .1), c .before .before .before .before .before .before .before .before .before .pre .0 .0 .ends (c .before .before .before .before .before .before .before .before .before .args .i) (c .before .before .before .before .before .before .before .before .before .pre .0 .1), c .before .before .before .before .before .before .before .before .before .pre .0 .0 .sizes)
+sub-less-back-2 c =
+    let e = c .before .before .before .before .before .before .before .before .before in
+    omega (arith, e .pre .0 .0 .rises (e .args .i) (e .pre .0 .1), e .pre .0 .0 .ends (e .args .i) (e .pre .0 .1), e .pre .0 .0 .sizes)
 
 part-less-back-start-2 : tie.Need-part-less-back-start-2
-part-less-back-start-2 c = omega (arith, c .before .before .before .before .before .before .before .before .before .pre .0 .0 .rises (c .before .before .before .before .before .before .before .before .before .args .i) (c .before .before .before .before .before .before .before .before .before .pre .0 .1), c .before .before .before .before .before .before .before .before .before .pre .0 .0 .ends (c .before .before .before .before .before .before .before .before .before .args .i) (c .before .before .before .before .before .before .before .before .before .pre .0 .1), c .before .before .before .before .before .before .before .before .before .pre .0 .0 .sizes)
+part-less-back-start-2 c =
+    let e = c .before .before .before .before .before .before .before .before .before in
+    omega (arith, e .pre .0 .0 .rises (e .args .i) (e .pre .0 .1), e .pre .0 .0 .ends (e .args .i) (e .pre .0 .1), e .pre .0 .0 .sizes)
 
 part-less-back-end-2 : tie.Need-part-less-back-end-2
-part-less-back-end-2 c = omega (arith, c .before .before .before .before .before .before .before .before .before .pre .0 .0 .rises (c .before .before .before .before .before .before .before .before .before .args .i) (c .before .before .before .before .before .before .before .before .before .pre .0 .1), c .before .before .before .before .before .before .before .before .before .pre .0 .0 .ends (c .before .before .before .before .before .before .before .before .before .args .i) (c .before .before .before .before .before .before .before .before .before .pre .0 .1), c .before .before .before .before .before .before .before .before .before .pre .0 .0 .sizes)
+part-less-back-end-2 c =
+    let e = c .before .before .before .before .before .before .before .before .before in
+    omega (arith, e .pre .0 .0 .rises (e .args .i) (e .pre .0 .1), e .pre .0 .0 .ends (e .args .i) (e .pre .0 .1), e .pre .0 .0 .sizes)
 
 less-back-requires : tie.Need-less-back-requires
 less-back-requires c κs =

@@ -1,22 +1,10 @@
 use native.Mathlib.Omega.{arith}
-use mathlib.Core.Path.{_≡_, _∙_, ap, sym}
-use Prim.Native.Nat.{_-_, _+_, _≤_, _<_}
-use lib.ListN.{length, getD}
-use lib.Ieee.{binary64, nan}
-use Rattle.lanes.specs.Region.{reg}
-use Rattle.lanes.proofs.Regions.{grows-none}
-use Rattle.lanes.proofs.Quads.{grows-turn}
-use Rattle.lanes.specs.Region.{Grows}
-use Rattle.substitution.proofs.Turns.{cut-length, cut-at, front-value, front-turn, front-end, back-value, Falls, falls-start, falls-turn, falls-end, solve-end}
-use Rattle.sparse.specs.Sparse.{frontAt}
+use Prim.Native.Nat.{_-_, _+_, _<_}
+use lib.ListN.{getD}
+use Rattle.substitution.proofs.Turns.{cut-length, cut-at, front-value}
 use borrow.Author.Needs.{needs}
 use Rattle.substitution.proofs.front_entry.Statement.{statement}
 use Rattle.substitution.proofs.front_entry.Tie as tie
-use Rattle.substitution.proofs.front_entry.Reads as reads
-use Rattle.substitution.proofs.front_entry.Lts as lts
-use Rattle.lanes.proofs.div4.Reads as div4-reads
-use Rattle.lanes.proofs.get4.Reads as get4-reads
-use Rattle.sparse.proofs.less_front.Reads as less-front-reads
 
 mul-a : tie.Need-mul-a
 mul-a c = search needs
@@ -37,10 +25,14 @@ shared-slice-read-e : tie.Need-shared-slice-read-e
 shared-slice-read-e c = search needs
 
 cast-e : tie.Need-cast-e
-cast-e c = omega (arith, c .shared-slice-known5 .given (c .before .before .before .before .before .args .i + 1))
+cast-e c =
+    let e = c .before .before .before .before .before in
+    omega (arith, c .shared-slice-known5 .given (e .args .i + 1))
 
 sub-g : tie.Need-sub-g
-sub-g c = omega (arith, c .before .before .before .before .before .pre .0 .0 .rises (c .before .before .before .before .before .args .i) (c .before .before .before .before .before .pre .0 .2), c .before .before .before .before .before .pre .0 .0 .ends (c .before .before .before .before .before .args .i) (c .before .before .before .before .before .pre .0 .2), c .before .before .before .before .before .pre .0 .1)
+sub-g c =
+    let e = c .before .before .before .before .before in
+    omega (arith, e .pre .0 .0 .rises (e .args .i) (e .pre .0 .2), e .pre .0 .0 .ends (e .args .i) (e .pre .0 .2), e .pre .0 .1)
 
 add-get4 : tie.Need-add-get4
 add-get4 c = search needs
@@ -49,16 +41,24 @@ get4-requires : tie.Need-get4-requires
 get4-requires c κs = search needs
 
 mul-less-front : tie.Need-mul-less-front
-mul-less-front c = omega (arith, c .before .before .before .before .before .before .pre .0 .0 .rises (c .before .before .before .before .before .before .args .i) (c .before .before .before .before .before .before .pre .0 .2), c .before .before .before .before .before .before .pre .0 .0 .ends (c .before .before .before .before .before .before .args .i) (c .before .before .before .before .before .before .pre .0 .2), c .before .before .before .before .before .before .pre .0 .1)
+mul-less-front c =
+    let e = c .before .before .before .before .before .before in
+    omega (arith, e .pre .0 .0 .rises (e .args .i) (e .pre .0 .2), e .pre .0 .0 .ends (e .args .i) (e .pre .0 .2), e .pre .0 .1)
 
 sub-less-front : tie.Need-sub-less-front
-sub-less-front c = omega (arith, c .before .before .before .before .before .before .pre .0 .0 .rises (c .before .before .before .before .before .before .args .i) (c .before .before .before .before .before .before .pre .0 .2), c .before .before .before .before .before .before .pre .0 .0 .ends (c .before .before .before .before .before .before .args .i) (c .before .before .before .before .before .before .pre .0 .2), c .before .before .before .before .before .before .pre .0 .1)
+sub-less-front c =
+    let e = c .before .before .before .before .before .before in
+    omega (arith, e .pre .0 .0 .rises (e .args .i) (e .pre .0 .2), e .pre .0 .0 .ends (e .args .i) (e .pre .0 .2), e .pre .0 .1)
 
 part-less-front-start : tie.Need-part-less-front-start
-part-less-front-start c = omega (arith, c .before .before .before .before .before .before .pre .0 .0 .rises (c .before .before .before .before .before .before .args .i) (c .before .before .before .before .before .before .pre .0 .2), c .before .before .before .before .before .before .pre .0 .0 .ends (c .before .before .before .before .before .before .args .i) (c .before .before .before .before .before .before .pre .0 .2), c .before .before .before .before .before .before .pre .0 .1)
+part-less-front-start c =
+    let e = c .before .before .before .before .before .before in
+    omega (arith, e .pre .0 .0 .rises (e .args .i) (e .pre .0 .2), e .pre .0 .0 .ends (e .args .i) (e .pre .0 .2), e .pre .0 .1)
 
 part-less-front-end : tie.Need-part-less-front-end
-part-less-front-end c = omega (arith, c .before .before .before .before .before .before .pre .0 .0 .rises (c .before .before .before .before .before .before .args .i) (c .before .before .before .before .before .before .pre .0 .2), c .before .before .before .before .before .before .pre .0 .0 .ends (c .before .before .before .before .before .before .args .i) (c .before .before .before .before .before .before .pre .0 .2), c .before .before .before .before .before .before .pre .0 .1)
+part-less-front-end c =
+    let e = c .before .before .before .before .before .before in
+    omega (arith, e .pre .0 .0 .rises (e .args .i) (e .pre .0 .2), e .pre .0 .0 .ends (e .args .i) (e .pre .0 .2), e .pre .0 .1)
 
 less-front-requires : tie.Need-less-front-requires
 less-front-requires c κs =
@@ -74,10 +74,14 @@ less-front-requires c κs =
     )
 
 add-get4-2 : tie.Need-add-get4-2
-add-get4-2 c = omega (arith, c .before .before .before .before .before .before .before .before .pre .0 .0 .rises (c .before .before .before .before .before .before .before .before .args .i) (c .before .before .before .before .before .before .before .before .pre .0 .2), c .before .before .before .before .before .before .before .before .pre .0 .0 .ends (c .before .before .before .before .before .before .before .before .args .i) (c .before .before .before .before .before .before .before .before .pre .0 .2), c .before .before .before .before .before .before .before .before .pre .0 .1)
+add-get4-2 c =
+    let e = c .before .before .before .before .before .before .before .before in
+    omega (arith, e .pre .0 .0 .rises (e .args .i) (e .pre .0 .2), e .pre .0 .0 .ends (e .args .i) (e .pre .0 .2), e .pre .0 .1)
 
 get4-requires-2 : tie.Need-get4-requires-2
-get4-requires-2 c κs = omega (arith, c .before .before .before .before .before .before .before .before .pre .0 .0 .rises (c .before .before .before .before .before .before .before .before .args .i) (c .before .before .before .before .before .before .before .before .pre .0 .2), c .before .before .before .before .before .before .before .before .pre .0 .0 .ends (c .before .before .before .before .before .before .before .before .args .i) (c .before .before .before .before .before .before .before .before .pre .0 .2), c .before .before .before .before .before .before .before .before .pre .0 .1)
+get4-requires-2 c κs =
+    let e = c .before .before .before .before .before .before .before .before in
+    omega (arith, e .pre .0 .0 .rises (e .args .i) (e .pre .0 .2), e .pre .0 .0 .ends (e .args .i) (e .pre .0 .2), e .pre .0 .1)
 
 div4-requires : tie.Need-div4-requires
 div4-requires c κs = search needs
