@@ -1,9 +1,9 @@
 -- The counts E, S, D and the sizes W and F. Definitions only.
-use mathlib.Core.Bool.{Bool, true, false, _&&_, _||_}
+use mathlib.Core.Bool.{Bool, true, false, _&&_}
 use mathlib.Core.List.{List, [], _∷_}
 use Prim.Native.Nat.{ℕ, zero, suc, _+_, _*_}
 use lib.ListN.{length}
-use Rattle.csr.specs.Pattern.{has, shares, row, neighbours, fill, stored}
+use Rattle.csr.specs.Pattern.{has, row, neighbours, stored}
 
 -- one for true
 abbrev pub one : Bool → ℕ

@@ -1,12 +1,16 @@
 -- The sixteen lists together. Assumes nothing.
 use mathlib.Core.Path.{_≡_, sym, ap, _∙_}
-use mathlib.Core.List.{List}
-use Prim.Native.Nat.{ℕ, _+_}
+use mathlib.Core.Bool.{Bool, true, false}
+use mathlib.Core.List.{List, _++_}
+use Prim.Native.Nat.{ℕ, _+_, _*_, _<_, _≤_}
 use native.Mathlib.Omega.{arith}
-use lib.ListN.{length}
+use lib.ListN.{length, drop}
+use borrow.Author.Tests.{lt-leb, le-leb}
+use Rattle.csr.specs.Counts.{sizeW}
+use Rattle.ipm_common.specs.Plan.{Tallied, written}
 use Rattle.pattern.specs.Word.{bit}
 use Rattle.lists.specs.Cat.{Wrote}
-use Rattle.lists.specs.Lists.{shape, tenOf, sideOf, planOf, plan-parts}
+use Rattle.lists.specs.Lists.{shape, tenOf, sideOf, planOf, planWords, plan-parts}
 use Rattle.lists.specs.Ready.{Ready, Accepted}
 use Rattle.lists.specs.declared.Side.the-variants.{Factor, Matrix}
 use Rattle.lists.proofs.Write.{wrote-as}
@@ -38,3 +42,22 @@ module _ (off cols : List ℕ) (m n : ℕ) (p lp li : List ℕ) (ready : Ready o
   plan-wrote a b c d s t u x y z =
       wrote-as a d 0 u _ _ (sym (plan-parts (shape off cols) m n))
       (three a b c d 0 s t u _ _ _ x (wrote-as b c s t _ _ (side-same off cols m p ready lp li v) y) z)
+
+-- W, from E, S and D
+pub words-are : (off cols : List ℕ) (m n e s d : ℕ) → Tallied off cols m e s d → 5 * e + 3 * s + 2 * d + 3 * m + n + 2 * length cols + 5 ≡ sizeW off cols m n
+unfolding sizeW
+words-are off cols m n e s d t = omega (arith, t .stored, t .shared, t .products)
+
+-- what is left in the index memory
+module _ (m n : ℕ) (off cols index : List ℕ) where
+  pub written-off : (wanted : Bool) → wanted ≡ false → written wanted m n off cols index ≡ index
+  unfolding written
+  written-off wanted e = rw e
+
+  pub written-no : (wanted : Bool) → wanted ≡ true → length index < sizeW off cols m n → written wanted m n off cols index ≡ index
+  unfolding written
+  written-no wanted e h = rw (e, lt-leb (sizeW off cols m n) (length index) h)
+
+  pub written-yes : (wanted : Bool) → wanted ≡ true → sizeW off cols m n ≤ length index → written wanted m n off cols index ≡ planWords off cols m n ++ drop (sizeW off cols m n) index
+  unfolding written
+  written-yes wanted e h = rw (e, le-leb (sizeW off cols m n) (length index) h)

@@ -164,7 +164,7 @@ module _ (h : ℕ → Bool) where
       go false = omega arith
 
 -- ---- all rows
-tri-le : (i n : ℕ) → i ≤ n → sum i suc ≤ sum n suc
+pub tri-le : (i n : ℕ) → i ≤ n → sum i suc ≤ sum n suc
 unfolding sum
 tri-le i zero l = let e : i ≡ 0 = omega arith in omega (arith, ap (λ (k : ℕ). sum k suc) e)
 tri-le i (suc n) l = go (ℕ-discrete i (suc n)) (tri-le i n)
@@ -173,7 +173,15 @@ tri-le i (suc n) l = go (ℕ-discrete i (suc n)) (tri-le i n)
     go (yes e) ih = omega (arith, ap (λ (k : ℕ). sum k suc) e)
     go (no q) ih = omega (arith, ih (omega arith))
 
-tri-256 : sum 256 suc ≡ 32896
+pub tri-16 : sum 16 suc ≡ 136
+unfolding sum
+tri-16 = refl
+
+pub tri-64 : sum 64 suc ≡ 2080
+unfolding sum
+tri-64 = refl
+
+pub tri-256 : sum 256 suc ≡ 32896
 unfolding sum
 tri-256 = refl
 
@@ -218,8 +226,8 @@ module _ (h : ℕ → ℕ → Bool) where
   }
 
   module _ (li₀ li lp : List ℕ) (at i : ℕ) (v : Listing li₀ li lp at i) where
-    pub listing-room : (l : ℕ) → i < 256 → 32896 ≤ l → at + i + 1 ≤ l
-    listing-room l b r = omega (arith, v .wrote .next, all-short i, tri-le (suc i) 256 (omega arith), tri-256, tri-next i)
+    pub listing-room : (l m : ℕ) → i < m → sum m suc ≤ l → at + i + 1 ≤ l
+    listing-room l m b r = omega (arith, v .wrote .next, all-short i, tri-le (suc i) m (omega arith), tri-next i)
 
     pub listing-small : i ≤ 256 → at ≤ 32896
     listing-small b = omega (arith, v .wrote .next, all-short i, tri-le i 256 b, tri-256)
@@ -234,21 +242,21 @@ module _ (h : ℕ → ℕ → Bool) where
         go k b (yes z) = ap (λ (y : ℕ). getD (set lp (i + 1) x) y 0) z ∙ getD-set-same lp (i + 1) x 0 l ∙ omega (arith, q, u .next) ∙ ap (λ (y : ℕ). length (keptRows h y)) (sym z)
         go k b (no z) = getD-set-other lp (i + 1) k x 0 z ∙ v .starts k (omega arith)
 
-    pub listing-end : (m : ℕ) → i ≡ m → m ≤ 256 → m < length lp → 32896 ≤ length li₀ → length li ≡ length li₀ → length li ≤ 65536 → Rows h lp li m
+    pub listing-end : (m : ℕ) → i ≡ m → m ≤ 256 → m < length lp → sum m suc ≤ length li₀ → length li ≡ length li₀ → length li ≤ 65536 → Rows h lp li m
     unfolding row keptRows
     listing-end m e b l r len few = record {
       offsets = l;
       few = b;
       starts = λ k q. v .starts k (omega arith);
       rows = rows;
-      fits = omega (arith, v .starts m (omega arith), all-short m, tri-le m 256 b, tri-256);
+      fits = omega (arith, v .starts m (omega arith), all-short m);
       short = few;
     }
       where
         whole : li ≡ keptRows h m ++ drop (0 + length (keptRows h m)) li₀
         whole =
             v .wrote .is ∙ ap (λ (k : ℕ). sets li₀ 0 (keptRows h k)) e
-            ∙ sets-eq (keptRows h m) li₀ 0 (omega (arith, all-short m, tri-le m 256 b, tri-256))
+            ∙ sets-eq (keptRows h m) li₀ 0 (omega (arith, all-short m))
 
         rows : (k : ℕ) → k < m → row lp li k ≡ kept (h k) (k + 1)
         rows k q =

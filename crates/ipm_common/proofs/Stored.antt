@@ -8,7 +8,7 @@ use native.Mathlib.Decide.{ℕ-discrete}
 use native.Mathlib.Numerals.{add-one}
 use lib.Dec.{eqb}
 use borrow.Author.Tests.{ne-eqb}
-use lib.ListN.{length, getD, length-append, length-take, length-map}
+use lib.ListN.{length, getD, length-append, length-take}
 use lib.Seq.{getD-append-seam}
 use Rattle.csr.specs.Pattern.{neighbours}
 use Rattle.csr.specs.Chain.{stored-diag}
@@ -16,9 +16,8 @@ use Rattle.csr.specs.Counts.{one}
 use Rattle.pattern.specs.Word.{bit}
 use Rattle.pattern.proofs.Digits.{sum-ext}
 use Rattle.lists.specs.Cat.{pick}
-use Rattle.lists.specs.Lists.{shape, weight, lplace, before, piece, shared, sharedOf, chosen, place, walkOf}
+use Rattle.lists.specs.Lists.{shape, weight, lplace, before, piece, walkOf}
 use Rattle.lists.specs.Ready.{Ready}
-use Rattle.lists.specs.declared.Take.{Take}
 use Rattle.lists.specs.declared.Which.the-variants.{AnormIndptr, LdecompIndptr, LdecompIndptrI, LdecompIndptrJ, Lindptr, LdiagIndptr, Lindices}
 use Rattle.lists.proofs.Pieces as old
 use Rattle.lists.proofs.Counts.{bit-held, held-stored, lplace-from}
@@ -26,10 +25,6 @@ use Rattle.ipm_common.specs.Kept.{kept, Rows}
 use Rattle.ipm_common.proofs.Lists.{kept-next, kept-long, rows-up}
 use Rattle.ipm_common.proofs.Through.{q-in, t-in, entry-is, entry-below, entry-holds, part-kept}
 use Rattle.ipm_common.proofs.Factor.{start-is}
-
-pub length-shared : (off cols : List ℕ) (t : Take) (i j : ℕ) → length (sharedOf (shape off cols) t i j) ≡ length (shared (shape off cols) i j)
-unfolding sharedOf
-length-shared off cols t i j = length-map (shared (shape off cols) i j) (λ e. chosen t (place (shape off cols) i e) (place (shape off cols) j e) e)
 
 module _ (off cols : List ℕ) (m : ℕ) (p : List ℕ) (ready : Ready off cols m p) (lp li : List ℕ) (v : Rows (bit p) lp li m) where
   pub first-is : (i : ℕ) → i ≤ m → getD lp i 0 ≡ lplace (shape off cols) i 0

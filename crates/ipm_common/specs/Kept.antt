@@ -2,14 +2,9 @@
 use mathlib.Core.Path.{_≡_}
 use mathlib.Core.Bool.{Bool}
 use mathlib.Core.List.{List, [], _∷_, _++_}
-use Prim.Native.Nat.{ℕ, suc, _+_, _-_, _<_, _≤_}
+use Prim.Native.Nat.{ℕ, suc, _+_, _<_, _≤_}
 use lib.ListN.{length, getD}
-use Rattle.csr.specs.Counts.{sum}
-use Rattle.csr.specs.Pattern.{row, has}
-use lib.Dec.{ltb}
-use mathlib.Core.Bool.{true, false}
-use Rattle.lists.specs.Lists.{find, chosen}
-use Rattle.lists.specs.declared.Take.{Take}
+use Rattle.csr.specs.Pattern.{row}
 use Rattle.lists.specs.Cat.{cat, pick}
 
 -- the k below n that h holds, rising
@@ -36,16 +31,7 @@ unfoldable pub placesOf : (ℕ → Bool) → ℕ → List ℕ → List ℕ
 placesOf h base [] = []
 placesOf h base (k ∷ ks) = pick (h k) base ++ placesOf h (suc base) ks
 
--- what f makes of each number of a list and its place, from base on
-unfoldable pub alongOf : (ℕ → ℕ → List ℕ) → ℕ → List ℕ → List ℕ
-alongOf f base [] = []
-alongOf f base (k ∷ ks) = f base k ++ alongOf f (suc base) ks
-
--- a memory over the columns: 1 + the place of those of the row that starts at lo, and at most lo for all others
-pub record Marked (mark : List ℕ) (lo : ℕ) (xs : List ℕ) (n : ℕ) : Type 0 where
-  pub into : (c : ℕ) → c < n → has xs c ≡ true → getD mark c 0 ≡ lo + find c xs + 1
-  pub out : (c : ℕ) → c < n → has xs c ≡ false → getD mark c 0 ≤ lo
-
--- what a walk through a row writes at a column that is marked
-unfoldable pub hit : Take → List ℕ → ℕ → ℕ → ℕ → List ℕ
-hit t mark lo y v = pick (ltb lo (getD mark v 0)) (chosen t (getD mark v 0 - 1) y v)
+-- a memory has a word for each row and one for each column, and one more
+pub record Room (m n : ℕ) (s : List ℕ) : Type 0 where
+  pub rows : m < length s
+  pub columns : n < length s

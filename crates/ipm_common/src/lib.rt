@@ -1,16 +1,18 @@
+// The plan: the sixteen lists of a matrix, by the Rust's `from_matrix` with its transpose.
 ghost use mathlib.Core.Path.{_≡_};
-ghost use mathlib.Core.List.{List, [], _∷_, _++_};
-ghost use mathlib.Core.Bool.{Bool, true, false};
+ghost use mathlib.Core.List.{_++_};
+ghost use mathlib.Core.Bool.{true, false};
 ghost use Prim.Native.Nat.{ℕ, suc, _+_, _*_, _<_, _≤_};
-ghost use lib.ListN.{length, getD, drop, set};
+ghost use lib.ListN.{length, getD, drop};
 ghost use Rattle.pattern.specs.Word.{bit};
-ghost use Rattle.csr.specs.Counts.{sum, sizeW};
+ghost use Rattle.csr.specs.Counts.{sum, countE, countS, countD, sizeW};
 ghost use Rattle.lists.specs.Cat.{Wrote, cat};
 ghost use Rattle.csr.specs.Chain.{Below};
-ghost use Rattle.lists.specs.Lists.{shape, planOf, planWords, walkOf, piece, weight, before, listOf, tenOf, begins, chosen, sharedOf};
+ghost use Rattle.lists.specs.Lists.{shape, planOf, planWords, walkOf, piece, weight, before, listOf, tenOf};
 ghost use Rattle.lists.specs.Ready.{Ready, Accepted};
-ghost use Rattle.ipm_common.specs.Kept.{kept, Rows, placesOf, alongOf, Marked, hit};
-ghost use Rattle.ipm_common.specs.Plan.{told, roomVerdict, planVerdict, left, planIndex};
+ghost use Rattle.ipm_common.specs.Kept.{kept, Rows, placesOf, Room};
+ghost use Rattle.shared.specs.Marked.{Marked};
+ghost use Rattle.ipm_common.specs.Plan.{told, planVerdict, planIndex, Answered, Tallied, Counted};
 ghost use Rattle.transpose.specs.Bins.{Grid};
 ghost use Rattle.csr.specs.Pattern.{row};
 use csr::Asked;
@@ -32,33 +34,19 @@ pub fn list_row(p: &[u64], i: usize, li: &mut [u32], start: usize) -> usize
     at
 }
 
-fn store(s: &mut [u32], i: usize, x: u32)
-    requires { ⌜ i < length (now s) ⌝ }
-    ensures { λ _. ⌜ now (s .exit) ≡ set (now (s .entry)) i x ⌝ }
-{
-    s[i] = x;
-}
-
 // The rows of the pattern as lists: their offsets and their columns.
 pub fn list_rows(p: &[u64], m: usize, lp: &mut [u32], li: &mut [u32])
-    requires { ⌜ (length (now p) ≡ 1024) × (m ≤ 256) × (m < length (now lp)) × (32896 ≤ length (now li)) × (length (now li) ≤ 65536) ⌝ }
+    requires { ⌜ (length (now p) ≡ 1024) × (m ≤ 256) × (m < length (now lp)) × (sum m suc ≤ length (now li)) × (length (now li) ≤ 65536) ⌝ }
     ensures { λ _. ⌜ Rows (bit (now (p .entry))) (now (lp .exit)) (now (li .exit)) m ⌝ }
 {
-    store(lp, 0, 0);
+    shared::store(lp, 0, 0);
     let mut at: usize = 0;
     let mut i: usize = 0;
     while i < m {
         at = list_row(p, i, li, at);
         i += 1;
-        store(lp, i, at as u32);
+        shared::store(lp, i, at as u32);
     }
-}
-
-fn word_at(s: &[u32], i: usize) -> usize
-    requires { ⌜ i < length (now s) ⌝ }
-    ensures { λ r. ⌜ r ≡ getD (now (s .entry)) i 0 ⌝ }
-{
-    s[i] as usize
 }
 
 // The places, from base on, of the numbers of a list that row q of the pattern holds.
@@ -69,7 +57,7 @@ pub fn places(p: &[u64], q: usize, l: &[u32], base: u32, index: &mut [u32], star
     let mut at = start;
     let mut t: usize = 0;
     while t < l.len() {
-        let k = word_at(l, t);
+        let k = shared::word_at(l, t);
         at = lists::keep(index, at, pattern::test(p, q, k), base + (t as u32));
         t += 1;
     }
@@ -91,92 +79,40 @@ pub fn products(
     requires { ⌜ (length (now p) ≡ 1024) × Rows (bit (now p)) (now lp) (now li) m × (r < m) × (q < 256) × (getD (now lp) r 0 ≤ t) × (t < getD (now lp) (r + 1) 0) × (start + length (walkOf (bit (now p)) r q (getD (now li) t 0) (getD (now lp) r 0)) ≤ length (now index)) ⌝ }
     ensures { λ x. ⌜ Wrote (now (index .entry)) (now (index .exit)) start (walkOf (bit (now (p .entry))) r q (getD (now (li .entry)) t 0) (getD (now (lp .entry)) r 0)) x ⌝ }
 {
-    let a = word_at(lp, r);
+    let a = shared::word_at(lp, r);
     places(p, q, &li[a..t], a as u32, index, start)
 }
 
-fn choose(take: Take, x: u32, y: u32, z: u32) -> u32
-    ensures { λ r. ⌜ r ≡ chosen take x y z ⌝ }
-{
-    match take {
-        Take::Left => x,
-        Take::Right => y,
-        Take::Column => z,
-    }
-}
-
-// A word for a marked column.
-fn hit_one(take: Take, mark: &[u32], lo: u32, y: u32, v: u32, index: &mut [u32], at: usize) -> usize
-    requires { ⌜ (v < length (now mark)) × (at + length (hit take (now mark) lo y v) ≤ length (now index)) ⌝ }
-    ensures { λ r. ⌜ Wrote (now (index .entry)) (now (index .exit)) at (hit take (now (mark .entry)) lo y v) r ⌝ }
-{
-    let w = mark[v as usize];
-    if lo < w {
-        lists::word(index, at, choose(take, w - 1, y, v))
-    } else {
-        at
-    }
-}
-
-// The marked columns of a list.
-pub fn hits(
-    take: Take,
-    mark: &[u32],
-    lo: u32,
-    y: u32,
-    b: &[u32],
-    index: &mut [u32],
-    start: usize,
-) -> usize
-    requires { ⌜ Below (length (now mark)) (now b) × (y + length (now b) ≤ 65536) × (start + length (alongOf (hit take (now mark) lo) y (now b)) ≤ length (now index)) ⌝ }
-    ensures { λ r. ⌜ Wrote (now (index .entry)) (now (index .exit)) start (alongOf (hit take (now (mark .entry)) lo) y (now (b .entry))) r ⌝ }
-{
-    let mut at = start;
-    let mut q: usize = 0;
-    while q < b.len() {
-        let v = b[q];
-        at = hit_one(take, mark, lo, y + (q as u32), v, index, at);
-        q += 1;
-    }
-    at
-}
-
-// The columns of row i marked, above what earlier rows marked.
-pub fn mark_row(off: &[u32], cols: &[u32], m: usize, n: usize, i: usize, mark: &mut [u32])
-    requires { ⌜ Grid (now off) (now cols) m n × (i < m) × (n ≤ length (now mark)) × ((c : ℕ) → c < n → getD (now mark) c 0 ≤ getD (now off) i 0) ⌝ }
-    ensures now { λ _. ⌜ Marked (now (mark .exit)) (getD (now (off .entry)) i 0) (row (now (off .entry)) (now (cols .entry)) i) n ⌝ }
-    ensures next { λ _. ⌜ ((c : ℕ) → c < n → getD (now (mark .exit)) c 0 ≤ getD (now (off .entry)) (i + 1) 0) ⌝ }
-{
-    let a = word_at(off, i);
-    let b = word_at(off, i + 1);
-    let mut k = a;
-    while k < b {
-        let e = word_at(cols, k);
-        store(mark, e, (k as u32) + 1);
-        k += 1;
-    }
-}
-
-// What rows i and j of the matrix share, by the marks of row i.
-pub fn shared_marked(
-    take: Take,
+// What a list of ends counts at (i, j). Row i is marked.
+pub fn weigh(
+    which: Which,
     off: &[u32],
     cols: &[u32],
     m: usize,
+    p: &[u64],
     wide: usize,
     mark: &[u32],
     i: usize,
     j: usize,
-    index: &mut [u32],
-    start: usize,
-) -> usize
-    requires { ⌜ Grid (now off) (now cols) m wide × (i < m) × (j < m) × (wide ≤ length (now mark)) × Marked (now mark) (getD (now off) i 0) (row (now off) (now cols) i) wide × (start + length (sharedOf (shape (now off) (now cols)) take i j) ≤ length (now index)) ⌝ }
-    ensures { λ r. ⌜ Wrote (now (index .entry)) (now (index .exit)) start (sharedOf (shape (now (off .entry)) (now (cols .entry))) take i j) r ⌝ }
+) -> u32
+    requires { ⌜ Ready (now off) (now cols) m (now p) × (i < m) × (j ≤ i) × Grid (now off) (now cols) m wide × (wide ≤ length (now mark)) × Marked (now mark) (getD (now off) i 0) (row (now off) (now cols) i) wide ⌝ }
+    ensures { λ r. ⌜ (r ≡ weight (shape (now (off .entry)) (now (cols .entry))) which i j) × (r ≤ 16384) ⌝ }
 {
-    let lo = word_at(off, i);
-    let a = word_at(off, j);
-    let b = word_at(off, j + 1);
-    hits(take, mark, lo as u32, a as u32, &cols[a..b], index, start)
+    match which {
+        Which::AnormIndptr => shared::count_shared(off, cols, m, wide, mark, i, j) as u32,
+        Which::LdecompIndptr => {
+            let t = pattern::both_ones(p, i, j);
+            if pattern::test(p, i, j) { t - 1 } else { t }
+        }
+        Which::AnormIndptrI => 0,
+        Which::AnormIndptrJ => 0,
+        Which::AnormIndices => 0,
+        Which::LdecompIndptrI => 0,
+        Which::LdecompIndptrJ => 0,
+        Which::Lindptr => 0,
+        Which::LdiagIndptr => 0,
+        Which::Lindices => 0,
+    }
 }
 
 // What the stored pair (i, j) adds to a list. t is its place among the stored, n what the list has counted.
@@ -202,7 +138,7 @@ pub fn put_piece(
 {
     match which {
         Which::AnormIndptr => lists::word(index, start, n),
-        Which::AnormIndptrI => shared_marked(
+        Which::AnormIndptrI => shared::shared_marked(
             Take::Left,
             off,
             cols,
@@ -214,7 +150,7 @@ pub fn put_piece(
             index,
             start,
         ),
-        Which::AnormIndptrJ => shared_marked(
+        Which::AnormIndptrJ => shared::shared_marked(
             Take::Right,
             off,
             cols,
@@ -226,7 +162,7 @@ pub fn put_piece(
             index,
             start,
         ),
-        Which::AnormIndices => shared_marked(
+        Which::AnormIndices => shared::shared_marked(
             Take::Column,
             off,
             cols,
@@ -240,7 +176,17 @@ pub fn put_piece(
         ),
         Which::LdecompIndptr => lists::word(index, start, n),
         Which::LdecompIndptrI => products(p, lp, li, m, i, j, t, index, start),
-        Which::LdecompIndptrJ => products(p, lp, li, m, j, i, word_at(lp, j + 1) - 1, index, start),
+        Which::LdecompIndptrJ => products(
+            p,
+            lp,
+            li,
+            m,
+            j,
+            i,
+            shared::word_at(lp, j + 1) - 1,
+            index,
+            start,
+        ),
         Which::Lindptr => lists::keep(index, start, j == i, (t as u32) + 1),
         Which::LdiagIndptr => lists::keep(index, start, j == i, t as u32),
         Which::Lindices => lists::word(index, start, j as u32),
@@ -271,13 +217,13 @@ pub fn fill_row(
     requires { ⌜ Ready (now off) (now cols) m (now p) × Rows (bit (now p)) (now lp) (now li) m × (i < m) × (count ≡ before (weight (shape (now off) (now cols)) which) i 0) × (count ≤ 4210688 * i) × (start + length (cat (i + 1) (piece (shape (now off) (now cols)) which i)) ≤ length (now index)) × Grid (now off) (now cols) m wide × (wide ≤ length (now mark)) × Marked (now mark) (getD (now off) i 0) (row (now off) (now cols) i) wide ⌝ }
     ensures { λ r. ⌜ Wrote (now (index .entry)) (now (index .exit)) start (cat (i + 1) (piece (shape (now (off .entry)) (now (cols .entry))) which i)) (r .at) × (r .n ≡ before (weight (shape (now (off .entry)) (now (cols .entry))) which) (i + 1) 0) × (r .n ≤ 4210688 * (i + 1)) ⌝ }
 {
-    let b = word_at(lp, i + 1);
+    let b = shared::word_at(lp, i + 1);
     let mut at = start;
     let mut n = count;
-    let mut t = word_at(lp, i);
+    let mut t = shared::word_at(lp, i);
     while t < b {
-        let j = word_at(li, t);
-        n += lists::weigh(which, off, cols, m, p, i, j);
+        let j = shared::word_at(li, t);
+        n += weigh(which, off, cols, m, p, wide, mark, i, j);
         at = put_piece(
             which,
             off,
@@ -321,45 +267,13 @@ pub fn fill(
     let mut n: u32 = 0;
     let mut i: usize = 0;
     while i < m {
-        mark_row(off, cols, m, wide, i, mark);
+        shared::mark_row(off, cols, m, wide, i, mark);
         let s = fill_row(which, off, cols, m, p, lp, li, wide, mark, i, n, index, at);
         at = s.at;
         n = s.n;
         i += 1;
     }
     at
-}
-
-// The same with marks of its own.
-pub fn fill_new(
-    which: Which,
-    off: &[u32],
-    cols: &[u32],
-    m: usize,
-    p: &[u64],
-    lp: &[u32],
-    li: &[u32],
-    wide: usize,
-    index: &mut [u32],
-    start: usize,
-) -> usize
-    requires { ⌜ Ready (now off) (now cols) m (now p) × Rows (bit (now p)) (now lp) (now li) m × (start + length (listOf (shape (now off) (now cols)) which m) ≤ length (now index)) × Grid (now off) (now cols) m wide ⌝ }
-    ensures { λ r. ⌜ Wrote (now (index .entry)) (now (index .exit)) start (listOf (shape (now (off .entry)) (now (cols .entry))) which m) r ⌝ }
-{
-    let mut mark = [0u32; 1024];
-    fill(
-        which,
-        off,
-        cols,
-        m,
-        p,
-        lp,
-        li,
-        wide,
-        &mut mark,
-        index,
-        start,
-    )
 }
 
 // The ten lists of pairs, one after the other.
@@ -371,16 +285,18 @@ pub fn put_ten(
     lp: &[u32],
     li: &[u32],
     wide: usize,
+    mark: &mut [u32],
     index: &mut [u32],
     start: usize,
 ) -> usize
-    requires { ⌜ Ready (now off) (now cols) m (now p) × Rows (bit (now p)) (now lp) (now li) m × (start + length (tenOf (shape (now off) (now cols)) m 10) ≤ length (now index)) × Grid (now off) (now cols) m wide ⌝ }
+    requires { ⌜ Ready (now off) (now cols) m (now p) × Rows (bit (now p)) (now lp) (now li) m × (start + length (tenOf (shape (now off) (now cols)) m 10) ≤ length (now index)) × Grid (now off) (now cols) m wide × (wide ≤ length (now mark)) ⌝ }
     ensures { λ r. ⌜ Wrote (now (index .entry)) (now (index .exit)) start (tenOf (shape (now (off .entry)) (now (cols .entry))) m 10) r ⌝ }
 {
     let mut at = start;
     let mut k: usize = 0;
     while k < 10 {
-        at = fill_new(
+        lists::clear(mark, wide);
+        at = fill(
             lists::which_field(k),
             off,
             cols,
@@ -389,6 +305,7 @@ pub fn put_ten(
             lp,
             li,
             wide,
+            mark,
             index,
             at,
         );
@@ -397,7 +314,7 @@ pub fn put_ten(
     at
 }
 
-// The sixteen lists.
+// The sixteen lists. A memory over the columns is marked, two more are counted in.
 pub fn put_plan(
     off: &[u32],
     cols: &[u32],
@@ -406,36 +323,235 @@ pub fn put_plan(
     p: &[u64],
     lp: &[u32],
     li: &[u32],
+    mark: &mut [u32],
+    next: &mut [u32],
+    again: &mut [u32],
     index: &mut [u32],
 ) -> usize
-    requires { ⌜ Accepted (now off) (now cols) m n × Ready (now off) (now cols) m (now p) × Rows (bit (now p)) (now lp) (now li) m × (length (planOf (shape (now off) (now cols)) m n) ≤ length (now index)) ⌝ }
+    requires { ⌜ Accepted (now off) (now cols) m n × Ready (now off) (now cols) m (now p) × Rows (bit (now p)) (now lp) (now li) m × (length (planOf (shape (now off) (now cols)) m n) ≤ length (now index)) × (n ≤ length (now mark)) × Room m n (now next) × Room m n (now again) ⌝ }
     ensures { λ r. ⌜ Wrote (now (index .entry)) (now (index .exit)) 0 (planOf (shape (now (off .entry)) (now (cols .entry))) m n) r ⌝ }
 {
-    let a = put_ten(off, cols, m, p, lp, li, n, index, 0);
-    let b = transpose::transpose(lp, li, m, m, index, a);
-    transpose::transpose(off, cols, m, n, index, b)
+    let a = put_ten(off, cols, m, p, lp, li, n, mark, index, 0);
+    let b = transpose::transpose(lp, li, m, m, next, again, index, a);
+    transpose::transpose(off, cols, m, n, next, again, index, b)
+}
+
+// E, S and D.
+pub struct Tally {
+    pub e: u32,
+    pub s: usize,
+    pub d: u32,
+}
+
+// E is a count of ones, S and D + E count what pairs of rows share, of the matrix and of the factor.
+fn count_all(
+    m: usize,
+    n: usize,
+    offsets: &[u32],
+    columns: &[u32],
+    p: &[u64],
+    lp: &[u32],
+    li: &[u32],
+    next: &mut [u32],
+) -> Tally
+    requires { ⌜ Accepted (now offsets) (now columns) m n × Ready (now offsets) (now columns) m (now p) × Rows (bit (now p)) (now lp) (now li) m × Room m n (now next) ⌝ }
+    ensures { λ r. ⌜ Tallied (now (offsets .entry)) (now (columns .entry)) m (r .e) (r .s) (r .d) ⌝ }
+{
+    let e = pattern::count(p, m);
+    lists::clear(next, n);
+    let s = transpose::count_rows(offsets, columns, m, n, next);
+    lists::clear(next, m);
+    let b = transpose::count_rows(lp, li, m, m, next);
+    Tally {
+        e,
+        s,
+        d: (b as u32) - e,
+    }
+}
+
+// W.
+fn words(m: usize, n: usize, t: usize, sizes: Tally) -> usize
+    requires { ⌜ (m ≤ 256) × (n ≤ 1024) × (t ≤ 16384) × (sizes .s ≤ 16777216) ⌝ }
+    ensures { λ r. ⌜ r ≡ 5 * sizes .e + 3 * sizes .s + 2 * sizes .d + 3 * m + n + 2 * t + 5 ⌝ }
+{
+    let e = sizes.e as usize;
+    let d = sizes.d as usize;
+    5 * e + 3 * sizes.s + 2 * d + 3 * m + n + 2 * t + 5
+}
+
+// The counts of a matrix that is accepted, and the plan where it is wanted and has room; the memories are long enough.
+fn plan_in(
+    m: usize,
+    n: usize,
+    offsets: &[u32],
+    columns: &[u32],
+    lp: &mut [u32],
+    li: &mut [u32],
+    mark: &mut [u32],
+    next: &mut [u32],
+    again: &mut [u32],
+    index: &mut [u32],
+    wanted: bool,
+) -> Tally
+    requires { ⌜ Accepted (now offsets) (now columns) m n × (m < length (now lp)) × (sum m suc ≤ length (now li)) × (length (now li) ≤ 65536) × (n ≤ length (now mark)) × Room m n (now next) × Room m n (now again) ⌝ }
+    ensures { λ r. ⌜ Counted m n (now (offsets .entry)) (now (columns .entry)) wanted (now (index .entry)) (now (index .exit)) (r .e) (r .s) (r .d) ⌝ }
+{
+    let mut p = [0u64; 1024];
+    pattern::pattern(offsets, columns, m, &mut p);
+    list_rows(&p, m, lp, li);
+    let t = count_all(m, n, offsets, columns, &p, lp, li, next);
+    if !wanted {
+        return t;
+    }
+    if index.len() < words(m, n, columns.len(), t) {
+        return t;
+    }
+    put_plan(offsets, columns, m, n, &p, lp, li, mark, next, again, index);
+    t
+}
+
+// What is set to 0 before a plan is short where the matrix is small.
+const FEW_ROWS: usize = 16;
+
+const FEW_COLUMNS: usize = 32;
+
+const SOME_ROWS: usize = 64;
+
+// At most 16 rows and 32 columns.
+fn plan_few(
+    m: usize,
+    n: usize,
+    offsets: &[u32],
+    columns: &[u32],
+    index: &mut [u32],
+    wanted: bool,
+) -> Tally
+    requires { ⌜ Accepted (now offsets) (now columns) m n × (m ≤ 16) × (n ≤ 32) ⌝ }
+    ensures { λ r. ⌜ Counted m n (now (offsets .entry)) (now (columns .entry)) wanted (now (index .entry)) (now (index .exit)) (r .e) (r .s) (r .d) ⌝ }
+{
+    let mut lp = [0u32; 17];
+    let mut li = [0u32; 136];
+    let mut mark = [0u32; 33];
+    let mut next = [0u32; 33];
+    let mut again = [0u32; 33];
+    plan_in(
+        m,
+        n,
+        offsets,
+        columns,
+        &mut lp,
+        &mut li,
+        &mut mark,
+        &mut next,
+        &mut again,
+        index,
+        wanted,
+    )
+}
+
+// At most 64 rows.
+fn plan_some(
+    m: usize,
+    n: usize,
+    offsets: &[u32],
+    columns: &[u32],
+    index: &mut [u32],
+    wanted: bool,
+) -> Tally
+    requires { ⌜ Accepted (now offsets) (now columns) m n × (m ≤ 64) ⌝ }
+    ensures { λ r. ⌜ Counted m n (now (offsets .entry)) (now (columns .entry)) wanted (now (index .entry)) (now (index .exit)) (r .e) (r .s) (r .d) ⌝ }
+{
+    let mut lp = [0u32; 65];
+    let mut li = [0u32; 2080];
+    let mut mark = [0u32; 1025];
+    let mut next = [0u32; 1025];
+    let mut again = [0u32; 1025];
+    plan_in(
+        m,
+        n,
+        offsets,
+        columns,
+        &mut lp,
+        &mut li,
+        &mut mark,
+        &mut next,
+        &mut again,
+        index,
+        wanted,
+    )
+}
+
+// As many rows as there may be.
+fn plan_many(
+    m: usize,
+    n: usize,
+    offsets: &[u32],
+    columns: &[u32],
+    index: &mut [u32],
+    wanted: bool,
+) -> Tally
+    requires { ⌜ Accepted (now offsets) (now columns) m n ⌝ }
+    ensures { λ r. ⌜ Counted m n (now (offsets .entry)) (now (columns .entry)) wanted (now (index .entry)) (now (index .exit)) (r .e) (r .s) (r .d) ⌝ }
+{
+    let mut lp = [0u32; 257];
+    let mut li = [0u32; 32896];
+    let mut mark = [0u32; 1025];
+    let mut next = [0u32; 1025];
+    let mut again = [0u32; 1025];
+    plan_in(
+        m,
+        n,
+        offsets,
+        columns,
+        &mut lp,
+        &mut li,
+        &mut mark,
+        &mut next,
+        &mut again,
+        index,
+        wanted,
+    )
+}
+
+// The counts, and the plan where it is wanted and has room.
+fn plan_sized(
+    m: usize,
+    n: usize,
+    offsets: &[u32],
+    columns: &[u32],
+    index: &mut [u32],
+    wanted: bool,
+) -> Tally
+    requires { ⌜ Accepted (now offsets) (now columns) m n ⌝ }
+    ensures { λ r. ⌜ Counted m n (now (offsets .entry)) (now (columns .entry)) wanted (now (index .entry)) (now (index .exit)) (r .e) (r .s) (r .d) ⌝ }
+{
+    if m <= SOME_ROWS {
+        if m <= FEW_ROWS && n <= FEW_COLUMNS {
+            plan_few(m, n, offsets, columns, index, wanted)
+        } else {
+            plan_some(m, n, offsets, columns, index, wanted)
+        }
+    } else {
+        plan_many(m, n, offsets, columns, index, wanted)
+    }
+}
+
+// E, S and D of a matrix that is accepted.
+pub fn sizes(m: usize, n: usize, offsets: &[u32], columns: &[u32]) -> Tally
+    requires { ⌜ Accepted (now offsets) (now columns) m n ⌝ }
+    ensures { λ r. ⌜ (r .e ≡ countE (now (offsets .entry)) (now (columns .entry)) m) × (r .s ≡ countS (now (offsets .entry)) (now (columns .entry)) m) × (r .d ≡ countD (now (offsets .entry)) (now (columns .entry)) m) × (r .s ≤ 16777216) ⌝ }
+{
+    let mut none = [0u32; 1];
+    plan_sized(m, n, offsets, columns, &mut none, false)
 }
 
 // The plan of a matrix that is accepted, to the first words of an index memory with room for it.
-pub fn write_plan(off: &[u32], cols: &[u32], m: usize, n: usize, index: &mut [u32]) -> usize
-    requires { ⌜ Accepted (now off) (now cols) m n × (sizeW (now off) (now cols) m n ≤ length (now index)) ⌝ }
-    ensures { λ r. ⌜ (now (index .exit) ≡ planWords (now (off .entry)) (now (cols .entry)) m n ++ drop (sizeW (now (off .entry)) (now (cols .entry)) m n) (now (index .entry))) × (r ≡ sizeW (now (off .entry)) (now (cols .entry)) m n) ⌝ }
+pub fn write_plan(offsets: &[u32], columns: &[u32], m: usize, n: usize, index: &mut [u32]) -> usize
+    requires { ⌜ Accepted (now offsets) (now columns) m n × (sizeW (now offsets) (now columns) m n ≤ length (now index)) ⌝ }
+    ensures { λ r. ⌜ (now (index .exit) ≡ planWords (now (offsets .entry)) (now (columns .entry)) m n ++ drop (sizeW (now (offsets .entry)) (now (columns .entry)) m n) (now (index .entry))) × (r ≡ sizeW (now (offsets .entry)) (now (columns .entry)) m n) ⌝ }
 {
-    let mut p = [0u64; 1024];
-    pattern::pattern(off, cols, m, &mut p);
-    let mut lp = [0u32; 257];
-    let mut li = [0u32; 32896];
-    list_rows(&p, m, &mut lp, &mut li);
-    put_plan(off, cols, m, n, &p, &lp, &li, index)
-}
-
-// W, from E, S and D.
-fn words(m: usize, n: usize, offsets: &[u32], columns: &[u32]) -> usize
-    requires { ⌜ Accepted (now offsets) (now columns) m n ⌝ }
-    ensures { λ r. ⌜ r ≡ sizeW (now (offsets .entry)) (now (columns .entry)) m n ⌝ }
-{
-    let t = pattern::sizes(offsets, columns, m);
-    5 * (t.e as usize) + 3 * t.s + 2 * (t.d as usize) + 3 * m + n + 2 * columns.len() + 5
+    let t = plan_sized(m, n, offsets, columns, index, true);
+    words(m, n, columns.len(), t)
 }
 
 // The answer of plan: its words, or the first no.
@@ -453,14 +569,15 @@ fn plan_accepted(
     index: &mut [u32],
 ) -> PlanAnswer
     requires { ⌜ Accepted (now offsets) (now columns) m n ⌝ }
-    ensures { λ r. ⌜ (told r ≡ roomVerdict m n (now (offsets .entry)) (now (columns .entry)) (length (now (index .entry)))) × (now (index .exit) ≡ left (told r) (planWords (now (offsets .entry)) (now (columns .entry)) m n ++ drop (sizeW (now (offsets .entry)) (now (columns .entry)) m n) (now (index .entry))) (now (index .entry))) ⌝ }
+    ensures { λ r. ⌜ Answered m n (now (offsets .entry)) (now (columns .entry)) (now (index .entry)) (now (index .exit)) (told r) ⌝ }
 {
-    let w = words(m, n, offsets, columns);
+    let t = plan_sized(m, n, offsets, columns, index, true);
+    let w = words(m, n, columns.len(), t);
     if index.len() < w {
-        return PlanAnswer::Refused(Refusal::new(Refusal::INDEX_MEMORY, 0, 0));
+        PlanAnswer::Refused(Refusal::new(Refusal::INDEX_MEMORY, 0, 0))
+    } else {
+        PlanAnswer::Planned(w)
     }
-    write_plan(offsets, columns, m, n, index);
-    PlanAnswer::Planned(w)
 }
 
 // Questions 1 to 6, and after six yeses the plan.

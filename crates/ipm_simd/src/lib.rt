@@ -271,7 +271,7 @@ fn solve_accepted(
     requires { ⌜ Accepted (now offsets) (now columns) m n × (length (now values) ≡ length (now columns)) ⌝ }
     ensures { λ r. ⌜ Continued (given m n s (now (offsets .entry)) (now (columns .entry)) (now (values .entry)) (now (b .entry)) (now (c .entry)) (now (tolerances .entry)) limit) (lent (now (output .entry)) (now (index .entry)) (now (work .entry))) (lent (now (output .exit)) (now (index .exit)) (now (work .exit))) r ⌝ }
 {
-    let sizes = pattern::sizes(offsets, columns, m);
+    let sizes = ipm_common::sizes(m, n, offsets, columns);
     let e = sizes.e as usize;
     let h = sizes.s;
     let d = sizes.d as usize;

@@ -2,11 +2,11 @@
 use mathlib.Core.Path.{_≡_, refl}
 use mathlib.Core.Bool.{Bool, true, false, _&&_}
 use mathlib.Core.List.{List, [], _∷_, _++_, map, append-assoc}
-use Prim.Native.Nat.{ℕ, zero, suc, _+_, _*_}
+use Prim.Native.Nat.{ℕ, zero, suc, _+_}
 use lib.Dec.{eqb, leb}
-use lib.ListN.{length, getD, drop}
-use Rattle.csr.specs.Pattern.{has, row, stored, neighbours, fill, shares}
-use Rattle.csr.specs.Counts.{sum, one, common, isStored, sizeW, countE, countS, countD}
+use lib.ListN.{length, getD}
+use Rattle.csr.specs.Pattern.{has, row}
+use Rattle.csr.specs.Counts.{sum, one, common, isStored}
 use Rattle.lists.specs.Cat.{cat, pick, pairs}
 use Rattle.lists.specs.declared.Take.{Take}
 use Rattle.lists.specs.declared.Take.the-variants.{Left, Right, Column}

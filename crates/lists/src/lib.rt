@@ -1,11 +1,10 @@
-// The words of the plan's lists, and what the lists of ends count.
+// The words of the plan's lists, and their order.
 ghost use mathlib.Core.Path.{_≡_};
-ghost use mathlib.Core.List.{List, [], _∷_};
+ghost use mathlib.Core.List.{[], _∷_};
 ghost use Prim.Native.Nat.{ℕ, _+_, _<_, _≤_};
-ghost use lib.ListN.{length};
+ghost use lib.ListN.{length, getD};
 ghost use Rattle.lists.specs.Cat.{pick, Wrote};
-ghost use Rattle.lists.specs.Lists.{shape, weight, begins, field};
-ghost use Rattle.lists.specs.Ready.{Ready};
+ghost use Rattle.lists.specs.Lists.{begins, field};
 
 // The ten lists that are written pair by pair, by the names of the Rust's fields.
 pub enum Which {
@@ -38,41 +37,23 @@ pub fn keep(index: &mut [u32], at: usize, yes: bool, x: u32) -> usize
     if yes { word(index, at, x) } else { at }
 }
 
+// The first n words set to 0.
+pub fn clear(s: &mut [u32], n: usize)
+    requires { ⌜ n ≤ length (now s) ⌝ }
+    ensures { λ _. ⌜ ((c : ℕ) → c < n → getD (now (s .exit)) c 0 ≡ 0) ⌝ }
+{
+    let mut i: usize = 0;
+    while i < n {
+        s[i] = 0;
+        i += 1;
+    }
+}
+
 // What a walk through two rows writes of a column that they share.
 pub enum Take {
     Left,
     Right,
     Column,
-}
-
-// What a list of ends counts at (i, j).
-pub fn weigh(
-    which: Which,
-    off: &[u32],
-    cols: &[u32],
-    m: usize,
-    p: &[u64],
-    i: usize,
-    j: usize,
-) -> u32
-    requires { ⌜ Ready (now off) (now cols) m (now p) × (i < m) × (j ≤ i) ⌝ }
-    ensures { λ r. ⌜ (r ≡ weight (shape (now (off .entry)) (now (cols .entry))) which i j) × (r ≤ 16384) ⌝ }
-{
-    match which {
-        Which::AnormIndptr => pattern::shared_rows(off, cols, m, i, j) as u32,
-        Which::LdecompIndptr => {
-            let t = pattern::both_ones(p, i, j);
-            if pattern::test(p, i, j) { t - 1 } else { t }
-        }
-        Which::AnormIndptrI => 0,
-        Which::AnormIndptrJ => 0,
-        Which::AnormIndices => 0,
-        Which::LdecompIndptrI => 0,
-        Which::LdecompIndptrJ => 0,
-        Which::Lindptr => 0,
-        Which::LdiagIndptr => 0,
-        Which::Lindices => 0,
-    }
 }
 
 // Has a list a 0 in front?

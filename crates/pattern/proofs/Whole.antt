@@ -9,9 +9,9 @@ use native.Mathlib.Nat.{add-zero}
 use native.Mathlib.Numerals.{add-one}
 use lib.ListN.{getD, replicate}
 use borrow.Author.Tests.{le-leb, lt-leb}
-use Rattle.csr.specs.Pattern.{stored, neighbours, row}
+use Rattle.csr.specs.Pattern.{stored, neighbours}
 use Rattle.csr.specs.Chain.{stored-diag}
-use Rattle.csr.specs.Counts.{sum, one, common, isStored, countE, countD}
+use Rattle.csr.specs.Counts.{sum, one, isStored, countE, countD}
 use Rattle.pattern.specs.Word.{bit, digit, Done, OtherRows, rowOnes}
 use Rattle.pattern.specs.Word.{Clear}
 use Rattle.pattern.proofs.Digits.{sum-ext, sum-add, digit-zero}
@@ -42,7 +42,7 @@ sum-plus zero f g = refl
 sum-plus (suc n) f g = omega (arith, sum-plus n f g)
 
 -- a sum whose tail is 0
-sum-cut : (n m : ℕ) (f g : ℕ → ℕ) → m ≤ n → ((k : ℕ) → k < m → f k ≡ g k) → ((k : ℕ) → m ≤ k → k < n → f k ≡ 0) → sum n f ≡ sum m g
+pub sum-cut : (n m : ℕ) (f g : ℕ → ℕ) → m ≤ n → ((k : ℕ) → k < m → f k ≡ g k) → ((k : ℕ) → m ≤ k → k < n → f k ≡ 0) → sum n f ≡ sum m g
 sum-cut n m f g h same tail =
     let e : n ≡ m + (n - m) = omega arith in
     ap (λ (x : ℕ). sum x f) e
@@ -107,15 +107,7 @@ pub sum-next : (n : ℕ) (f : ℕ → ℕ) → sum (n + 1) f ≡ sum n f + f n
 unfolding sum
 sum-next n f = ap (λ (x : ℕ). sum x f) (add-one n)
 
--- how many bits rows a and b have in common
-unfoldable pub bothN : List ℕ → ℕ → ℕ → ℕ
-bothN p a b = sum 256 (λ k. one (bit p a k && bit p b k))
-
--- how many columns rows a and b have in common
-unfoldable pub commonN : List ℕ → List ℕ → ℕ → ℕ → ℕ
-commonN off cols a b = common (row off cols a) (row off cols b)
-
-zeros : (n k : ℕ) → _≡_ {A = ℕ} (getD (replicate n 0) k 0) 0
+pub zeros : (n k : ℕ) → _≡_ {A = ℕ} (getD (replicate n 0) k 0) 0
 zeros zero k = refl
 zeros (suc n) zero = refl
 zeros (suc n) (suc k) = zeros n k

@@ -1,11 +1,12 @@
+// The pattern of the factor: 256 bits for each row, four words of 64.
 ghost use mathlib.Core.Path.{_≡_};
-ghost use mathlib.Core.Bool.{Bool, true, false, _&&_, _||_};
+ghost use mathlib.Core.Bool.{Bool, true, false, _&&_};
 ghost use Prim.Native.Nat.{ℕ, _+_, _*_, _<_, _≤_};
 ghost use lib.ListN.{length, getD};
 ghost use Rattle.pattern.specs.Word.{bit, Put, Done, Seeded, OtherRows, rowOnes};
-ghost use Rattle.csr.specs.Counts.{sum, one, common, countE, countS, countD};
+ghost use Rattle.csr.specs.Counts.{sum, one};
 ghost use Rattle.csr.specs.Pattern.{neighbours, row};
-ghost use Rattle.csr.specs.Csr.{Csr, Rising};
+ghost use Rattle.csr.specs.Csr.{Csr};
 ghost use Rattle.pattern.specs.Word.{Clear, Linked};
 ghost use Rattle.pattern.specs.Links.{orElse, firstOf, links, Inside, Firsts};
 ghost use mathlib.Core.Bool.{cond};
@@ -81,47 +82,11 @@ pub fn count(p: &[u64], m: usize) -> u32
     e
 }
 
-// How many columns two rows have in common.
-pub fn shared(a: &[u32], b: &[u32]) -> usize
-    requires { ⌜ Rising (now a) × Rising (now b) ⌝ }
-    ensures { λ r. ⌜ (r ≡ common (now (a .entry)) (now (b .entry))) × (r ≤ length (now (a .entry))) ⌝ }
-{
-    let mut n: usize = 0;
-    let mut i: usize = 0;
-    let mut j: usize = 0;
-    while i < a.len() && j < b.len() {
-        let x = a[i];
-        let y = b[j];
-        if x == y {
-            n += 1;
-            i += 1;
-            j += 1;
-        } else if x < y {
-            i += 1;
-        } else {
-            j += 1;
-        }
-    }
-    n
-}
-
 fn at(s: &[u32], i: usize) -> usize
     requires { ⌜ i < length (now s) ⌝ }
     ensures { λ r. ⌜ r ≡ getD (now (s .entry)) i 0 ⌝ }
 {
     s[i] as usize
-}
-
-// How many columns rows i and j of the matrix have in common.
-pub fn shared_rows(off: &[u32], cols: &[u32], m: usize, i: usize, j: usize) -> usize
-    requires { ⌜ Csr (now off) (now cols) m × (i < m) × (j < m) ⌝ }
-    ensures { λ r. ⌜ (r ≡ common (row (now (off .entry)) (now (cols .entry)) i) (row (now (off .entry)) (now (cols .entry)) j)) × (r ≤ 16384) ⌝ }
-{
-    let a = at(off, i);
-    let b = at(off, i + 1);
-    let c = at(off, j);
-    let d = at(off, j + 1);
-    shared(&cols[a..b], &cols[c..d])
 }
 
 // Row i is linked to the first row of column e, or is that row itself.
@@ -179,53 +144,4 @@ pub fn both_ones(p: &[u64], i: usize, j: usize) -> u32
         + u64::count_ones(p[a + 1] & p[b + 1])
         + u64::count_ones(p[a + 2] & p[b + 2])
         + u64::count_ones(p[a + 3] & p[b + 3])
-}
-
-pub struct Both {
-    pub s: usize,
-    pub t: u32,
-}
-
-// The columns that rows i and j share, and the bits they have in common: none where (i, j) is not stored.
-fn in_common(off: &[u32], cols: &[u32], m: usize, p: &[u64], i: usize, j: usize) -> Both
-    requires { ⌜ Csr (now off) (now cols) m × (i < m) × (j ≤ i) × (length (now p) ≡ 1024) × ((a : ℕ) → a < m → Done (neighbours (now off) (now cols)) (now p) a) ⌝ }
-    ensures { λ r. ⌜ (r .s ≡ common (row (now (off .entry)) (now (cols .entry)) i) (row (now (off .entry)) (now (cols .entry)) j)) × (r .t ≡ sum 256 (λ k. one (bit (now (p .entry)) i k && bit (now (p .entry)) j k))) × (r .s ≤ 16384) × (r .t ≤ 256) ⌝ }
-{
-    if test(p, i, j) {
-        let s = shared_rows(off, cols, m, i, j);
-        let t = both_ones(p, i, j);
-        Both { s, t }
-    } else {
-        Both { s: 0, t: 0 }
-    }
-}
-
-pub struct Tally {
-    pub e: u32,
-    pub s: usize,
-    pub d: u32,
-}
-
-// E, S and D.
-pub fn sizes(off: &[u32], cols: &[u32], m: usize) -> Tally
-    requires { ⌜ Csr (now off) (now cols) m × Inside (now off) (now cols) m 1024 ⌝ }
-    ensures { λ r. ⌜ (r .e ≡ countE (now (off .entry)) (now (cols .entry)) m) × (r .s ≡ countS (now (off .entry)) (now (cols .entry)) m) × (r .d ≡ countD (now (off .entry)) (now (cols .entry)) m) × (r .s ≤ 1073741824) ⌝ }
-{
-    let mut p = [0u64; 1024];
-    pattern(off, cols, m, &mut p);
-    let e = count(&p, m);
-    let mut s: usize = 0;
-    let mut t: u32 = 0;
-    let mut i: usize = 0;
-    while i < m {
-        let mut j: usize = 0;
-        while j <= i {
-            let a = in_common(off, cols, m, &p, i, j);
-            s += a.s;
-            t += a.t;
-            j += 1;
-        }
-        i += 1;
-    }
-    Tally { e, s, d: t - e }
 }

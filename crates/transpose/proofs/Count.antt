@@ -1,20 +1,19 @@
 -- Counting by column, and where the columns start. Assumes nothing.
-use mathlib.Core.Path.{_≡_, refl, sym, ap, ap₂, _∙_, subst}
+use mathlib.Core.Path.{_≡_, refl, sym, ap, _∙_, subst}
 use mathlib.Core.Bool.{Bool, true, false}
 use mathlib.Core.List.{List, [], _∷_, _++_}
 use Prim.Native.Nat.{ℕ, zero, suc, _+_, _-_, _*_, _<_, _≤_}
 use native.Mathlib.Omega.{arith}
-use native.Mathlib.Decide.{ℕ-discrete, decLt}
+use native.Mathlib.Decide.{ℕ-discrete}
 use native.Mathlib.Numerals.{add-one}
 use lib.Dec.{eqb}
 use borrow.Author.Tests.{eq-eqb, ne-eqb}
-use lib.ListN.{length, getD, set, length-append, length-set, replicate}
+use lib.ListN.{length, getD, set, length-append}
 use lib.Seq.{sets, getD-set-same, getD-set-other}
-use Rattle.csr.specs.Pattern.{row}
 use Rattle.csr.specs.Counts.{sum, one}
 use Rattle.pattern.proofs.Digits.{sum-ext}
 use Rattle.lists.specs.Cat.{cat, pick, Wrote}
-use Rattle.lists.specs.Lists.{shape, holds, entry, column, columns, inColumn, columnEnds, endsOf, columnsOf, sideOf}
+use Rattle.lists.specs.Lists.{shape, holds, entry, column, columns, inColumn, columnEnds, endsOf, columnsOf}
 use Rattle.lists.specs.declared.What.{What}
 use Rattle.lists.specs.declared.What.the-variants.{Numbers, Places}
 use Rattle.lists.specs.declared.Side.the-variants.{Matrix}
@@ -60,9 +59,9 @@ sum-below (suc n) b f h = let z : b * suc n ≡ b * n + b = omega arith in omega
 pub room-sum : (off cols : List ℕ) (m n : ℕ) → m ≤ 256 → n ≤ 1024 → sum n (roomOf off cols m) ≤ 262144
 room-sum off cols m n hm hn = omega (arith, sum-below n 256 (roomOf off cols m) (λ c. omega (arith, room-few off cols m c)))
 
-pub seen-start : (off cols : List ℕ) (n : ℕ) (next : List ℕ) → ((c : ℕ) → getD next c 0 ≡ 0) → Tally next n (seen off cols 0)
+pub seen-start : (off cols : List ℕ) (n : ℕ) (next : List ℕ) → ((c : ℕ) → c < n → getD next c 0 ≡ 0) → Tally next n (seen off cols 0)
 unfolding column cat
-seen-start off cols n next z = record { count = λ c h. z c }
+seen-start off cols n next z = record { count = λ c h. z c h }
 
 pub column-long : (off cols : List ℕ) (w : What) (m c : ℕ) → length (rowsOf off cols w m c) ≡ roomOf off cols m c
 unfolding column inColumn
@@ -93,7 +92,7 @@ module _ (off cols : List ℕ) (m n i : ℕ) (ok : Grid off cols m n) (hi : i < 
         (in-step off cols Numbers i (k - getD off i 0) e i (ok .rising i hi) (in-q off cols m n i ok hi Numbers k e i lo hk he refl) (e-at off cols m n i ok hi Numbers k e i lo hk he refl) refl)
         (tally-put next n (inRow off cols Numbers i (k - getD off i 0)) e i e-in (omega (arith, e-in)) b))
 
-    pub count-asks : (e < length next) × (getD next e 0 < 65536)
+    pub count-asks : (e < length next) × (getD next e 0 < 256)
     count-asks = (
       omega (arith, e-in),
       omega (
@@ -231,8 +230,3 @@ module _ (off cols : List ℕ) (m n : ℕ) where
       (three a b c d start p (p + t) (p + t + t) _ _ _ w
       (record { is = u ∙ ap (sets b p) (cols-are Numbers); next = omega (arith, q, cols-long Numbers, ap length (cols-are Numbers)) })
       (record { is = v ∙ ap (sets c (p + t)) (cols-are Places); next = omega (arith, q, cols-long Places, ap length (cols-are Places)) }))
-
-pub zeros : (n k : ℕ) → _≡_ {A = ℕ} (getD (replicate n 0) k 0) 0
-zeros zero k = refl
-zeros (suc n) zero = refl
-zeros (suc n) (suc k) = zeros n k

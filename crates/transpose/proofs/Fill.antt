@@ -97,9 +97,6 @@ module _ (index next : List ℕ) (start n : ℕ) (size : ℕ → ℕ) (held : �
   pub bin-put : Bins (set index at x) (set next e (getD next e 0 + 1)) start n size (putIn e x held)
   bin-put = record { cursor = put-cursor; fits = put-fits; words = put-words }
 
-  pub bin-at : at < length index
-  bin-at = omega (arith, cur, sum-mono size n e he)
-
 -- ---- the words of a list stored one after the other
 sets-below : (l : List ℕ) (i : ℕ) (vs : List ℕ) (q : ℕ) → q < i → getD (sets l i vs) q 0 ≡ getD l q 0
 sets-below l i [] q h = refl

@@ -1,12 +1,11 @@
 -- The turns of the scatter of a row. Assumes nothing.
-use mathlib.Core.Path.{_≡_, refl, sym, ap, ap₂, _∙_, subst}
-use mathlib.Core.List.{List, [], _∷_, _++_}
-use Prim.Native.Nat.{ℕ, zero, suc, _+_, _-_, _<_, _≤_}
+use mathlib.Core.Path.{_≡_, refl, sym, ap, _∙_, subst}
+use mathlib.Core.List.{List}
+use Prim.Native.Nat.{ℕ, _+_, _-_, _<_, _≤_}
 use native.Mathlib.Omega.{arith}
-use lib.ListN.{length, getD, set, take, drop, length-take, length-drop}
+use lib.ListN.{length, getD, set, drop, length-take, length-drop}
 use lib.Seq.{getD-set-other, getD-take, getD-drop}
 use Rattle.csr.specs.Pattern.{row}
-use Rattle.csr.specs.Csr.{Rising}
 use Rattle.csr.specs.Counts.{sum}
 use Rattle.lists.specs.Lists.{shape, entry, told, place, find}
 use Rattle.lists.specs.declared.What.{What}
@@ -14,7 +13,7 @@ use Rattle.lists.specs.declared.What.the-variants.{Numbers, Places}
 use Rattle.lists.specs.declared.Side.the-variants.{Matrix}
 use Rattle.lists.proofs.Merge.{find-at}
 use Rattle.transpose.specs.Bins.{Bins, rowsOf, roomOf, inRow, Outside, Grid}
-use Rattle.transpose.proofs.Fill.{turn, in-room, bin-at, below-at, sum-mono, in-start, in-end, bins-ext}
+use Rattle.transpose.proofs.Fill.{turn, in-room, below-at, sum-mono, in-start, in-end, bins-ext}
 
 place-of : (off cols : List ℕ) (i e k q : ℕ) → find e (row off cols i) ≡ q → k ≡ getD off i 0 + q → k ≡ place (shape off cols) i e
 unfolding place

@@ -11,7 +11,7 @@ use Rattle.csr.specs.Pattern.{row}
 use Rattle.csr.specs.Chain.{Below}
 use Rattle.csr.specs.Csr.{Rising}
 use Rattle.lists.specs.Cat.{cat}
-use Rattle.lists.specs.Lists.{Shape, shape, holds, entry, column, inColumn, sideOf}
+use Rattle.lists.specs.Lists.{shape, holds, entry, column, inColumn, sideOf}
 use Rattle.lists.specs.declared.What.{What}
 use Rattle.lists.specs.declared.What.the-variants.{Numbers}
 use Rattle.lists.specs.declared.Side.the-variants.{Matrix}

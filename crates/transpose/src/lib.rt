@@ -1,11 +1,12 @@
+// The transpose of CSR lists by counting, and what pairs of rows share, counted by column.
 ghost use mathlib.Core.Path.{_≡_};
-ghost use mathlib.Core.List.{List};
-ghost use Prim.Native.Nat.{ℕ, _+_, _<_, _≤_};
+ghost use Prim.Native.Nat.{ℕ, suc, _+_, _*_, _-_, _<_, _≤_};
 ghost use lib.ListN.{length, getD, set};
-ghost use Rattle.csr.specs.Counts.{sum};
+ghost use Rattle.csr.specs.Counts.{sum, common, countS};
+ghost use Rattle.csr.specs.Pattern.{row};
 ghost use lib.Seq.{sets};
 ghost use Rattle.lists.specs.Cat.{Wrote, cat};
-ghost use Rattle.transpose.specs.Bins.{Bins, putIn, rowsOf, roomOf, Outside, Grid, Tally, Starts, seen, endsFrom, sideIn};
+ghost use Rattle.transpose.specs.Bins.{Bins, rowsOf, roomOf, Outside, Grid, Tally, Starts, seen, endsFrom, sideIn};
 ghost use Rattle.lists.specs.Lists.{told};
 use lists::What;
 
@@ -62,40 +63,45 @@ pub fn scatter_row(
     }
 }
 
-// One more in the count of column e.
-pub fn bump(next: &mut [u32], e: usize)
-    requires { ⌜ (e < length (now next)) × (getD (now next) e 0 < 65536) ⌝ }
-    ensures { λ _. ⌜ now (next .exit) ≡ set (now (next .entry)) e (getD (now (next .entry)) e 0 + 1) ⌝ }
+// One more in the count of column e, and the count.
+pub fn bump(next: &mut [u32], e: usize) -> usize
+    requires { ⌜ (e < length (now next)) × (getD (now next) e 0 < 256) ⌝ }
+    ensures { λ r. ⌜ (r ≡ getD (now (next .entry)) e 0 + 1) × (now (next .exit) ≡ set (now (next .entry)) e (getD (now (next .entry)) e 0 + 1)) ⌝ }
 {
-    let q = next[e];
-    next[e] = q + 1;
+    let q = next[e] + 1;
+    next[e] = q;
+    q as usize
 }
 
-// The entries of row i, each counted in its column.
-pub fn count_row(off: &[u32], cols: &[u32], m: usize, n: usize, i: usize, next: &mut [u32])
+// The entries of row i, each counted in its column: how many columns it shares with the rows up to it.
+pub fn count_row(off: &[u32], cols: &[u32], m: usize, n: usize, i: usize, next: &mut [u32]) -> usize
     requires { ⌜ Grid (now off) (now cols) m n × (i < m) × (n ≤ length (now next)) × Tally (now next) n (seen (now off) (now cols) i) ⌝ }
-    ensures { λ _. ⌜ Tally (now (next .exit)) n (seen (now (off .entry)) (now (cols .entry)) (i + 1)) ⌝ }
+    ensures { λ r. ⌜ Tally (now (next .exit)) n (seen (now (off .entry)) (now (cols .entry)) (i + 1)) × (r ≡ sum (suc i) (λ j. common (row (now (off .entry)) (now (cols .entry)) i) (row (now (off .entry)) (now (cols .entry)) j))) × (r ≤ 256 * (getD (now (off .entry)) (i + 1) 0 - getD (now (off .entry)) i 0)) ⌝ }
 {
     let a = at(off, i);
     let b = at(off, i + 1);
+    let mut s: usize = 0;
     let mut k = a;
     while k < b {
         let e = at(cols, k);
-        bump(next, e);
+        s += bump(next, e);
         k += 1;
     }
+    s
 }
 
-// How many entries each column has.
-pub fn count_rows(off: &[u32], cols: &[u32], m: usize, n: usize, next: &mut [u32])
-    requires { ⌜ Grid (now off) (now cols) m n × (n ≤ length (now next)) × ((c : ℕ) → getD (now next) c 0 ≡ 0) ⌝ }
-    ensures { λ _. ⌜ Tally (now (next .exit)) n (seen (now (off .entry)) (now (cols .entry)) m) ⌝ }
+// How many entries each column has, and S.
+pub fn count_rows(off: &[u32], cols: &[u32], m: usize, n: usize, next: &mut [u32]) -> usize
+    requires { ⌜ Grid (now off) (now cols) m n × (n ≤ length (now next)) × ((c : ℕ) → c < n → getD (now next) c 0 ≡ 0) ⌝ }
+    ensures { λ r. ⌜ Tally (now (next .exit)) n (seen (now (off .entry)) (now (cols .entry)) m) × (r ≡ countS (now (off .entry)) (now (cols .entry)) m) × (r ≤ 16777216) ⌝ }
 {
+    let mut s: usize = 0;
     let mut i: usize = 0;
     while i < m {
-        count_row(off, cols, m, n, i, next);
+        s += count_row(off, cols, m, n, i, next);
         i += 1;
     }
+    s
 }
 
 fn swap(next: &mut [u32], e: usize, x: u32) -> u32
@@ -154,24 +160,25 @@ pub fn scatter(
     }
 }
 
-// The three lists of the transpose: ends, rows and places.
+// The three lists of the transpose: ends, rows and places. Two memories hold a word for each column.
 pub fn transpose(
     off: &[u32],
     cols: &[u32],
     m: usize,
     n: usize,
+    next: &mut [u32],
+    again: &mut [u32],
     index: &mut [u32],
     start: usize,
 ) -> usize
-    requires { ⌜ Grid (now off) (now cols) m n × (start + length (sideIn (now off) (now cols) m n) ≤ length (now index)) ⌝ }
+    requires { ⌜ Grid (now off) (now cols) m n × (start + length (sideIn (now off) (now cols) m n) ≤ length (now index)) × (n < length (now next)) × (n < length (now again)) ⌝ }
     ensures { λ r. ⌜ Wrote (now (index .entry)) (now (index .exit)) start (sideIn (now (off .entry)) (now (cols .entry)) m n) r ⌝ }
 {
-    let mut next = [0u32; 1025];
-    let mut again = [0u32; 1025];
-    count_rows(off, cols, m, n, &mut next);
-    let a = put_ends(n, index, &mut next, &mut again, start);
-    let t = at(&again, n);
-    scatter(What::Numbers, off, cols, m, n, index, &mut next, a);
-    scatter(What::Places, off, cols, m, n, index, &mut again, a + t);
+    lists::clear(next, n);
+    count_rows(off, cols, m, n, next);
+    let a = put_ends(n, index, next, again, start);
+    let t = at(again, n);
+    scatter(What::Numbers, off, cols, m, n, index, next, a);
+    scatter(What::Places, off, cols, m, n, index, again, a + t);
     a + t + t
 }

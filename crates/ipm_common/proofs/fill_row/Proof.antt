@@ -52,7 +52,7 @@ weigh-requires c κs =
     let s = c .before .before .before .before .before .before .before .before .before .before .before .before in
     let a = s .args in
     let l = c .before .before .loop in
-    (s .pre .0, s .pre .2, st.le (a .off .now) (a .cols .now) (a .m) (a .p .now) (s .pre .0) (a .lp .now) (a .li .now) (s .pre .1) (a .i) (c .word-at3 .result) (l .t) (s .pre .2) (l .inv .0) (omega (arith, c .before .loop-test .taken, c .before .before .before .before .word-at .ensures)) (c .word-at3 .ensures))
+    (s .pre .0, s .pre .2, st.le (a .off .now) (a .cols .now) (a .m) (a .p .now) (s .pre .0) (a .lp .now) (a .li .now) (s .pre .1) (a .i) (c .word-at3 .result) (l .t) (s .pre .2) (l .inv .0) (omega (arith, c .before .loop-test .taken, c .before .before .before .before .word-at .ensures)) (c .word-at3 .ensures), s .pre .6, s .pre .7, s .pre .8)
 
 add-n : tie.Need-add-n Inv-loop μ-loop
 add-n c =

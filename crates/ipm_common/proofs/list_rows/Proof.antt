@@ -30,7 +30,7 @@ list-row-requires c κs =
     let a = s .args in
     let l = c .before .before .loop in
     let q : l .i < a .m = c .before .loop-test .taken in
-    (s .pre .0, omega (arith, s .pre .1), law.listing-room (bit (a .p .now)) (a .li .now) (l .li) (l .lp) (l .at) (l .i) (l .inv .3) (length (l .li)) (omega (arith, s .pre .1)) (omega (arith, s .pre .3, l .inv .2)))
+    (s .pre .0, omega (arith, s .pre .1), law.listing-room (bit (a .p .now)) (a .li .now) (l .li) (l .lp) (l .at) (l .i) (l .inv .3) (length (l .li)) (a .m) q (omega (arith, s .pre .3, l .inv .2)))
 
 add-i : tie.Need-add-i Inv-loop μ-loop
 add-i c = let s = c .before .before .before .before .before .before .before .before .before .before .before .before .before in omega (arith, s .pre .1, c .before .before .before .before .loop-test .taken)

@@ -36,8 +36,8 @@ returns c =
     let a = c .before .before .before .before .before .before .before .before .before .before .args in
     let room = roomVerdict (a .m) (a .n) (a .offsets .now) (a .columns .now) (length (a .index .now)) in
     let new = planWords (a .offsets .now) (a .columns .now) (a .m) (a .n) ++ drop (sizeW (a .offsets .now) (a .columns .now) (a .m) (a .n)) (a .index .now) in
-    let said = c .before .before .plan-accepted .ensures .0 ∙ ap (λ (v : Verdict). andThen v room) (sym (ap verdict.told (c .before .before .before .before .enum-told .given .1)) ∙ c .before .before .before .before .before .before .ask .ensures) in
-    (said, c .before .before .plan-accepted .ensures .1 ∙ ap (λ (v : Verdict). left v new (a .index .now)) said)
+    let said = c .before .before .plan-accepted .ensures .says ∙ ap (λ (v : Verdict). andThen v room) (sym (ap verdict.told (c .before .before .before .before .enum-told .given .1)) ∙ c .before .before .before .before .before .before .ask .ensures) in
+    (said, c .before .before .plan-accepted .ensures .words ∙ ap (λ (v : Verdict). left v new (a .index .now)) said)
 
 returns-2 : tie.Need-returns-2
 unfolding planVerdict planIndex

@@ -1,41 +1,54 @@
 -- `ipm_common::plan_accepted` meets its contract. Assumes nothing.
-use mathlib.Core.Path.{refl, _∙_}
+use mathlib.Core.Path.{_≡_, refl, _∙_}
 use Prim.Native.Nat.{_<_, _≤_}
+use native.Mathlib.Omega.{arith}
 use lib.ListN.{length}
 use borrow.Author.Needs.{needs}
 use borrow.Author.Tests.{le-leb, lt-leb}
 use Rattle.csr.specs.Counts.{sizeW}
 use Rattle.ipm_common.specs.Plan.{roomVerdict}
+use Rattle.ipm_common.proofs.Final as fin
 use Rattle.ipm_common.proofs.plan_accepted.Statement.{statement}
 use Rattle.ipm_common.proofs.plan_accepted.Tie as tie
 
+plan-sized-requires : tie.Need-plan-sized-requires
+plan-sized-requires c κs = search needs
+
 words-requires : tie.Need-words-requires
-words-requires c κs = search needs
+words-requires c κs = (c .before .before .before .before .before .before .before .pre .csr .few, c .before .before .before .before .before .before .before .pre .wide, c .before .before .before .before .before .before .before .pre .csr .nnz, c .before .before .plan-sized .ensures .sizes .few)
 
 new-requires : tie.Need-new-requires
 new-requires c κs = search needs
 
+same-length : tie.Need-same-length
+same-length c = search needs
+
 returns : tie.Need-returns
 unfolding roomVerdict
 returns c =
-    let a = c .before .before .before .before .before .before .args in
-    let short : length (a .index .now) < sizeW (a .offsets .now) (a .columns .now) (a .m) (a .n) = rw (c .before .before .words .ensures) at (c .before .if1 .taken) in
-    (c .new .ensures ∙ rw (lt-leb _ _ short) refl, refl)
+    let a = c .before .before .before .before .before .before .before .before .before .before .args in
+    let w : c .before .before .words .result ≡ sizeW (a .offsets .now) (a .columns .now) (a .m) (a .n) = c .before .before .words .ensures ∙ fin.words-are (a .offsets .now) (a .columns .now) (a .m) (a .n) _ _ _ (c .before .before .before .before .before .plan-sized .ensures .sizes) in
+    let short : length (a .index .now) < sizeW (a .offsets .now) (a .columns .now) (a .m) (a .n) = omega (arith, w, c .before .if1 .taken, c .before .before .before .before .before .plan-sized .kept .1 .1 .1 .1 .0) in
+    record {
+      says = c .new .ensures ∙ rw (lt-leb _ _ short) refl;
+      words = c .before .before .before .before .before .plan-sized .ensures .words ∙ fin.written-no (a .m) (a .n) (a .offsets .now) (a .columns .now) (a .index .now) _ refl short;
+    }
 
-write-plan-requires : tie.Need-write-plan-requires
-write-plan-requires c κs = search needs
-
-same-length : tie.Need-same-length
-same-length c = search needs
+same-length-2 : tie.Need-same-length-2
+same-length-2 c = search needs
 
 returns-2 : tie.Need-returns-2
 unfolding roomVerdict
 returns-2 c =
     let a = c .before .before .before .before .before .before .before .before .before .args in
-    let fits : sizeW (a .offsets .now) (a .columns .now) (a .m) (a .n) ≤ length (a .index .now) = rw (c .before .before .before .before .before .words .ensures) at (c .before .before .before .before .if1 .left) in
-    (rw (le-leb _ _ fits, c .before .before .before .before .before .words .ensures) refl, c .before .before .write-plan .ensures .0)
+    let w : c .before .words .result ≡ sizeW (a .offsets .now) (a .columns .now) (a .m) (a .n) = c .before .words .ensures ∙ fin.words-are (a .offsets .now) (a .columns .now) (a .m) (a .n) _ _ _ (c .before .before .before .before .plan-sized .ensures .sizes) in
+    let fits : sizeW (a .offsets .now) (a .columns .now) (a .m) (a .n) ≤ length (a .index .now) = omega (arith, w, c .if1 .left, c .before .before .before .before .plan-sized .kept .1 .1 .1 .1 .0) in
+    record {
+      says = rw (le-leb _ _ fits, w) refl;
+      words = c .before .before .before .before .plan-sized .ensures .words ∙ fin.written-yes (a .m) (a .n) (a .offsets .now) (a .columns .now) (a .index .now) _ refl fits;
+    }
 
 pub plan-accepted-spec : {M : Type 1} → statement M
 plan-accepted-spec =
     tie.close
-    (tie.spec words-requires new-requires returns write-plan-requires same-length returns-2)
+    (tie.spec plan-sized-requires words-requires new-requires same-length returns same-length-2 returns-2)

@@ -6,14 +6,11 @@ use Rattle.links.proofs.Few.{few-stored, few-shared, few-products}
 use Rattle.ipm_simd.specs.Solve.{given, lent}
 use Rattle.ipm_simd.specs.Parts.{Counted}
 use Rattle.ipm_simd.proofs.Solves.{asked-all, refused-here, go-on}
-use Rattle.pattern.proofs.Links.{inside}
 use Rattle.ipm_simd.proofs.solve_accepted.Statement.{statement}
 use Rattle.ipm_simd.proofs.solve_accepted.Tie as tie
 
 sizes-requires : tie.Need-sizes-requires
-sizes-requires c κs =
-    let s = c .before .before .before .before .before .before .before .before .before in
-    (s .pre .0 .csr, inside (s .args .offsets .now) (s .args .columns .now) (s .args .m) (s .args .n) (s .pre .0))
+sizes-requires c κs = c .before .before .before .before .before .before .before .before .before .pre .0
 
 cast-e : tie.Need-cast-e
 cast-e c =

@@ -1,23 +1,18 @@
+-- `transpose::at` meets its contract. Assumes nothing.
 use borrow.Author.Needs.{needs}
 use native.Mathlib.Omega.{arith}
 use Rattle.transpose.proofs.at.Statement.{statement}
 use Rattle.transpose.proofs.at.Tie as tie
-use Rattle.transpose.proofs.at.Reads as reads
-use Rattle.transpose.proofs.at.Lts as lts
 
--- src/lib.rt:105:5
 mul-result : tie.Need-mul-result
 mul-result c = search needs
 
--- src/lib.rt:105:5
 shared-slice-read-result : tie.Need-shared-slice-read-result
 shared-slice-read-result c = search needs
 
--- src/lib.rt:105:5
 cast-result : tie.Need-cast-result
 cast-result c = omega (arith, c .shared-slice-known .given (c .before .args .i))
 
--- src/lib.rt:101:1
 returns : tie.Need-returns
 returns c = search needs
 

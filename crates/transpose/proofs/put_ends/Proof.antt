@@ -1,20 +1,13 @@
-use Prim.Native.Nat.{ℕ, suc, _≤_, _<_, _+_, _*_, _-_}
-use mathlib.Core.Path.{_≡_, refl, sym, ap, ap₂, _∙_, subst}
-use mathlib.Core.List.{List, [], _∷_}
+-- `transpose::put_ends` meets its contract. Assumes nothing.
+use Prim.Native.Nat.{ℕ, _≤_, _<_, _+_, _-_}
+use mathlib.Core.Path.{_≡_, refl, sym, _∙_, subst}
+use mathlib.Core.List.{List}
 use native.Mathlib.Omega.{arith}
-use lib.ListN.{length, getD, set, length-set}
-use lib.Seq.{sets}
-use Rattle.csr.specs.Counts.{sum}
-use Rattle.lists.specs.Cat.{Wrote, cat}
-use Rattle.lists.specs.declared.What.the-variants.{Numbers, Places}
-use Rattle.transpose.specs.Bins.{Bins, rowsOf, roomOf, inRow, Outside, Grid, Tally, Starts, seen, endsFrom}
+use lib.ListN.{length, getD, set}
+use Rattle.transpose.specs.Bins.{Starts}
 use Rattle.transpose.proofs.Count as law
 use Rattle.transpose.proofs.put_ends.Statement.{statement}
 use Rattle.transpose.proofs.put_ends.Tie as tie
-use Rattle.transpose.proofs.put_ends.Reads as reads
-use Rattle.transpose.proofs.put_ends.Lts as lts
-use Rattle.transpose.proofs.swap.Reads as swap-reads
-use Rattle.lists.proofs.word.Reads as word-reads
 
 abbrev Inv-loop : tie.InvT-loop
 Inv-loop n index₀ next₀ again₀ start at₀ t₀ e₀ index next again at t e =
@@ -23,26 +16,21 @@ Inv-loop n index₀ next₀ again₀ start at₀ t₀ e₀ index next again at t
 abbrev μ-loop : tie.MeasureT-loop
 μ-loop n index₀ next₀ again₀ start at₀ t₀ e₀ index next again at t e = n - e
 
--- src/lib.rt:122:9
 word-requires : tie.Need-word-requires Inv-loop μ-loop
 word-requires c κs = let s = c .before .before .before .before in omega (arith, s .pre .4)
 
--- src/lib.rt:125:5
 loop-holds : tie.Need-loop-holds Inv-loop μ-loop
 loop-holds c =
     let s = c .before .before .before .before .before .before .before in
     let a = s .args in
     (omega arith, refl, refl, refl, law.ending-start (λ x. getD (a .next .now) x 0) (c .before .before .word .last .0) (a .next .now) (a .again .now) (c .before .before .word .result) (a .n) (λ x h. refl))
 
--- src/lib.rt:126:13
 swap-requires : tie.Need-swap-requires Inv-loop μ-loop
 swap-requires c κs = let s = c .before .before .before .before .before .before .before .before .before .before in omega (arith, s .pre .0, c .before .before .loop .inv .2, c .before .loop-test .taken)
 
--- src/lib.rt:127:9
 swap-requires-2 : tie.Need-swap-requires-2 Inv-loop μ-loop
 swap-requires-2 c κs = let s = c .before .before .before .before .before .before .before .before .before .before .before .before .before .before in omega (arith, s .pre .1, c .before .before .before .before .before .before .loop .inv .3, c .before .before .before .before .before .loop-test .taken)
 
--- src/lib.rt:128:9
 add-t : tie.Need-add-t Inv-loop μ-loop
 add-t c =
     let s = c .before .before .before .before .before .before .before .before .before .before .before .before .before .before .before .before .before in
@@ -51,7 +39,6 @@ add-t c =
     let h = law.ending-few (λ x. getD (a .next .now) x 0) (c .before .before .before .before .before .before .before .before .before .before .before .before .word .last .0) (l .index) (a .next .now) (l .next) (l .again) (c .before .before .before .before .before .before .before .before .before .before .before .before .word .result) (l .at) (l .t) (l .e) (a .n) (l .inv .4) (c .before .before .before .before .before .before .before .before .loop-test .taken) (s .pre .3) in
     omega (arith, h, c .before .before .before .before .before .before .swap .ensures .0, l .inv .4 .few, c .before .before .before .before .before .before .before .before .loop-test .taken, s .pre .2)
 
--- src/lib.rt:129:9
 word-requires-2 : tie.Need-word-requires-2 Inv-loop μ-loop
 word-requires-2 c κs =
     let s = c .before .before .before .before .before .before .before .before .before .before .before .before .before .before .before .before .before .before in
@@ -60,15 +47,12 @@ word-requires-2 c κs =
     let w = c .before .before .before .before .before .before .before .before .before .before .before .before .before .word in
     law.ending-room (λ x. getD (a .next .now) x 0) (w .last .0) (l .index) (a .next .now) (l .next) (l .again) (w .result) (l .at) (l .t) (l .e) (a .n) (l .inv .4) (c .before .before .before .before .before .before .before .before .before .loop-test .taken) (a .start) (length (l .index)) (w .ensures .next) (omega (arith, s .pre .4, l .inv .1, w .kept .0))
 
--- src/lib.rt:130:9
 add-e : tie.Need-add-e Inv-loop μ-loop
 add-e c = omega (arith, c .before .before .before .before .before .before .before .before .before .before .before .before .before .before .before .before .before .before .before .before .before .pre .2, c .before .before .before .before .before .before .before .before .before .before .before .before .loop-test .taken)
 
--- src/lib.rt:125:5
 loop-less : tie.Need-loop-less Inv-loop μ-loop
 loop-less c = omega (arith, c .before .before .before .before .before .before .before .before .before .before .before .before .loop-test .taken)
 
--- src/lib.rt:125:5
 loop-again : tie.Need-loop-again Inv-loop μ-loop
 loop-again c =
     let s = c .before .before .before .before .before .before .before .before .before .before .before .before .before .before .before .before .before .before .before .before .before in
@@ -89,23 +73,18 @@ loop-again c =
           (law.ending-turn (λ x. getD (a .next .now) x 0) (w .last .0) (l .index) (a .next .now) (l .next) (l .again) (w .result) (l .at) (l .t) (l .e) (a .n) (l .inv .4) lt (k .last .0) (k .result) (x .result) (omega (arith, s .pre .0, l .inv .2)) (omega (arith, s .pre .1, l .inv .3)) (x .ensures .0) (omega (arith, h, x .ensures .0)) (k .ensures))),
     )
 
--- src/lib.rt:132:5
 swap-requires-3 : tie.Need-swap-requires-3 Inv-loop μ-loop
 swap-requires-3 c κs = let s = c .before .before .before .before .before .before .before .before .before .before in omega (arith, s .pre .1, c .before .before .loop .inv .3)
 
--- src/lib.rt:111:1
 same-length : tie.Need-same-length Inv-loop μ-loop
 same-length c = c .before .before .before .before .before .loop .inv .1 ∙ c .before .before .before .before .before .before .before .before .word .kept .0
 
--- src/lib.rt:111:1
 same-length-2 : tie.Need-same-length-2 Inv-loop μ-loop
 same-length-2 c = c .before .before .before .before .before .loop .inv .2
 
--- src/lib.rt:111:1
 same-length-3 : tie.Need-same-length-3 Inv-loop μ-loop
 same-length-3 c = c .before .before .swap3 .kept .0 ∙ c .before .before .before .before .before .loop .inv .3
 
--- src/lib.rt:111:1
 returns : tie.Need-returns Inv-loop μ-loop
 returns c =
     let s = c .before .before .before .before .before .before .before .before .before .before .before .before .before in

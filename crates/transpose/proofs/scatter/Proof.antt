@@ -1,19 +1,13 @@
-use Prim.Native.Nat.{ℕ, suc, _≤_, _<_, _+_, _*_, _-_}
-use mathlib.Core.Path.{_≡_, refl, sym, ap, ap₂, _∙_, subst}
-use mathlib.Core.List.{List, [], _∷_}
+-- `transpose::scatter` meets its contract. Assumes nothing.
+use Prim.Native.Nat.{ℕ, _≤_, _+_, _-_}
+use mathlib.Core.Path.{_≡_, refl, _∙_, subst}
 use native.Mathlib.Omega.{arith}
-use lib.ListN.{length, getD, set, length-set}
-use lib.Seq.{sets}
+use lib.ListN.{length}
 use Rattle.csr.specs.Counts.{sum}
-use Rattle.lists.specs.Cat.{Wrote, cat}
-use Rattle.lists.specs.declared.What.the-variants.{Numbers, Places}
-use Rattle.transpose.specs.Bins.{Bins, rowsOf, roomOf, inRow, Outside, Grid, Tally, Starts, seen, endsFrom}
+use Rattle.transpose.specs.Bins.{Bins, rowsOf, roomOf, Outside}
 use Rattle.transpose.proofs.Count as law
 use Rattle.transpose.proofs.scatter.Statement.{statement}
 use Rattle.transpose.proofs.scatter.Tie as tie
-use Rattle.transpose.proofs.scatter.Reads as reads
-use Rattle.transpose.proofs.scatter.Lts as lts
-use Rattle.transpose.proofs.scatter_row.Reads as scatter-row-reads
 
 abbrev Inv-loop : tie.InvT-loop
 Inv-loop what off cols m n index₀ next₀ start i₀ index next i =
@@ -22,14 +16,12 @@ Inv-loop what off cols m n index₀ next₀ start i₀ index next i =
 abbrev μ-loop : tie.MeasureT-loop
 μ-loop what off cols m n index₀ next₀ start i₀ index next i = m - i
 
--- src/lib.rt:151:5
 loop-holds : tie.Need-loop-holds Inv-loop μ-loop
 loop-holds c =
     let s = c .before .before .before .before in
     let a = s .args in
     (omega arith, refl, refl, law.bins-start (a .off .now) (a .cols .now) (a .what) (a .m) (a .n) (a .index .now) (a .next .now) (a .start) (s .pre .3), record { low = λ q h. refl; high = λ q h. refl })
 
--- src/lib.rt:152:9
 scatter-row-requires : tie.Need-scatter-row-requires Inv-loop μ-loop
 scatter-row-requires c κs =
     let s = c .before .before .before .before .before .before .before .before in
@@ -37,15 +29,12 @@ scatter-row-requires c κs =
     let l = c .before .before .before .loop in
     (s .pre .0, c .before .before .loop-test .taken, omega (arith, s .pre .1, l .inv .2), omega (arith, s .pre .2, l .inv .1), law.room-sum (a .off .now) (a .cols .now) (a .m) (a .n) (s .pre .0 .few) (s .pre .0 .wide), l .inv .3)
 
--- src/lib.rt:153:9
 add-i : tie.Need-add-i Inv-loop μ-loop
 add-i c = omega (arith, c .before .before .before .before .before .before .before .before .before .before .before .before .before .pre .0 .few, c .before .before .before .before .before .before .before .loop-test .taken)
 
--- src/lib.rt:151:5
 loop-less : tie.Need-loop-less Inv-loop μ-loop
 loop-less c = omega (arith, c .before .before .before .before .before .before .before .loop-test .taken)
 
--- src/lib.rt:151:5
 loop-again : tie.Need-loop-again Inv-loop μ-loop
 loop-again c =
     let s = c .before .before .before .before .before .before .before .before .before .before .before .before .before in
@@ -54,15 +43,12 @@ loop-again c =
     let q = c .before .before .before .before .scatter-row in
     (omega (arith, c .before .before .before .before .before .before .before .loop-test .taken), q .kept .1 .1 .1 .1 .1 .1 .0 ∙ l .inv .1, q .kept .1 .1 .1 .1 .1 .1 .1 .0 ∙ l .inv .2, q .ensures .0, law.outside-join (a .index .now) (l .index) (q .last .1 .1 .1 .1 .1 .1 .0) (a .start) (a .start + sum (a .n) (roomOf (a .off .now) (a .cols .now) (a .m))) (l .inv .4) (q .ensures .1))
 
--- src/lib.rt:137:1
 same-length : tie.Need-same-length Inv-loop μ-loop
 same-length c = c .before .loop .inv .1
 
--- src/lib.rt:137:1
 same-length-2 : tie.Need-same-length-2 Inv-loop μ-loop
 same-length-2 c = c .before .loop .inv .2
 
--- src/lib.rt:137:1
 returns : tie.Need-returns Inv-loop μ-loop
 returns c =
     let s = c .before .before .before .before .before .before in

@@ -1,19 +1,14 @@
-use Prim.Native.Nat.{ℕ, suc, _≤_, _<_, _+_, _*_, _-_}
-use mathlib.Core.Path.{_≡_, refl, sym, ap, ap₂, _∙_, subst}
+-- `transpose::scatter_row` meets its contract. Assumes nothing.
+use Prim.Native.Nat.{ℕ, _≤_, _<_, _+_, _-_}
+use mathlib.Core.Path.{_≡_, refl, sym, _∙_, subst}
 use mathlib.Core.List.{List}
 use native.Mathlib.Omega.{arith}
-use lib.ListN.{length, getD, set, length-set}
+use lib.ListN.{length, getD, set}
 use Rattle.csr.specs.Counts.{sum}
-use Rattle.lists.specs.Lists.{told}
-use Rattle.transpose.specs.Bins.{Bins, rowsOf, roomOf, inRow, Outside}
+use Rattle.transpose.specs.Bins.{Bins, roomOf, inRow, Outside}
 use Rattle.transpose.proofs.Row as law
 use Rattle.transpose.proofs.scatter_row.Statement.{statement}
 use Rattle.transpose.proofs.scatter_row.Tie as tie
-use Rattle.transpose.proofs.scatter_row.Reads as reads
-use Rattle.transpose.proofs.scatter_row.Lts as lts
-use Rattle.transpose.proofs.at.Reads as at-reads
-use Rattle.transpose.proofs.of_entry.Reads as of-entry-reads
-use Rattle.transpose.proofs.put_in.Reads as put-in-reads
 
 abbrev Inv-loop : tie.InvT-loop
 Inv-loop what off cols m n i index₀ next₀ start a b k₀ index next k =
@@ -26,7 +21,6 @@ Inv-loop what off cols m n i index₀ next₀ start a b k₀ index next k =
 abbrev μ-loop : tie.MeasureT-loop
 μ-loop what off cols m n i index₀ next₀ start a b k₀ index next k = b - k
 
--- src/lib.rt:43:9
 at-requires : tie.Need-at-requires Inv-loop μ-loop
 at-requires c κs =
     let s = c .before .before .before .before in
@@ -34,7 +28,6 @@ at-requires c κs =
     let csr = s .pre .0 in
     omega (arith, csr .offsets, csr .few)
 
--- src/lib.rt:44:21
 add-at : tie.Need-add-at Inv-loop μ-loop
 add-at c =
     let s = c .before .before .before .before .before in
@@ -42,7 +35,6 @@ add-at c =
     let csr = s .pre .0 in
     omega (arith, csr .few)
 
--- src/lib.rt:44:9
 at-requires-2 : tie.Need-at-requires-2 Inv-loop μ-loop
 at-requires-2 c κs =
     let s = c .before .before .before .before .before in
@@ -50,7 +42,6 @@ at-requires-2 c κs =
     let csr = s .pre .0 in
     omega (arith, csr .offsets, csr .few)
 
--- src/lib.rt:46:5
 loop-holds : tie.Need-loop-holds Inv-loop μ-loop
 loop-holds c =
     let s = c .before .before .before .before .before .before in
@@ -58,7 +49,6 @@ loop-holds c =
     let csr = s .pre .0 in
     (omega (arith, c .before .at .ensures), refl, refl, law.row-start (a .off .now) (a .cols .now) (a .m) (a .n) (a .i) (s .pre .0) (s .pre .1) (a .what) (a .index .now) (a .next .now) (a .start) (c .before .at .result) (c .before .at .ensures) (s .pre .5), record { low = λ q h. refl; high = λ q h. refl })
 
--- src/lib.rt:47:13
 at-requires-3 : tie.Need-at-requires-3 Inv-loop μ-loop
 at-requires-3 c κs =
     let s = c .before .before .before .before .before .before .before .before in
@@ -66,7 +56,6 @@ at-requires-3 c κs =
     let csr = s .pre .0 in
     law.ends-in (a .off .now) (a .cols .now) (a .m) (a .n) (a .i) (s .pre .0) (s .pre .1) (c .before .loop .k) (omega (arith, c .before .before .at2 .ensures)) .0
 
--- src/lib.rt:48:32
 cast-of-entry : tie.Need-cast-of-entry Inv-loop μ-loop
 cast-of-entry c =
     let s = c .before .before .before .before .before .before .before .before .before in
@@ -74,7 +63,6 @@ cast-of-entry c =
     let csr = s .pre .0 in
     omega (arith, csr .few)
 
--- src/lib.rt:48:42
 cast-of-entry-2 : tie.Need-cast-of-entry-2 Inv-loop μ-loop
 cast-of-entry-2 c =
     let s = c .before .before .before .before .before .before .before .before .before in
@@ -83,11 +71,9 @@ cast-of-entry-2 c =
     let h = law.ends-in (a .off .now) (a .cols .now) (a .m) (a .n) (a .i) (s .pre .0) (s .pre .1) (c .before .before .loop .k) (omega (arith, c .before .before .before .at2 .ensures)) in
     omega (arith, h .0, h .1)
 
--- src/lib.rt:48:13
 of-entry-requires : tie.Need-of-entry-requires Inv-loop μ-loop
 of-entry-requires c κs = tt
 
--- src/lib.rt:49:9
 put-in-requires : tie.Need-put-in-requires Inv-loop μ-loop
 put-in-requires c κs =
     let s = c .before .before .before .before .before .before .before .before .before .before .before .before in
@@ -97,7 +83,6 @@ put-in-requires c κs =
     let lt : l .k < c .before .before .before .before .before .before .at2 .result = c .before .before .before .before .loop-test .taken in
     law.turn-asks (a .off .now) (a .cols .now) (a .m) (a .n) (a .i) (s .pre .0) (s .pre .1) (a .what) (l .k) (c .before .before .before .at3 .result) (c .before .before .of-entry .result) (l .inv .0) (omega (arith, c .before .before .before .before .before .before .at2 .ensures)) (c .before .before .before .at3 .ensures) (c .before .before .of-entry .ensures) (l .index) (l .next) (a .start) (omega (arith, s .pre .2, l .inv .2)) (omega (arith, s .pre .3, l .inv .1)) (l .inv .3) (s .pre .4)
 
--- src/lib.rt:50:9
 add-k : tie.Need-add-k Inv-loop μ-loop
 add-k c =
     let s = c .before .before .before .before .before .before .before .before .before .before .before .before .before .before .before .before .before in
@@ -107,12 +92,10 @@ add-k c =
     let h = law.ends-in (a .off .now) (a .cols .now) (a .m) (a .n) (a .i) (s .pre .0) (s .pre .1) (l .k) (omega (arith, c .before .before .before .before .before .before .before .before .before .before .before .at2 .ensures, c .before .before .before .before .before .before .before .before .before .loop-test .taken)) in
     omega (arith, h .0, h .1)
 
--- src/lib.rt:46:5
 loop-less : tie.Need-loop-less Inv-loop μ-loop
 loop-less c =
     omega arith
 
--- src/lib.rt:46:5
 loop-again : tie.Need-loop-again Inv-loop μ-loop
 loop-again c =
     let s = c .before .before .before .before .before .before .before .before .before .before .before .before .before .before .before .before .before in
@@ -131,15 +114,12 @@ loop-again c =
           (law.turn-outside (a .off .now) (a .cols .now) (a .m) (a .n) (a .i) (s .pre .0) (s .pre .1) (a .what) (l .k) (c .before .before .before .before .before .before .before .before .at3 .result) (c .before .before .before .before .before .before .before .of-entry .result) (l .inv .0) (omega (arith, c .before .before .before .before .before .before .before .before .before .before .before .at2 .ensures)) (c .before .before .before .before .before .before .before .before .at3 .ensures) (c .before .before .before .before .before .before .before .of-entry .ensures) (l .index) (l .next) (a .start) (omega (arith, s .pre .2, l .inv .2)) (omega (arith, s .pre .3, l .inv .1)) (l .inv .3) (a .index .now) (l .inv .4)),
     )
 
--- src/lib.rt:39:1
 same-length : tie.Need-same-length Inv-loop μ-loop
 same-length c = c .before .loop .inv .1
 
--- src/lib.rt:39:1
 same-length-2 : tie.Need-same-length-2 Inv-loop μ-loop
 same-length-2 c = c .before .loop .inv .2
 
--- src/lib.rt:39:1
 returns : tie.Need-returns Inv-loop μ-loop
 returns c =
     let s = c .before .before .before .before .before .before .before .before in

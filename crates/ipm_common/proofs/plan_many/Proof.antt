@@ -1,0 +1,54 @@
+-- `ipm_common::plan_many` meets its contract. Assumes nothing.
+use native.Mathlib.Omega.{arith}
+use borrow.Author.Needs.{needs}
+use Rattle.ipm_common.proofs.Lists.{tri-le, tri-256}
+use Rattle.ipm_common.proofs.plan_many.Statement.{statement}
+use Rattle.ipm_common.proofs.plan_many.Tie as tie
+
+slice-aggregate-plan-in : tie.Need-slice-aggregate-plan-in
+slice-aggregate-plan-in c = search needs
+
+slice-aggregate-plan-in-2 : tie.Need-slice-aggregate-plan-in-2
+slice-aggregate-plan-in-2 c = search needs
+
+slice-aggregate-plan-in-3 : tie.Need-slice-aggregate-plan-in-3
+slice-aggregate-plan-in-3 c = search needs
+
+slice-aggregate-plan-in-4 : tie.Need-slice-aggregate-plan-in-4
+slice-aggregate-plan-in-4 c = search needs
+
+slice-aggregate-plan-in-5 : tie.Need-slice-aggregate-plan-in-5
+slice-aggregate-plan-in-5 c = search needs
+
+plan-in-requires : tie.Need-plan-in-requires
+plan-in-requires c κs =
+    let s = c .before .before .before .before .before .before .before .before .before in
+    let m = s .pre .csr .few in
+    let n = s .pre .wide in (
+      s .pre,
+      omega (arith, m),
+      omega (arith, tri-le (s .args .m) 256 m, tri-256),
+      omega arith,
+      omega (arith, n),
+      record { rows = omega (arith, m); columns = omega (arith, n) },
+      record { rows = omega (arith, m); columns = omega (arith, n) },
+    )
+
+same-length : tie.Need-same-length
+same-length c = search needs
+
+returns : tie.Need-returns
+returns c = search needs
+
+pub plan-many-spec : {M : Type 1} → statement M
+plan-many-spec =
+    tie.close
+    (tie.spec
+    slice-aggregate-plan-in
+    slice-aggregate-plan-in-2
+    slice-aggregate-plan-in-3
+    slice-aggregate-plan-in-4
+    slice-aggregate-plan-in-5
+    plan-in-requires
+    same-length
+    returns)

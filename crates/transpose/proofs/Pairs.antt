@@ -1,0 +1,120 @@
+-- Counting the columns that pairs of rows share, by a count for each column. Assumes nothing.
+use mathlib.Core.Path.{_≡_, refl, sym, ap, ap₂, _∙_}
+use mathlib.Core.Bool.{Bool, true, false, _||_}
+use mathlib.Core.List.{List, [], _∷_, _++_}
+use Prim.Native.Nat.{ℕ, zero, suc, _+_, _-_, _<_, _≤_}
+use native.Mathlib.Omega.{arith}
+use native.Mathlib.Numerals.{add-one}
+use lib.ListN.{length, getD, take}
+use borrow.Author.Tests.{eq-eqb}
+use lib.Seq.{take-suc, take-all}
+use Rattle.csr.specs.Pattern.{has, row}
+use Rattle.csr.specs.Counts.{sum, one, common}
+use Rattle.lists.specs.Cat.{cat, pick}
+use Rattle.lists.proofs.Write.{cat-next}
+use Rattle.lists.specs.Lists.{inColumn, column}
+use Rattle.lists.specs.declared.What.the-variants.{Numbers}
+use Rattle.transpose.specs.Bins.{inRow, Grid, Tally, seen}
+use Rattle.transpose.proofs.Fill.{has-at, has-snoc}
+use Rattle.transpose.proofs.Row.{row-long, in-q, e-at, e-below}
+use Rattle.transpose.proofs.Count.{column-long}
+
+-- f of each number of a list, added up
+unfoldable pub over : (ℕ → ℕ) → List ℕ → ℕ
+over f [] = 0
+over f (x ∷ xs) = f x + over f xs
+
+over-snoc : (f : ℕ → ℕ) (xs : List ℕ) (x : ℕ) → over f (xs ++ (x ∷ [])) ≡ over f xs + f x
+unfolding over
+over-snoc f [] x = omega arith
+over-snoc f (y ∷ xs) x = omega (arith, over-snoc f xs x)
+
+over-next : (f : ℕ → ℕ) (l : List ℕ) (q : ℕ) → q < length l → over f (take (q + 1) l) ≡ over f (take q l) + f (getD l q 0)
+over-next f l q h = ap (λ (k : ℕ). over f (take k l)) (add-one q) ∙ ap (over f) (take-suc l q 0 h) ∙ over-snoc f (take q l) (getD l q 0)
+
+over-ext : (f g : ℕ → ℕ) (xs : List ℕ) → ((x : ℕ) → f x ≡ g x) → over f xs ≡ over g xs
+unfolding over
+over-ext f g [] e = refl
+over-ext f g (x ∷ xs) e = ap₂ _+_ (e x) (over-ext f g xs e)
+
+-- ---- counted by row or by column
+sum-none : (n : ℕ) → sum n (λ j. 0) ≡ 0
+unfolding sum
+sum-none zero = refl
+sum-none (suc n) = omega (arith, sum-none n)
+
+sum-plus : (n : ℕ) (f g : ℕ → ℕ) → sum n (λ k. f k + g k) ≡ sum n f + sum n g
+unfolding sum
+sum-plus zero f g = refl
+sum-plus (suc n) f g = omega (arith, sum-plus n f g)
+
+by-column : (n : ℕ) (r : ℕ → List ℕ) (xs : List ℕ) → over (λ x. sum n (λ j. one (has (r j) x))) xs ≡ sum n (λ j. common xs (r j))
+unfolding over common
+by-column n r [] = sym (sum-none n)
+by-column n r (x ∷ xs) =
+    ap (λ (k : ℕ). sum n (λ j. one (has (r j) x)) + k) (by-column n r xs)
+    ∙ sym (sum-plus n (λ j. one (has (r j) x)) (λ j. common xs (r j)))
+
+-- ---- the counts while row i is passed
+has-to : (l : List ℕ) (q : ℕ) → q < length l → has (take (q + 1) l) (getD l q 0) ≡ true
+has-to l q h =
+    ap (λ (k : ℕ). has (take k l) (getD l q 0)) (add-one q) ∙ ap (λ (k : List ℕ). has k (getD l q 0)) (take-suc l q 0 h)
+    ∙ has-snoc (take q l) (getD l q 0) (getD l q 0)
+    ∙ ap (λ (t : Bool). has (take q l) (getD l q 0) || t) (eq-eqb (getD l q 0) (getD l q 0) refl)
+    ∙ or-true (has (take q l) (getD l q 0))
+  where
+    or-true : (b : Bool) → b || true ≡ true
+    or-true true = refl
+    or-true false = refl
+
+-- how many of the rows up to i hold column c
+abbrev pub upTo : List ℕ → List ℕ → ℕ → ℕ → ℕ
+upTo off cols i c = length (seen off cols (i + 1) c)
+
+module _ (off cols : List ℕ) (m n i : ℕ) (ok : Grid off cols m n) (hi : i < m) where
+  -- row i shares so many columns with the rows up to it
+  pub row-pairs : over (upTo off cols i) (row off cols i) ≡ sum (suc i) (λ j. common (row off cols i) (row off cols j))
+  unfolding inColumn
+  row-pairs =
+      over-ext (upTo off cols i) (λ x. sum (suc i) (λ j. one (has (row off cols j) x))) (row off cols i)
+      (λ x. column-long off cols Numbers (i + 1) x ∙ ap (λ (k : ℕ). sum k (λ j. one (has (row off cols j) x))) (add-one i))
+      ∙ by-column (suc i) (row off cols) (row off cols i)
+
+  module _ (k e : ℕ) (lo : getD off i 0 ≤ k) (hk : k < getD off (i + 1) 0) (he : e ≡ getD cols k 0) where
+    q : ℕ
+    q = k - getD off i 0
+
+    q-in : q < length (row off cols i)
+    unfolding q
+    q-in = in-q off cols m n i ok hi Numbers k e i lo hk he refl
+
+    e-is : e ≡ getD (row off cols i) q 0
+    unfolding q
+    e-is = e-at off cols m n i ok hi Numbers k e i lo hk he refl
+
+    -- the count of an entry's column, its row included
+    counted : length (inRow off cols Numbers i (q + 1) e) ≡ upTo off cols i e
+    unfolding inRow column
+    counted =
+        ap (λ (t : Bool). length (cat i held ++ pick t i))
+        (ap (has (take (q + 1) (row off cols i))) e-is ∙ has-to (row off cols i) q q-in ∙ sym (ap (has (row off cols i)) e-is ∙ has-at (row off cols i) q q-in))
+        ∙ ap length (sym (cat-next i held))
+      where
+        held : ℕ → List ℕ
+        held r = pick (has (row off cols r) e) r
+
+    pub pairs-turn : (next : List ℕ) (s x : ℕ) → s ≡ over (upTo off cols i) (take (k - getD off i 0) (row off cols i)) → x ≡ getD next e 0 → Tally next n (inRow off cols Numbers i (k + 1 - getD off i 0))
+        → s + x ≡ over (upTo off cols i) (take (k + 1 - getD off i 0) (row off cols i))
+    unfolding q
+    pairs-turn next s x hs hx t =
+        let z : k - getD off i 0 + 1 ≡ k + 1 - getD off i 0 = omega arith in
+        ap₂ _+_ hs (hx ∙ t .count e (e-below off cols m n i ok hi Numbers k e i lo hk he refl) ∙ ap (λ (y : ℕ). length (inRow off cols Numbers i y e)) (sym z) ∙ counted ∙ ap (upTo off cols i) e-is)
+        ∙ sym (over-next (upTo off cols i) (row off cols i) (k - getD off i 0) q-in)
+        ∙ ap (λ (y : ℕ). over (upTo off cols i) (take y (row off cols i))) z
+
+  pub pairs-start : (k : ℕ) → k ≡ getD off i 0 → 0 ≡ over (upTo off cols i) (take (k - getD off i 0) (row off cols i))
+  unfolding over
+  pairs-start k e = let z : 0 ≡ k - getD off i 0 = omega arith in ap (λ (y : ℕ). over (upTo off cols i) (take y (row off cols i))) z
+
+  pub pairs-end : (k s : ℕ) → getD off (i + 1) 0 ≤ k → s ≡ over (upTo off cols i) (take (k - getD off i 0) (row off cols i)) → s ≡ sum (suc i) (λ j. common (row off cols i) (row off cols j))
+  pairs-end k s h e = e ∙ ap (over (upTo off cols i)) (take-all (k - getD off i 0) (row off cols i) (omega (arith, row-long off cols m n i ok hi))) ∙ row-pairs
