@@ -1,12 +1,12 @@
 -- The sixteen lists together. Assumes nothing.
 use mathlib.Core.Path.{_≡_, sym, ap, _∙_}
-use mathlib.Core.Bool.{Bool, true, false}
 use mathlib.Core.List.{List, _++_}
 use Prim.Native.Nat.{ℕ, _+_, _*_, _<_, _≤_}
 use native.Mathlib.Omega.{arith}
 use lib.ListN.{length, drop}
-use borrow.Author.Tests.{lt-leb, le-leb}
-use Rattle.csr.specs.Counts.{sizeW}
+use borrow.Author.Tests.{lt-leb, le-leb, lt-ltb, le-ltb}
+use lib.Dec.{ltb}
+use Rattle.csr.specs.Counts.{countE, sizeW}
 use Rattle.ipm_common.specs.Plan.{Tallied, written}
 use Rattle.pattern.specs.Word.{bit}
 use Rattle.lists.specs.Cat.{Wrote}
@@ -18,6 +18,7 @@ use Rattle.lists.proofs.Whole.{three, three-length}
 use Rattle.transpose.specs.Bins.{Grid, sideIn}
 use Rattle.ipm_common.specs.Kept.{Rows}
 use Rattle.ipm_common.proofs.Factor.{side-same}
+use Rattle.ipm_common.proofs.Counted.{and-false}
 
 pub accepted-grid : (off cols : List ℕ) (m n : ℕ) → Accepted off cols m n → Grid off cols m n
 accepted-grid off cols m n a = record {
@@ -50,14 +51,14 @@ words-are off cols m n e s d t = omega (arith, t .stored, t .shared, t .products
 
 -- what is left in the index memory
 module _ (m n : ℕ) (off cols index : List ℕ) where
-  pub written-off : (wanted : Bool) → wanted ≡ false → written wanted m n off cols index ≡ index
+  pub written-off : (below : ℕ) → below ≤ countE off cols m → written below m n off cols index ≡ index
   unfolding written
-  written-off wanted e = rw e
+  written-off below h = rw (le-ltb (countE off cols m) below h)
 
-  pub written-no : (wanted : Bool) → wanted ≡ true → length index < sizeW off cols m n → written wanted m n off cols index ≡ index
+  pub written-no : (below : ℕ) → length index < sizeW off cols m n → written below m n off cols index ≡ index
   unfolding written
-  written-no wanted e h = rw (e, lt-leb (sizeW off cols m n) (length index) h)
+  written-no below h = rw (lt-leb (sizeW off cols m n) (length index) h, and-false (ltb (countE off cols m) below))
 
-  pub written-yes : (wanted : Bool) → wanted ≡ true → sizeW off cols m n ≤ length index → written wanted m n off cols index ≡ planWords off cols m n ++ drop (sizeW off cols m n) index
+  pub written-yes : (below : ℕ) → countE off cols m < below → sizeW off cols m n ≤ length index → written below m n off cols index ≡ planWords off cols m n ++ drop (sizeW off cols m n) index
   unfolding written
-  written-yes wanted e h = rw (e, le-leb (sizeW off cols m n) (length index) h)
+  written-yes below e h = rw (lt-ltb (countE off cols m) below e, le-leb (sizeW off cols m n) (length index) h)

@@ -1,11 +1,13 @@
 -- The rows of a grid of bits as lists, one after the other. Assumes nothing.
 use mathlib.Core.Path.{_≡_}
-use mathlib.Core.Bool.{Bool}
+use mathlib.Core.Bool.{Bool, true, false}
 use mathlib.Core.List.{List, [], _∷_, _++_}
 use Prim.Native.Nat.{ℕ, suc, _+_, _<_, _≤_}
 use lib.ListN.{length, getD}
 use Rattle.csr.specs.Pattern.{row}
 use Rattle.lists.specs.Cat.{cat, pick}
+use Rattle.lists.specs.declared.Which.{Which}
+use Rattle.lists.specs.declared.Which.the-variants.{AnormIndptr, AnormIndptrI, AnormIndptrJ, AnormIndices, LdecompIndptr, LdecompIndptrI, LdecompIndptrJ, Lindptr, LdiagIndptr, Lindices}
 
 -- the k below n that h holds, rising
 unfoldable pub kept : (ℕ → Bool) → ℕ → List ℕ
@@ -35,3 +37,16 @@ placesOf h base (k ∷ ks) = pick (h k) base ++ placesOf h (suc base) ks
 pub record Room (m n : ℕ) (s : List ℕ) : Type 0 where
   pub rows : m < length s
   pub columns : n < length s
+
+-- the lists that are read off the marks of a row
+abbrev pub marksRead : Which → Bool
+marksRead AnormIndptr = true
+marksRead AnormIndptrI = true
+marksRead AnormIndptrJ = true
+marksRead AnormIndices = true
+marksRead LdecompIndptr = false
+marksRead LdecompIndptrI = false
+marksRead LdecompIndptrJ = false
+marksRead Lindptr = false
+marksRead LdiagIndptr = false
+marksRead Lindices = false

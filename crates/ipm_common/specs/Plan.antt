@@ -1,9 +1,9 @@
 -- The six questions of plan, its answer and what it leaves in the index memory. Definitions only.
 use mathlib.Core.Path.{_≡_}
-use mathlib.Core.Bool.{Bool, _&&_, cond}
+use mathlib.Core.Bool.{_&&_, cond}
 use mathlib.Core.List.{List, _++_}
 use Prim.Native.Nat.{ℕ, _≤_}
-use lib.Dec.{leb}
+use lib.Dec.{leb, ltb}
 use lib.ListN.{length, drop}
 use Rattle.csr.specs.Verdict.{Verdict, passed, planned, accepted, refused, ask, andThen, refusal}
 use Rattle.csr.specs.Questions.{firstNo}
@@ -49,15 +49,15 @@ pub record Tallied (offsets columns : List ℕ) (m e s d : ℕ) : Type 0 where
   pub products : d ≡ countD offsets columns m
   pub few : s ≤ 16777216
 
--- the plan and the old rest where it is wanted and has room, else as before
-unfoldable pub written : Bool → ℕ → ℕ → List ℕ → List ℕ → List ℕ → List ℕ
-unfolding sizeW
-written wanted m n offsets columns index =
-    cond (wanted && leb (sizeW offsets columns m n) (length index)) (planWords offsets columns m n ++ drop (sizeW offsets columns m n) index) index
+-- the plan and the old rest where E is below a bound and the memory has room, else as before
+unfoldable pub written : ℕ → ℕ → ℕ → List ℕ → List ℕ → List ℕ → List ℕ
+unfolding sizeW countE
+written below m n offsets columns index =
+    cond (ltb (countE offsets columns m) below && leb (sizeW offsets columns m n) (length index)) (planWords offsets columns m n ++ drop (sizeW offsets columns m n) index) index
 
-pub record Counted (m n : ℕ) (offsets columns : List ℕ) (wanted : Bool) (old new : List ℕ) (e s d : ℕ) : Type 0 where
+pub record Counted (m n : ℕ) (offsets columns : List ℕ) (below : ℕ) (old new : List ℕ) (e s d : ℕ) : Type 0 where
   pub sizes : Tallied offsets columns m e s d
-  pub words : new ≡ written wanted m n offsets columns old
+  pub words : new ≡ written below m n offsets columns old
 
 -- question 6 is answered, and the index memory is left so
 pub record Answered (m n : ℕ) (offsets columns old new : List ℕ) (v : Verdict) : Type 0 where

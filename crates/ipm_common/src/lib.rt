@@ -1,41 +1,67 @@
 // The plan: the sixteen lists of a matrix, by the Rust's `from_matrix` with its transpose.
 ghost use mathlib.Core.Path.{_≡_};
-ghost use mathlib.Core.List.{_++_};
+ghost use mathlib.Core.List.{[], _∷_, _++_};
 ghost use mathlib.Core.Bool.{true, false};
 ghost use Prim.Native.Nat.{ℕ, suc, _+_, _*_, _<_, _≤_};
 ghost use lib.ListN.{length, getD, drop};
 ghost use Rattle.pattern.specs.Word.{bit};
-ghost use Rattle.csr.specs.Counts.{sum, countE, countS, countD, sizeW};
-ghost use Rattle.lists.specs.Cat.{Wrote, cat};
+ghost use Rattle.csr.specs.Counts.{sum};
+ghost use Rattle.lists.specs.Cat.{Wrote, cat, pick};
 ghost use Rattle.csr.specs.Chain.{Below};
 ghost use Rattle.lists.specs.Lists.{shape, planOf, planWords, walkOf, piece, weight, before, listOf, tenOf};
 ghost use Rattle.lists.specs.Ready.{Ready, Accepted};
-ghost use Rattle.ipm_common.specs.Kept.{kept, Rows, placesOf, Room};
+ghost use Rattle.ipm_common.specs.Kept.{kept, Rows, placesOf, Room, marksRead};
 ghost use Rattle.shared.specs.Marked.{Marked};
 ghost use Rattle.ipm_common.specs.Plan.{told, planVerdict, planIndex, Answered, Tallied, Counted};
 ghost use Rattle.transpose.specs.Bins.{Grid};
 ghost use Rattle.csr.specs.Pattern.{row};
 use csr::Asked;
 use csr::Refusal;
+use lists::Side;
 use lists::Take;
 use lists::Which;
 
-// Row i of the pattern as a list.
-pub fn list_row(p: &[u64], i: usize, li: &mut [u32], start: usize) -> usize
+// A byte as a number.
+fn byte_at(s: &[u8], i: usize) -> usize
+    requires { ⌜ i < length (now s) ⌝ }
+    ensures { λ r. ⌜ r ≡ getD (now (s .entry)) i 0 ⌝ }
+{
+    s[i] as usize
+}
+
+// One byte written, and the place after it.
+fn byte(s: &mut [u8], at: usize, x: u8) -> usize
+    requires { ⌜ at < length (now s) ⌝ }
+    ensures { λ r. ⌜ Wrote (now (s .entry)) (now (s .exit)) at (x ∷ []) r ⌝ }
+{
+    s[at] = x;
+    at + 1
+}
+
+// A byte written where it is wanted.
+fn keep_byte(s: &mut [u8], at: usize, yes: bool, x: u8) -> usize
+    requires { ⌜ at + length (pick yes x) ≤ length (now s) ⌝ }
+    ensures { λ r. ⌜ Wrote (now (s .entry)) (now (s .exit)) at (pick yes x) r ⌝ }
+{
+    if yes { byte(s, at, x) } else { at }
+}
+
+// Row i of the pattern as a list of bytes.
+pub fn list_row(p: &[u64], i: usize, li: &mut [u8], start: usize) -> usize
     requires { ⌜ (length (now p) ≡ 1024) × (i < 256) × (start + i + 1 ≤ length (now li)) ⌝ }
     ensures { λ r. ⌜ Wrote (now (li .entry)) (now (li .exit)) start (kept (bit (now (p .entry)) i) (i + 1)) r ⌝ }
 {
     let mut at = start;
     let mut k: usize = 0;
     while k <= i {
-        at = lists::keep(li, at, pattern::test(p, i, k), k as u32);
+        at = keep_byte(li, at, pattern::test(p, i, k), k as u8);
         k += 1;
     }
     at
 }
 
 // The rows of the pattern as lists: their offsets and their columns.
-pub fn list_rows(p: &[u64], m: usize, lp: &mut [u32], li: &mut [u32])
+pub fn list_rows(p: &[u64], m: usize, lp: &mut [u32], li: &mut [u8])
     requires { ⌜ (length (now p) ≡ 1024) × (m ≤ 256) × (m < length (now lp)) × (sum m suc ≤ length (now li)) × (length (now li) ≤ 65536) ⌝ }
     ensures { λ _. ⌜ Rows (bit (now (p .entry))) (now (lp .exit)) (now (li .exit)) m ⌝ }
 {
@@ -50,14 +76,14 @@ pub fn list_rows(p: &[u64], m: usize, lp: &mut [u32], li: &mut [u32])
 }
 
 // The places, from base on, of the numbers of a list that row q of the pattern holds.
-pub fn places(p: &[u64], q: usize, l: &[u32], base: u32, index: &mut [u32], start: usize) -> usize
+pub fn places(p: &[u64], q: usize, l: &[u8], base: u32, index: &mut [u32], start: usize) -> usize
     requires { ⌜ (length (now p) ≡ 1024) × (q < 256) × Below 256 (now l) × (base + length (now l) ≤ 65536) × (start + length (placesOf (bit (now p) q) base (now l)) ≤ length (now index)) ⌝ }
     ensures { λ r. ⌜ Wrote (now (index .entry)) (now (index .exit)) start (placesOf (bit (now (p .entry)) q) base (now (l .entry))) r ⌝ }
 {
     let mut at = start;
     let mut t: usize = 0;
     while t < l.len() {
-        let k = shared::word_at(l, t);
+        let k = byte_at(l, t);
         at = lists::keep(index, at, pattern::test(p, q, k), base + (t as u32));
         t += 1;
     }
@@ -68,7 +94,7 @@ pub fn places(p: &[u64], q: usize, l: &[u32], base: u32, index: &mut [u32], star
 pub fn products(
     p: &[u64],
     lp: &[u32],
-    li: &[u32],
+    li: &[u8],
     m: usize,
     r: usize,
     q: usize,
@@ -83,6 +109,43 @@ pub fn products(
     places(p, q, &li[a..t], a as u32, index, start)
 }
 
+// Does a list read the marks of a row?
+fn reads_marks(which: Which) -> bool
+    ensures { λ r. ⌜ r ≡ marksRead which ⌝ }
+{
+    match which {
+        Which::AnormIndptr => true,
+        Which::AnormIndptrI => true,
+        Which::AnormIndptrJ => true,
+        Which::AnormIndices => true,
+        Which::LdecompIndptr => false,
+        Which::LdecompIndptrI => false,
+        Which::LdecompIndptrJ => false,
+        Which::Lindptr => false,
+        Which::LdiagIndptr => false,
+        Which::Lindices => false,
+    }
+}
+
+// Row i marked for a list that reads the marks.
+fn mark_for(
+    which: Which,
+    off: &[u32],
+    cols: &[u32],
+    m: usize,
+    wide: usize,
+    i: usize,
+    mark: &mut [u32],
+)
+    requires { ⌜ Grid (now off) (now cols) m wide × (i < m) × (wide ≤ length (now mark)) × ((c : ℕ) → c < wide → getD (now mark) c 0 ≤ getD (now off) i 0) ⌝ }
+    ensures now { λ _. ⌜ (marksRead which ≡ true → Marked (now (mark .exit)) (getD (now (off .entry)) i 0) (row (now (off .entry)) (now (cols .entry)) i) wide) ⌝ }
+    ensures next { λ _. ⌜ ((c : ℕ) → c < wide → getD (now (mark .exit)) c 0 ≤ getD (now (off .entry)) (i + 1) 0) ⌝ }
+{
+    if reads_marks(which) {
+        shared::mark_row(off, cols, m, wide, i, mark);
+    }
+}
+
 // What a list of ends counts at (i, j). Row i is marked.
 pub fn weigh(
     which: Which,
@@ -95,7 +158,7 @@ pub fn weigh(
     i: usize,
     j: usize,
 ) -> u32
-    requires { ⌜ Ready (now off) (now cols) m (now p) × (i < m) × (j ≤ i) × Grid (now off) (now cols) m wide × (wide ≤ length (now mark)) × Marked (now mark) (getD (now off) i 0) (row (now off) (now cols) i) wide ⌝ }
+    requires { ⌜ Ready (now off) (now cols) m (now p) × (i < m) × (j ≤ i) × Grid (now off) (now cols) m wide × (wide ≤ length (now mark)) × (marksRead which ≡ true → Marked (now mark) (getD (now off) i 0) (row (now off) (now cols) i) wide) ⌝ }
     ensures { λ r. ⌜ (r ≡ weight (shape (now (off .entry)) (now (cols .entry))) which i j) × (r ≤ 16384) ⌝ }
 {
     match which {
@@ -123,7 +186,7 @@ pub fn put_piece(
     m: usize,
     p: &[u64],
     lp: &[u32],
-    li: &[u32],
+    li: &[u8],
     wide: usize,
     mark: &[u32],
     i: usize,
@@ -133,7 +196,7 @@ pub fn put_piece(
     index: &mut [u32],
     start: usize,
 ) -> usize
-    requires { ⌜ Ready (now off) (now cols) m (now p) × Rows (bit (now p)) (now lp) (now li) m × (i < m) × (getD (now lp) i 0 ≤ t) × (t < getD (now lp) (i + 1) 0) × (j ≡ getD (now li) t 0) × (n ≡ before (weight (shape (now off) (now cols)) which) i (suc j)) × (start + length (piece (shape (now off) (now cols)) which i j) ≤ length (now index)) × Grid (now off) (now cols) m wide × (wide ≤ length (now mark)) × Marked (now mark) (getD (now off) i 0) (row (now off) (now cols) i) wide ⌝ }
+    requires { ⌜ Ready (now off) (now cols) m (now p) × Rows (bit (now p)) (now lp) (now li) m × (i < m) × (getD (now lp) i 0 ≤ t) × (t < getD (now lp) (i + 1) 0) × (j ≡ getD (now li) t 0) × (n ≡ before (weight (shape (now off) (now cols)) which) i (suc j)) × (start + length (piece (shape (now off) (now cols)) which i j) ≤ length (now index)) × Grid (now off) (now cols) m wide × (wide ≤ length (now mark)) × (marksRead which ≡ true → Marked (now mark) (getD (now off) i 0) (row (now off) (now cols) i) wide) ⌝ }
     ensures { λ r. ⌜ Wrote (now (index .entry)) (now (index .exit)) start (piece (shape (now (off .entry)) (now (cols .entry))) which i j) r ⌝ }
 {
     match which {
@@ -206,7 +269,7 @@ pub fn fill_row(
     m: usize,
     p: &[u64],
     lp: &[u32],
-    li: &[u32],
+    li: &[u8],
     wide: usize,
     mark: &[u32],
     i: usize,
@@ -214,7 +277,7 @@ pub fn fill_row(
     index: &mut [u32],
     start: usize,
 ) -> Spot
-    requires { ⌜ Ready (now off) (now cols) m (now p) × Rows (bit (now p)) (now lp) (now li) m × (i < m) × (count ≡ before (weight (shape (now off) (now cols)) which) i 0) × (count ≤ 4210688 * i) × (start + length (cat (i + 1) (piece (shape (now off) (now cols)) which i)) ≤ length (now index)) × Grid (now off) (now cols) m wide × (wide ≤ length (now mark)) × Marked (now mark) (getD (now off) i 0) (row (now off) (now cols) i) wide ⌝ }
+    requires { ⌜ Ready (now off) (now cols) m (now p) × Rows (bit (now p)) (now lp) (now li) m × (i < m) × (count ≡ before (weight (shape (now off) (now cols)) which) i 0) × (count ≤ 4210688 * i) × (start + length (cat (i + 1) (piece (shape (now off) (now cols)) which i)) ≤ length (now index)) × Grid (now off) (now cols) m wide × (wide ≤ length (now mark)) × (marksRead which ≡ true → Marked (now mark) (getD (now off) i 0) (row (now off) (now cols) i) wide) ⌝ }
     ensures { λ r. ⌜ Wrote (now (index .entry)) (now (index .exit)) start (cat (i + 1) (piece (shape (now (off .entry)) (now (cols .entry))) which i)) (r .at) × (r .n ≡ before (weight (shape (now (off .entry)) (now (cols .entry))) which) (i + 1) 0) × (r .n ≤ 4210688 * (i + 1)) ⌝ }
 {
     let b = shared::word_at(lp, i + 1);
@@ -222,7 +285,7 @@ pub fn fill_row(
     let mut n = count;
     let mut t = shared::word_at(lp, i);
     while t < b {
-        let j = shared::word_at(li, t);
+        let j = byte_at(li, t);
         n += weigh(which, off, cols, m, p, wide, mark, i, j);
         at = put_piece(
             which,
@@ -254,7 +317,7 @@ pub fn fill(
     m: usize,
     p: &[u64],
     lp: &[u32],
-    li: &[u32],
+    li: &[u8],
     wide: usize,
     mark: &mut [u32],
     index: &mut [u32],
@@ -267,7 +330,7 @@ pub fn fill(
     let mut n: u32 = 0;
     let mut i: usize = 0;
     while i < m {
-        shared::mark_row(off, cols, m, wide, i, mark);
+        mark_for(which, off, cols, m, wide, i, mark);
         let s = fill_row(which, off, cols, m, p, lp, li, wide, mark, i, n, index, at);
         at = s.at;
         n = s.n;
@@ -283,7 +346,7 @@ pub fn put_ten(
     m: usize,
     p: &[u64],
     lp: &[u32],
-    li: &[u32],
+    li: &[u8],
     wide: usize,
     mark: &mut [u32],
     index: &mut [u32],
@@ -322,7 +385,7 @@ pub fn put_plan(
     n: usize,
     p: &[u64],
     lp: &[u32],
-    li: &[u32],
+    li: &[u8],
     mark: &mut [u32],
     next: &mut [u32],
     again: &mut [u32],
@@ -332,8 +395,8 @@ pub fn put_plan(
     ensures { λ r. ⌜ Wrote (now (index .entry)) (now (index .exit)) 0 (planOf (shape (now (off .entry)) (now (cols .entry))) m n) r ⌝ }
 {
     let a = put_ten(off, cols, m, p, lp, li, n, mark, index, 0);
-    let b = transpose::transpose(lp, li, m, m, next, again, index, a);
-    transpose::transpose(off, cols, m, n, next, again, index, b)
+    let b = transpose::transpose(Side::Factor, lp, cols, li, m, m, next, again, index, a);
+    transpose::transpose(Side::Matrix, off, cols, li, m, n, next, again, index, b)
 }
 
 // E, S and D.
@@ -351,7 +414,7 @@ fn count_all(
     columns: &[u32],
     p: &[u64],
     lp: &[u32],
-    li: &[u32],
+    li: &[u8],
     next: &mut [u32],
 ) -> Tally
     requires { ⌜ Accepted (now offsets) (now columns) m n × Ready (now offsets) (now columns) m (now p) × Rows (bit (now p)) (now lp) (now li) m × Room m n (now next) ⌝ }
@@ -359,9 +422,9 @@ fn count_all(
 {
     let e = pattern::count(p, m);
     lists::clear(next, n);
-    let s = transpose::count_rows(offsets, columns, m, n, next);
+    let s = transpose::count_rows(Side::Matrix, offsets, columns, li, m, n, next);
     lists::clear(next, m);
-    let b = transpose::count_rows(lp, li, m, m, next);
+    let b = transpose::count_rows(Side::Factor, lp, columns, li, m, m, next);
     Tally {
         e,
         s,
@@ -379,28 +442,28 @@ fn words(m: usize, n: usize, t: usize, sizes: Tally) -> usize
     5 * e + 3 * sizes.s + 2 * d + 3 * m + n + 2 * t + 5
 }
 
-// The counts of a matrix that is accepted, and the plan where it is wanted and has room; the memories are long enough.
+// The counts of a matrix that is accepted, and the plan where E is below a bound and it has room; the memories are long enough.
 fn plan_in(
     m: usize,
     n: usize,
     offsets: &[u32],
     columns: &[u32],
     lp: &mut [u32],
-    li: &mut [u32],
+    li: &mut [u8],
     mark: &mut [u32],
     next: &mut [u32],
     again: &mut [u32],
     index: &mut [u32],
-    wanted: bool,
+    below: usize,
 ) -> Tally
     requires { ⌜ Accepted (now offsets) (now columns) m n × (m < length (now lp)) × (sum m suc ≤ length (now li)) × (length (now li) ≤ 65536) × (n ≤ length (now mark)) × Room m n (now next) × Room m n (now again) ⌝ }
-    ensures { λ r. ⌜ Counted m n (now (offsets .entry)) (now (columns .entry)) wanted (now (index .entry)) (now (index .exit)) (r .e) (r .s) (r .d) ⌝ }
+    ensures { λ r. ⌜ Counted m n (now (offsets .entry)) (now (columns .entry)) below (now (index .entry)) (now (index .exit)) (r .e) (r .s) (r .d) ⌝ }
 {
     let mut p = [0u64; 1024];
     pattern::pattern(offsets, columns, m, &mut p);
     list_rows(&p, m, lp, li);
     let t = count_all(m, n, offsets, columns, &p, lp, li, next);
-    if !wanted {
+    if below <= t.e as usize {
         return t;
     }
     if index.len() < words(m, n, columns.len(), t) {
@@ -415,8 +478,6 @@ const FEW_ROWS: usize = 16;
 
 const FEW_COLUMNS: usize = 32;
 
-const SOME_ROWS: usize = 64;
-
 // At most 16 rows and 32 columns.
 fn plan_few(
     m: usize,
@@ -424,13 +485,13 @@ fn plan_few(
     offsets: &[u32],
     columns: &[u32],
     index: &mut [u32],
-    wanted: bool,
+    below: usize,
 ) -> Tally
     requires { ⌜ Accepted (now offsets) (now columns) m n × (m ≤ 16) × (n ≤ 32) ⌝ }
-    ensures { λ r. ⌜ Counted m n (now (offsets .entry)) (now (columns .entry)) wanted (now (index .entry)) (now (index .exit)) (r .e) (r .s) (r .d) ⌝ }
+    ensures { λ r. ⌜ Counted m n (now (offsets .entry)) (now (columns .entry)) below (now (index .entry)) (now (index .exit)) (r .e) (r .s) (r .d) ⌝ }
 {
     let mut lp = [0u32; 17];
-    let mut li = [0u32; 136];
+    let mut li = [0u8; 136];
     let mut mark = [0u32; 33];
     let mut next = [0u32; 33];
     let mut again = [0u32; 33];
@@ -445,39 +506,7 @@ fn plan_few(
         &mut next,
         &mut again,
         index,
-        wanted,
-    )
-}
-
-// At most 64 rows.
-fn plan_some(
-    m: usize,
-    n: usize,
-    offsets: &[u32],
-    columns: &[u32],
-    index: &mut [u32],
-    wanted: bool,
-) -> Tally
-    requires { ⌜ Accepted (now offsets) (now columns) m n × (m ≤ 64) ⌝ }
-    ensures { λ r. ⌜ Counted m n (now (offsets .entry)) (now (columns .entry)) wanted (now (index .entry)) (now (index .exit)) (r .e) (r .s) (r .d) ⌝ }
-{
-    let mut lp = [0u32; 65];
-    let mut li = [0u32; 2080];
-    let mut mark = [0u32; 1025];
-    let mut next = [0u32; 1025];
-    let mut again = [0u32; 1025];
-    plan_in(
-        m,
-        n,
-        offsets,
-        columns,
-        &mut lp,
-        &mut li,
-        &mut mark,
-        &mut next,
-        &mut again,
-        index,
-        wanted,
+        below,
     )
 }
 
@@ -488,13 +517,13 @@ fn plan_many(
     offsets: &[u32],
     columns: &[u32],
     index: &mut [u32],
-    wanted: bool,
+    below: usize,
 ) -> Tally
     requires { ⌜ Accepted (now offsets) (now columns) m n ⌝ }
-    ensures { λ r. ⌜ Counted m n (now (offsets .entry)) (now (columns .entry)) wanted (now (index .entry)) (now (index .exit)) (r .e) (r .s) (r .d) ⌝ }
+    ensures { λ r. ⌜ Counted m n (now (offsets .entry)) (now (columns .entry)) below (now (index .entry)) (now (index .exit)) (r .e) (r .s) (r .d) ⌝ }
 {
     let mut lp = [0u32; 257];
-    let mut li = [0u32; 32896];
+    let mut li = [0u8; 32896];
     let mut mark = [0u32; 1025];
     let mut next = [0u32; 1025];
     let mut again = [0u32; 1025];
@@ -509,49 +538,27 @@ fn plan_many(
         &mut next,
         &mut again,
         index,
-        wanted,
+        below,
     )
 }
 
-// The counts, and the plan where it is wanted and has room.
-fn plan_sized(
+// E, S and D, and the plan where E is below a bound and the index memory has room.
+pub fn plan_below(
     m: usize,
     n: usize,
     offsets: &[u32],
     columns: &[u32],
     index: &mut [u32],
-    wanted: bool,
+    below: usize,
 ) -> Tally
     requires { ⌜ Accepted (now offsets) (now columns) m n ⌝ }
-    ensures { λ r. ⌜ Counted m n (now (offsets .entry)) (now (columns .entry)) wanted (now (index .entry)) (now (index .exit)) (r .e) (r .s) (r .d) ⌝ }
+    ensures { λ r. ⌜ Counted m n (now (offsets .entry)) (now (columns .entry)) below (now (index .entry)) (now (index .exit)) (r .e) (r .s) (r .d) ⌝ }
 {
-    if m <= SOME_ROWS {
-        if m <= FEW_ROWS && n <= FEW_COLUMNS {
-            plan_few(m, n, offsets, columns, index, wanted)
-        } else {
-            plan_some(m, n, offsets, columns, index, wanted)
-        }
+    if m <= FEW_ROWS && n <= FEW_COLUMNS {
+        plan_few(m, n, offsets, columns, index, below)
     } else {
-        plan_many(m, n, offsets, columns, index, wanted)
+        plan_many(m, n, offsets, columns, index, below)
     }
-}
-
-// E, S and D of a matrix that is accepted.
-pub fn sizes(m: usize, n: usize, offsets: &[u32], columns: &[u32]) -> Tally
-    requires { ⌜ Accepted (now offsets) (now columns) m n ⌝ }
-    ensures { λ r. ⌜ (r .e ≡ countE (now (offsets .entry)) (now (columns .entry)) m) × (r .s ≡ countS (now (offsets .entry)) (now (columns .entry)) m) × (r .d ≡ countD (now (offsets .entry)) (now (columns .entry)) m) × (r .s ≤ 16777216) ⌝ }
-{
-    let mut none = [0u32; 1];
-    plan_sized(m, n, offsets, columns, &mut none, false)
-}
-
-// The plan of a matrix that is accepted, to the first words of an index memory with room for it.
-pub fn write_plan(offsets: &[u32], columns: &[u32], m: usize, n: usize, index: &mut [u32]) -> usize
-    requires { ⌜ Accepted (now offsets) (now columns) m n × (sizeW (now offsets) (now columns) m n ≤ length (now index)) ⌝ }
-    ensures { λ r. ⌜ (now (index .exit) ≡ planWords (now (offsets .entry)) (now (columns .entry)) m n ++ drop (sizeW (now (offsets .entry)) (now (columns .entry)) m n) (now (index .entry))) × (r ≡ sizeW (now (offsets .entry)) (now (columns .entry)) m n) ⌝ }
-{
-    let t = plan_sized(m, n, offsets, columns, index, true);
-    words(m, n, columns.len(), t)
 }
 
 // The answer of plan: its words, or the first no.
@@ -559,6 +566,9 @@ pub enum PlanAnswer {
     Planned(usize),
     Refused(Refusal),
 }
+
+// Above every E.
+const ANY_SIZE: usize = 65536;
 
 // Question 6, and the plan of a matrix that is accepted.
 fn plan_accepted(
@@ -571,7 +581,7 @@ fn plan_accepted(
     requires { ⌜ Accepted (now offsets) (now columns) m n ⌝ }
     ensures { λ r. ⌜ Answered m n (now (offsets .entry)) (now (columns .entry)) (now (index .entry)) (now (index .exit)) (told r) ⌝ }
 {
-    let t = plan_sized(m, n, offsets, columns, index, true);
+    let t = plan_below(m, n, offsets, columns, index, ANY_SIZE);
     let w = words(m, n, columns.len(), t);
     if index.len() < w {
         PlanAnswer::Refused(Refusal::new(Refusal::INDEX_MEMORY, 0, 0))

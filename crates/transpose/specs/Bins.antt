@@ -14,8 +14,14 @@ use Rattle.lists.specs.Cat.{cat}
 use Rattle.lists.specs.Lists.{shape, holds, entry, column, inColumn, sideOf}
 use Rattle.lists.specs.declared.What.{What}
 use Rattle.lists.specs.declared.What.the-variants.{Numbers}
-use Rattle.lists.specs.declared.Side.the-variants.{Matrix}
+use Rattle.lists.specs.declared.Side.{Side}
+use Rattle.lists.specs.declared.Side.the-variants.{Factor, Matrix}
 use Rattle.csr.specs.Counts.{sum}
+
+-- the columns of a side: the matrix's stand in words, the factor's in bytes
+abbrev pub colsOf : Side → List ℕ → List ℕ → List ℕ
+colsOf Factor cols bytes = bytes
+colsOf Matrix cols bytes = cols
 
 -- bin c has room for `size c` words and holds the list `held c`; next c is where its next word goes
 pub record Bins (index next : List ℕ) (start n : ℕ) (size : ℕ → ℕ) (held : ℕ → List ℕ) : Type 0 where

@@ -6,8 +6,9 @@ ghost use Rattle.csr.specs.Counts.{sum, common, countS};
 ghost use Rattle.csr.specs.Pattern.{row};
 ghost use lib.Seq.{sets};
 ghost use Rattle.lists.specs.Cat.{Wrote, cat};
-ghost use Rattle.transpose.specs.Bins.{Bins, rowsOf, roomOf, Outside, Grid, Tally, Starts, seen, endsFrom, sideIn};
+ghost use Rattle.transpose.specs.Bins.{Bins, rowsOf, roomOf, Outside, Grid, Tally, Starts, seen, endsFrom, sideIn, colsOf};
 ghost use Rattle.lists.specs.Lists.{told};
+use lists::Side;
 use lists::What;
 
 // One more word into the bin of column e.
@@ -28,6 +29,17 @@ fn at(s: &[u32], i: usize) -> usize
     s[i] as usize
 }
 
+// Entry k of the columns: the matrix's are words, the factor's are bytes.
+fn column_at(side: Side, cols: &[u32], bytes: &[u8], k: usize) -> usize
+    requires { ⌜ k < length (colsOf side (now cols) (now bytes)) ⌝ }
+    ensures { λ r. ⌜ r ≡ getD (colsOf side (now (cols .entry)) (now (bytes .entry))) k 0 ⌝ }
+{
+    match side {
+        Side::Factor => bytes[k] as usize,
+        Side::Matrix => cols[k] as usize,
+    }
+}
+
 fn of_entry(what: What, i: u32, place: u32) -> u32
     ensures { λ r. ⌜ r ≡ told what i place ⌝ }
 {
@@ -39,9 +51,11 @@ fn of_entry(what: What, i: u32, place: u32) -> u32
 
 // The entries of row i, each into its column's bin.
 pub fn scatter_row(
+    side: Side,
     what: What,
     off: &[u32],
     cols: &[u32],
+    bytes: &[u8],
     m: usize,
     n: usize,
     i: usize,
@@ -49,14 +63,14 @@ pub fn scatter_row(
     next: &mut [u32],
     start: usize,
 )
-    requires { ⌜ Grid (now off) (now cols) m n × (i < m) × (n ≤ length (now next)) × (start + sum n (roomOf (now off) (now cols) m) ≤ length (now index)) × (sum n (roomOf (now off) (now cols) m) ≤ 262144) × Bins (now index) (now next) start n (roomOf (now off) (now cols) m) (rowsOf (now off) (now cols) what i) ⌝ }
-    ensures { λ _. ⌜ Bins (now (index .exit)) (now (next .exit)) start n (roomOf (now (off .entry)) (now (cols .entry)) m) (rowsOf (now (off .entry)) (now (cols .entry)) what (i + 1)) × Outside (now (index .entry)) (now (index .exit)) start (start + sum n (roomOf (now (off .entry)) (now (cols .entry)) m)) ⌝ }
+    requires { ⌜ Grid (now off) (colsOf side (now cols) (now bytes)) m n × (i < m) × (n ≤ length (now next)) × (start + sum n (roomOf (now off) (colsOf side (now cols) (now bytes)) m) ≤ length (now index)) × (sum n (roomOf (now off) (colsOf side (now cols) (now bytes)) m) ≤ 262144) × Bins (now index) (now next) start n (roomOf (now off) (colsOf side (now cols) (now bytes)) m) (rowsOf (now off) (colsOf side (now cols) (now bytes)) what i) ⌝ }
+    ensures { λ _. ⌜ Bins (now (index .exit)) (now (next .exit)) start n (roomOf (now (off .entry)) (colsOf side (now (cols .entry)) (now (bytes .entry))) m) (rowsOf (now (off .entry)) (colsOf side (now (cols .entry)) (now (bytes .entry))) what (i + 1)) × Outside (now (index .entry)) (now (index .exit)) start (start + sum n (roomOf (now (off .entry)) (colsOf side (now (cols .entry)) (now (bytes .entry))) m)) ⌝ }
 {
     let a = at(off, i);
     let b = at(off, i + 1);
     let mut k = a;
     while k < b {
-        let e = at(cols, k);
+        let e = column_at(side, cols, bytes, k);
         let x = of_entry(what, i as u32, k as u32);
         put_in(index, next, start, e, x);
         k += 1;
@@ -74,16 +88,25 @@ pub fn bump(next: &mut [u32], e: usize) -> usize
 }
 
 // The entries of row i, each counted in its column: how many columns it shares with the rows up to it.
-pub fn count_row(off: &[u32], cols: &[u32], m: usize, n: usize, i: usize, next: &mut [u32]) -> usize
-    requires { ⌜ Grid (now off) (now cols) m n × (i < m) × (n ≤ length (now next)) × Tally (now next) n (seen (now off) (now cols) i) ⌝ }
-    ensures { λ r. ⌜ Tally (now (next .exit)) n (seen (now (off .entry)) (now (cols .entry)) (i + 1)) × (r ≡ sum (suc i) (λ j. common (row (now (off .entry)) (now (cols .entry)) i) (row (now (off .entry)) (now (cols .entry)) j))) × (r ≤ 256 * (getD (now (off .entry)) (i + 1) 0 - getD (now (off .entry)) i 0)) ⌝ }
+pub fn count_row(
+    side: Side,
+    off: &[u32],
+    cols: &[u32],
+    bytes: &[u8],
+    m: usize,
+    n: usize,
+    i: usize,
+    next: &mut [u32],
+) -> usize
+    requires { ⌜ Grid (now off) (colsOf side (now cols) (now bytes)) m n × (i < m) × (n ≤ length (now next)) × Tally (now next) n (seen (now off) (colsOf side (now cols) (now bytes)) i) ⌝ }
+    ensures { λ r. ⌜ Tally (now (next .exit)) n (seen (now (off .entry)) (colsOf side (now (cols .entry)) (now (bytes .entry))) (i + 1)) × (r ≡ sum (suc i) (λ j. common (row (now (off .entry)) (colsOf side (now (cols .entry)) (now (bytes .entry))) i) (row (now (off .entry)) (colsOf side (now (cols .entry)) (now (bytes .entry))) j))) × (r ≤ 256 * (getD (now (off .entry)) (i + 1) 0 - getD (now (off .entry)) i 0)) ⌝ }
 {
     let a = at(off, i);
     let b = at(off, i + 1);
     let mut s: usize = 0;
     let mut k = a;
     while k < b {
-        let e = at(cols, k);
+        let e = column_at(side, cols, bytes, k);
         s += bump(next, e);
         k += 1;
     }
@@ -91,14 +114,22 @@ pub fn count_row(off: &[u32], cols: &[u32], m: usize, n: usize, i: usize, next: 
 }
 
 // How many entries each column has, and S.
-pub fn count_rows(off: &[u32], cols: &[u32], m: usize, n: usize, next: &mut [u32]) -> usize
-    requires { ⌜ Grid (now off) (now cols) m n × (n ≤ length (now next)) × ((c : ℕ) → c < n → getD (now next) c 0 ≡ 0) ⌝ }
-    ensures { λ r. ⌜ Tally (now (next .exit)) n (seen (now (off .entry)) (now (cols .entry)) m) × (r ≡ countS (now (off .entry)) (now (cols .entry)) m) × (r ≤ 16777216) ⌝ }
+pub fn count_rows(
+    side: Side,
+    off: &[u32],
+    cols: &[u32],
+    bytes: &[u8],
+    m: usize,
+    n: usize,
+    next: &mut [u32],
+) -> usize
+    requires { ⌜ Grid (now off) (colsOf side (now cols) (now bytes)) m n × (n ≤ length (now next)) × ((c : ℕ) → c < n → getD (now next) c 0 ≡ 0) ⌝ }
+    ensures { λ r. ⌜ Tally (now (next .exit)) n (seen (now (off .entry)) (colsOf side (now (cols .entry)) (now (bytes .entry))) m) × (r ≡ countS (now (off .entry)) (colsOf side (now (cols .entry)) (now (bytes .entry))) m) × (r ≤ 16777216) ⌝ }
 {
     let mut s: usize = 0;
     let mut i: usize = 0;
     while i < m {
-        s += count_row(off, cols, m, n, i, next);
+        s += count_row(side, off, cols, bytes, m, n, i, next);
         i += 1;
     }
     s
@@ -141,29 +172,33 @@ pub fn put_ends(
 
 // The entries of all rows, each into its column's bin.
 pub fn scatter(
+    side: Side,
     what: What,
     off: &[u32],
     cols: &[u32],
+    bytes: &[u8],
     m: usize,
     n: usize,
     index: &mut [u32],
     next: &mut [u32],
     start: usize,
 )
-    requires { ⌜ Grid (now off) (now cols) m n × (n ≤ length (now next)) × (start + sum n (roomOf (now off) (now cols) m) ≤ length (now index)) × Starts (now next) n (roomOf (now off) (now cols) m) ⌝ }
-    ensures { λ _. ⌜ now (index .exit) ≡ sets (now (index .entry)) start (cat n (rowsOf (now (off .entry)) (now (cols .entry)) what m)) ⌝ }
+    requires { ⌜ Grid (now off) (colsOf side (now cols) (now bytes)) m n × (n ≤ length (now next)) × (start + sum n (roomOf (now off) (colsOf side (now cols) (now bytes)) m) ≤ length (now index)) × Starts (now next) n (roomOf (now off) (colsOf side (now cols) (now bytes)) m) ⌝ }
+    ensures { λ _. ⌜ now (index .exit) ≡ sets (now (index .entry)) start (cat n (rowsOf (now (off .entry)) (colsOf side (now (cols .entry)) (now (bytes .entry))) what m)) ⌝ }
 {
     let mut i: usize = 0;
     while i < m {
-        scatter_row(what, off, cols, m, n, i, index, next, start);
+        scatter_row(side, what, off, cols, bytes, m, n, i, index, next, start);
         i += 1;
     }
 }
 
 // The three lists of the transpose: ends, rows and places. Two memories hold a word for each column.
 pub fn transpose(
+    side: Side,
     off: &[u32],
     cols: &[u32],
+    bytes: &[u8],
     m: usize,
     n: usize,
     next: &mut [u32],
@@ -171,14 +206,25 @@ pub fn transpose(
     index: &mut [u32],
     start: usize,
 ) -> usize
-    requires { ⌜ Grid (now off) (now cols) m n × (start + length (sideIn (now off) (now cols) m n) ≤ length (now index)) × (n < length (now next)) × (n < length (now again)) ⌝ }
-    ensures { λ r. ⌜ Wrote (now (index .entry)) (now (index .exit)) start (sideIn (now (off .entry)) (now (cols .entry)) m n) r ⌝ }
+    requires { ⌜ Grid (now off) (colsOf side (now cols) (now bytes)) m n × (start + length (sideIn (now off) (colsOf side (now cols) (now bytes)) m n) ≤ length (now index)) × (n < length (now next)) × (n < length (now again)) ⌝ }
+    ensures { λ r. ⌜ Wrote (now (index .entry)) (now (index .exit)) start (sideIn (now (off .entry)) (colsOf side (now (cols .entry)) (now (bytes .entry))) m n) r ⌝ }
 {
     lists::clear(next, n);
-    count_rows(off, cols, m, n, next);
+    count_rows(side, off, cols, bytes, m, n, next);
     let a = put_ends(n, index, next, again, start);
     let t = at(again, n);
-    scatter(What::Numbers, off, cols, m, n, index, next, a);
-    scatter(What::Places, off, cols, m, n, index, again, a + t);
+    scatter(side, What::Numbers, off, cols, bytes, m, n, index, next, a);
+    scatter(
+        side,
+        What::Places,
+        off,
+        cols,
+        bytes,
+        m,
+        n,
+        index,
+        again,
+        a + t,
+    );
     a + t + t
 }

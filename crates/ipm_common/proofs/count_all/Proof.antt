@@ -22,19 +22,19 @@ count-rows-requires c κs =
     (accepted-grid (a .offsets .now) (a .columns .now) (a .m) (a .n) (s .pre .0), omega (arith, s .pre .3 .columns, c .before .before .before .clear .kept .0), c .before .before .before .clear .ensures)
 
 clear-requires-2 : tie.Need-clear-requires-2
-clear-requires-2 c κs = omega (arith, c .before .before .before .before .before .before .before .before .before .before .before .before .before .before .before .before .pre .3 .rows, c .before .before .before .before .before .before .before .clear .kept .0, c .before .before .before .count-rows .kept .1 .1 .1 .1 .0)
+clear-requires-2 c κs = omega (arith, c .before .before .before .before .before .before .before .before .before .before .before .before .before .before .before .before .pre .3 .rows, c .before .before .before .before .before .before .before .clear .kept .0, c .before .before .before .count-rows .kept .1 .1 .1 .1 .1 .1 .0)
 
 count-rows-requires-2 : tie.Need-count-rows-requires-2
 count-rows-requires-2 c κs =
     let s = c .before .before .before .before .before .before .before .before .before .before .before .before .before .before .before .before .before .before .before .before in
     let a = s .args in
-    (rows-grid (bit (a .p .now)) (a .lp .now) (a .li .now) (a .m) (s .pre .2), omega (arith, s .pre .3 .rows, c .before .before .before .before .before .before .before .before .before .before .before .clear .kept .0, c .before .before .before .before .before .before .before .count-rows .kept .1 .1 .1 .1 .0, c .before .before .before .clear2 .kept .0), c .before .before .before .clear2 .ensures)
+    (rows-grid (bit (a .p .now)) (a .lp .now) (a .li .now) (a .m) (s .pre .2), omega (arith, s .pre .3 .rows, c .before .before .before .before .before .before .before .before .before .before .before .clear .kept .0, c .before .before .before .before .before .before .before .count-rows .kept .1 .1 .1 .1 .1 .1 .0, c .before .before .before .clear2 .kept .0), c .before .before .before .clear2 .ensures)
 
-cast-t21 : tie.Need-cast-t21
-cast-t21 c = omega (arith, c .before .before .count-rows2 .ensures .2)
+cast-t22 : tie.Need-cast-t22
+cast-t22 c = omega (arith, c .before .before .count-rows2 .ensures .2)
 
-sub-t22 : tie.Need-sub-t22
-sub-t22 c =
+sub-t23 : tie.Need-sub-t23
+sub-t23 c =
     let s = c .before .before .before .before .before .before .before .before .before .before .before .before .before .before .before .before .before .before .before .before .before .before .before in
     let a = s .args in
     let e = count-E (a .offsets .now) (a .columns .now) (a .p .now) (a .m) (s .pre .0 .csr .few) (s .pre .1 .rows) in
@@ -42,7 +42,7 @@ sub-t22 c =
     omega (arith, c .before .before .before .before .before .before .before .before .before .before .before .before .before .before .before .before .count .ensures, e, c .before .before .count-rows2 .ensures .1, d)
 
 same-length : tie.Need-same-length
-same-length c = c .before .before .count-rows2 .kept .1 .1 .1 .1 .0 ∙ c .before .before .before .before .before .before .clear2 .kept .0 ∙ c .before .before .before .before .before .before .before .before .before .before .count-rows .kept .1 .1 .1 .1 .0 ∙ c .before .before .before .before .before .before .before .before .before .before .before .before .before .before .clear .kept .0
+same-length c = c .before .before .count-rows2 .kept .1 .1 .1 .1 .1 .1 .0 ∙ c .before .before .before .before .before .before .clear2 .kept .0 ∙ c .before .before .before .before .before .before .before .before .before .before .count-rows .kept .1 .1 .1 .1 .1 .1 .0 ∙ c .before .before .before .before .before .before .before .before .before .before .before .before .before .before .clear .kept .0
 
 returns : tie.Need-returns
 returns c =
@@ -66,7 +66,7 @@ count-all-spec =
     count-rows-requires
     clear-requires-2
     count-rows-requires-2
-    cast-t21
-    sub-t22
+    cast-t22
+    sub-t23
     same-length
     returns)

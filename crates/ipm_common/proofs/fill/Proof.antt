@@ -36,8 +36,8 @@ loop-holds c =
     let a = s .args in
     (omega arith, refl, sym (before-start (weight (shape (a .off .now) (a .cols .now)) (a .which))), omega arith, turns.rows-start (shape (a .off .now) (a .cols .now)) (a .which) (c .before .before .keep .last .0) (c .before .before .keep .result), refl, s .pre .5)
 
-mark-row-requires : tie.Need-mark-row-requires Inv-loop μ-loop
-mark-row-requires c κs =
+mark-for-requires : tie.Need-mark-for-requires Inv-loop μ-loop
+mark-for-requires c κs =
     let s = c .before .before .before .before .before .before .before .before .before .before .before .before .before .before .before in
     let l = c .before .before .loop in
     (s .pre .3, c .before .loop-test .taken, omega (arith, s .pre .4, l .inv .5), l .inv .6)
@@ -48,7 +48,7 @@ fill-row-requires c κs =
     let a = s .args in
     let l = c .before .before .before .before .before .before .before .loop in
     let k = c .before .before .before .before .before .before .before .before .before .before .keep in
-    let r = c .before .before .before .before .mark-row in (
+    let r = c .before .before .before .before .mark-for in (
       s .pre .0,
       s .pre .1,
       c .before .before .before .before .before .before .loop-test .taken,
@@ -57,7 +57,7 @@ fill-row-requires c κs =
       turns.row-room (shape (a .off .now) (a .cols .now)) (a .which) (a .m) (l .i) (a .start) (length (l .index)) (k .result) (l .at) (c .before .before .before .before .before .before .loop-test .taken) (omega (arith, s .pre .2, l .inv .1, k .kept .0))
           (k .ensures .next ∙ ap (λ (t : Bool). a .start + length (pick t 0)) (c .before .before .before .before .before .before .before .before .before .before .before .has-head .ensures)) (l .inv .4 .next),
       s .pre .3,
-      omega (arith, s .pre .4, l .inv .5, r .kept .1 .1 .1 .1 .1 .0),
+      omega (arith, s .pre .4, l .inv .5, r .kept .1 .1 .1 .1 .1 .1 .0),
       r .ensures .0,
     )
 
@@ -73,9 +73,9 @@ loop-again c =
     let a = s .args in
     let l = c .before .before .before .before .before .before .before .before .before .before .loop in
     let k = c .before .before .before .before .before .before .before .before .before .before .before .before .before .keep in
-    let r = c .before .before .before .before .before .before .before .mark-row in
+    let r = c .before .before .before .before .before .before .before .mark-for in
     let q = c .before .before .fill-row in
-    (omega (arith, c .before .before .before .before .before .before .before .before .before .loop-test .taken), q .kept .1 .1 .1 .1 .1 .1 .1 .1 .1 .1 .1 .0 ∙ l .inv .1, q .ensures .1, q .ensures .2, turns.rows-next (shape (a .off .now) (a .cols .now)) (a .which) (k .last .0) (l .index) (q .last .1 .1 .1 .1 .1 .1 .1 .1 .1 .1 .1 .0) (k .result) (l .at) (q .result .at) (l .i) (l .inv .4) (q .ensures .0), r .kept .1 .1 .1 .1 .1 .0 ∙ l .inv .5, r .ensures .1)
+    (omega (arith, c .before .before .before .before .before .before .before .before .before .loop-test .taken), q .kept .1 .1 .1 .1 .1 .1 .1 .1 .1 .1 .1 .0 ∙ l .inv .1, q .ensures .1, q .ensures .2, turns.rows-next (shape (a .off .now) (a .cols .now)) (a .which) (k .last .0) (l .index) (q .last .1 .1 .1 .1 .1 .1 .1 .1 .1 .1 .1 .0) (k .result) (l .at) (q .result .at) (l .i) (l .inv .4) (q .ensures .0), r .kept .1 .1 .1 .1 .1 .1 .0 ∙ l .inv .5, r .ensures .1)
 
 same-length : tie.Need-same-length Inv-loop μ-loop
 same-length c = c .before .loop .inv .5
@@ -100,7 +100,7 @@ fill-spec =
     has-head-requires
     keep-requires
     loop-holds
-    mark-row-requires
+    mark-for-requires
     fill-row-requires
     add-i
     loop-less

@@ -40,8 +40,8 @@ loop-holds c =
       turns.turned-start (a .off .now) (a .cols .now) (a .m) (a .p .now) (s .pre .0) (a .lp .now) (a .li .now) (s .pre .1) (a .which) (a .i) (s .pre .2) (a .index .now) (a .start) (a .count) (w .result - getD (a .lp .now) (a .i) 0) (omega (arith, w .ensures)),
     )
 
-word-at-requires-3 : tie.Need-word-at-requires-3 Inv-loop μ-loop
-word-at-requires-3 c κs =
+byte-at-requires : tie.Need-byte-at-requires Inv-loop μ-loop
+byte-at-requires c κs =
     let s = c .before .before .before .before .before .before .before .before .before .before .before in
     let a = s .args in
     let l = c .before .loop in
@@ -52,14 +52,14 @@ weigh-requires c κs =
     let s = c .before .before .before .before .before .before .before .before .before .before .before .before in
     let a = s .args in
     let l = c .before .before .loop in
-    (s .pre .0, s .pre .2, st.le (a .off .now) (a .cols .now) (a .m) (a .p .now) (s .pre .0) (a .lp .now) (a .li .now) (s .pre .1) (a .i) (c .word-at3 .result) (l .t) (s .pre .2) (l .inv .0) (omega (arith, c .before .loop-test .taken, c .before .before .before .before .word-at .ensures)) (c .word-at3 .ensures), s .pre .6, s .pre .7, s .pre .8)
+    (s .pre .0, s .pre .2, st.le (a .off .now) (a .cols .now) (a .m) (a .p .now) (s .pre .0) (a .lp .now) (a .li .now) (s .pre .1) (a .i) (c .byte-at .result) (l .t) (s .pre .2) (l .inv .0) (omega (arith, c .before .loop-test .taken, c .before .before .before .before .word-at .ensures)) (c .byte-at .ensures), s .pre .6, s .pre .7, s .pre .8)
 
 add-n : tie.Need-add-n Inv-loop μ-loop
 add-n c =
     let s = c .before .before .before .before .before .before .before .before .before .before .before .before .before in
     let a = s .args in
     let l = c .before .before .before .loop in
-    let few = turns.turn-few (a .off .now) (a .cols .now) (a .m) (a .p .now) (s .pre .0) (a .lp .now) (a .li .now) (s .pre .1) (a .which) (a .i) (s .pre .2) (l .t) (c .before .word-at3 .result) (l .inv .0) (omega (arith, c .before .before .loop-test .taken, c .before .before .before .before .before .word-at .ensures)) (c .before .word-at3 .ensures) (a .index .now) (l .index) (a .start) (l .at) (a .count) (l .n) (l .inv .3) (omega (arith, s .pre .2, s .pre .1 .few)) in
+    let few = turns.turn-few (a .off .now) (a .cols .now) (a .m) (a .p .now) (s .pre .0) (a .lp .now) (a .li .now) (s .pre .1) (a .which) (a .i) (s .pre .2) (l .t) (c .before .byte-at .result) (l .inv .0) (omega (arith, c .before .before .loop-test .taken, c .before .before .before .before .before .word-at .ensures)) (c .before .byte-at .ensures) (a .index .now) (l .index) (a .start) (l .at) (a .count) (l .n) (l .inv .3) (omega (arith, s .pre .2, s .pre .1 .few)) in
     omega (arith, few, l .inv .3 .small, s .pre .4, s .pre .2, s .pre .1 .few, c .weigh .ensures .1)
 
 put-piece-requires : tie.Need-put-piece-requires Inv-loop μ-loop
@@ -67,7 +67,7 @@ put-piece-requires c κs =
     let s = c .before .before .before .before .before .before .before .before .before .before .before .before .before .before in
     let a = s .args in
     let l = c .before .before .before .before .loop in
-    let j = c .before .before .word-at3 in
+    let j = c .before .before .byte-at in
     let up : l .t < getD (a .lp .now) (a .i + 1) 0 = omega (arith, c .before .before .before .loop-test .taken, c .before .before .before .before .before .before .word-at .ensures) in (
       s .pre .0,
       s .pre .1,
@@ -97,7 +97,7 @@ loop-again c =
     let s = c .before .before .before .before .before .before .before .before .before .before .before .before .before .before .before .before .before in
     let a = s .args in
     let l = c .before .before .before .before .before .before .before .loop in
-    let j = c .before .before .before .before .before .word-at3 in
+    let j = c .before .before .before .before .before .byte-at in
     let q = c .before .before .put-piece in
     let up : l .t < getD (a .lp .now) (a .i + 1) 0 = omega (arith, c .before .before .before .before .before .before .loop-test .taken, c .before .before .before .before .before .before .before .before .before .word-at .ensures) in (
       omega (arith, l .inv .0),
@@ -126,7 +126,7 @@ fill-row-spec =
     word-at-requires
     word-at-requires-2
     loop-holds
-    word-at-requires-3
+    byte-at-requires
     weigh-requires
     add-n
     put-piece-requires

@@ -24,11 +24,11 @@ loop-holds c =
 test-requires : tie.Need-test-requires Inv-loop μ-loop
 test-requires c κs = let s = c .before .before .before .before .before in (s .pre .0, s .pre .1, omega (arith, s .pre .1, c .before .loop-test .taken))
 
-cast-keep : tie.Need-cast-keep Inv-loop μ-loop
-cast-keep c = let s = c .before .before .before .before .before .before in omega (arith, s .pre .1, c .before .before .loop-test .taken)
+cast-keep-byte : tie.Need-cast-keep-byte Inv-loop μ-loop
+cast-keep-byte c = let s = c .before .before .before .before .before .before in omega (arith, s .pre .1, c .before .before .loop-test .taken)
 
-keep-requires : tie.Need-keep-requires Inv-loop μ-loop
-keep-requires c κs =
+keep-byte-requires : tie.Need-keep-byte-requires Inv-loop μ-loop
+keep-byte-requires c κs =
     let s = c .before .before .before .before .before .before in
     let a = s .args in
     let l = c .before .before .before .loop in
@@ -45,7 +45,7 @@ loop-again c =
     let s = c .before .before .before .before .before .before .before .before .before in
     let a = s .args in
     let l = c .before .before .before .before .before .before .loop in
-    let q = c .before .before .keep in
+    let q = c .before .before .keep-byte in
     (omega (arith, c .before .before .before .before .before .loop-test .taken), q .kept .0 ∙ l .inv .1, law.row-next (bit (a .p .now) (a .i)) (a .li .now) (l .li) (q .last .0) (a .start) (l .at) (q .result) (l .k) (c .before .before .before .test .result) (l .inv .2) (c .before .before .before .test .ensures) (q .ensures))
 
 same-length : tie.Need-same-length Inv-loop μ-loop
@@ -66,8 +66,8 @@ list-row-spec =
     μ-loop
     loop-holds
     test-requires
-    cast-keep
-    keep-requires
+    cast-keep-byte
+    keep-byte-requires
     add-k
     loop-less
     loop-again

@@ -28,13 +28,13 @@ loop-holds c =
     let a = c .before .before .before .args in
     (omega arith, refl, thru.places-start (bit (a .p .now) (a .q)) (a .index .now) (a .l .now) (a .start) (a .base))
 
-word-at-requires : tie.Need-word-at-requires Inv-loop μ-loop
-word-at-requires c κs = c .loop-test .taken
+byte-at-requires : tie.Need-byte-at-requires Inv-loop μ-loop
+byte-at-requires c κs = c .loop-test .taken
 
 test-requires : tie.Need-test-requires Inv-loop μ-loop
 test-requires c κs =
     let s = c .before .before .before .before .before .before .before in
-    (s .pre .0, s .pre .1, subst (λ (x : ℕ). x < 256) (sym (c .before .word-at .ensures)) (below-at 256 (s .args .l .now) (c .before .before .before .loop .t) (s .pre .2) (c .before .before .loop-test .taken)))
+    (s .pre .0, s .pre .1, subst (λ (x : ℕ). x < 256) (sym (c .before .byte-at .ensures)) (below-at 256 (s .args .l .now) (c .before .before .before .loop .t) (s .pre .2) (c .before .before .loop-test .taken)))
 
 cast-keep : tie.Need-cast-keep Inv-loop μ-loop
 cast-keep c = let s = c .before .before .before .before .before .before .before .before in omega (arith, s .pre .3, c .before .before .before .loop-test .taken)
@@ -54,7 +54,7 @@ keep-requires c κs =
       thru.places-room h (a .l .now) (a .base) (l .t + 1) (omega arith),
       ap length (thru.places-next h (a .l .now) (l .t) (a .base) lt),
       length-append (placesOf h (a .base) (take (l .t) (a .l .now))) (pick (h (getD (a .l .now) (l .t) 0)) (a .base + l .t)),
-      ap (λ (x : Bool). length (pick x (a .base + l .t))) (c .test .ensures ∙ ap h (c .before .before .word-at .ensures)),
+      ap (λ (x : Bool). length (pick x (a .base + l .t))) (c .test .ensures ∙ ap h (c .before .before .byte-at .ensures)),
       l .inv .2 .next,
       l .inv .1,
       s .pre .4,
@@ -76,7 +76,7 @@ loop-again c =
     let h : ℕ → Bool = bit (a .p .now) (a .q) in (
       omega arith,
       q .kept .0 ∙ l .inv .1,
-      wrote-as (a .index .now) (q .last .0) (a .start) (q .result) _ _ (ap (λ (x : Bool). placesOf h (a .base) (take (l .t) (a .l .now)) ++ pick x (a .base + l .t)) (c .before .before .before .test .ensures ∙ ap h (c .before .before .before .before .before .word-at .ensures)) ∙ sym (thru.places-next h (a .l .now) (l .t) (a .base) lt))
+      wrote-as (a .index .now) (q .last .0) (a .start) (q .result) _ _ (ap (λ (x : Bool). placesOf h (a .base) (take (l .t) (a .l .now)) ++ pick x (a .base + l .t)) (c .before .before .before .test .ensures ∙ ap h (c .before .before .before .before .before .byte-at .ensures)) ∙ sym (thru.places-next h (a .l .now) (l .t) (a .base) lt))
           (wrote-join (a .index .now) (l .index) (q .last .0) (a .start) (l .at) (q .result) _ _ (l .inv .2) (q .ensures)),
     )
 
@@ -96,7 +96,7 @@ places-spec =
     Inv-loop
     μ-loop
     loop-holds
-    word-at-requires
+    byte-at-requires
     test-requires
     cast-keep
     add-keep

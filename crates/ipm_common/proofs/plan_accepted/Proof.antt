@@ -7,15 +7,17 @@ use borrow.Author.Needs.{needs}
 use borrow.Author.Tests.{le-leb, lt-leb}
 use Rattle.csr.specs.Counts.{sizeW}
 use Rattle.ipm_common.specs.Plan.{roomVerdict}
+use Rattle.ipm_common.proofs.Lists.{tri-le, tri-256}
+use Rattle.ipm_common.proofs.Counted.{stored-few}
 use Rattle.ipm_common.proofs.Final as fin
 use Rattle.ipm_common.proofs.plan_accepted.Statement.{statement}
 use Rattle.ipm_common.proofs.plan_accepted.Tie as tie
 
-plan-sized-requires : tie.Need-plan-sized-requires
-plan-sized-requires c κs = search needs
+plan-below-requires : tie.Need-plan-below-requires
+plan-below-requires c κs = search needs
 
 words-requires : tie.Need-words-requires
-words-requires c κs = (c .before .before .before .before .before .before .before .pre .csr .few, c .before .before .before .before .before .before .before .pre .wide, c .before .before .before .before .before .before .before .pre .csr .nnz, c .before .before .plan-sized .ensures .sizes .few)
+words-requires c κs = (c .before .before .before .before .before .before .before .pre .csr .few, c .before .before .before .before .before .before .before .pre .wide, c .before .before .before .before .before .before .before .pre .csr .nnz, c .before .before .plan-below .ensures .sizes .few)
 
 new-requires : tie.Need-new-requires
 new-requires c κs = search needs
@@ -27,11 +29,11 @@ returns : tie.Need-returns
 unfolding roomVerdict
 returns c =
     let a = c .before .before .before .before .before .before .before .before .before .before .args in
-    let w : c .before .before .words .result ≡ sizeW (a .offsets .now) (a .columns .now) (a .m) (a .n) = c .before .before .words .ensures ∙ fin.words-are (a .offsets .now) (a .columns .now) (a .m) (a .n) _ _ _ (c .before .before .before .before .before .plan-sized .ensures .sizes) in
-    let short : length (a .index .now) < sizeW (a .offsets .now) (a .columns .now) (a .m) (a .n) = omega (arith, w, c .before .if1 .taken, c .before .before .before .before .before .plan-sized .kept .1 .1 .1 .1 .0) in
+    let w : c .before .before .words .result ≡ sizeW (a .offsets .now) (a .columns .now) (a .m) (a .n) = c .before .before .words .ensures ∙ fin.words-are (a .offsets .now) (a .columns .now) (a .m) (a .n) _ _ _ (c .before .before .before .before .before .plan-below .ensures .sizes) in
+    let short : length (a .index .now) < sizeW (a .offsets .now) (a .columns .now) (a .m) (a .n) = omega (arith, w, c .before .if1 .taken, c .before .before .before .before .before .plan-below .kept .1 .1 .1 .1 .0) in
     record {
       says = c .new .ensures ∙ rw (lt-leb _ _ short) refl;
-      words = c .before .before .before .before .before .plan-sized .ensures .words ∙ fin.written-no (a .m) (a .n) (a .offsets .now) (a .columns .now) (a .index .now) _ refl short;
+      words = c .before .before .before .before .before .plan-below .ensures .words ∙ fin.written-no (a .m) (a .n) (a .offsets .now) (a .columns .now) (a .index .now) _ short;
     }
 
 same-length-2 : tie.Need-same-length-2
@@ -41,14 +43,14 @@ returns-2 : tie.Need-returns-2
 unfolding roomVerdict
 returns-2 c =
     let a = c .before .before .before .before .before .before .before .before .before .args in
-    let w : c .before .words .result ≡ sizeW (a .offsets .now) (a .columns .now) (a .m) (a .n) = c .before .words .ensures ∙ fin.words-are (a .offsets .now) (a .columns .now) (a .m) (a .n) _ _ _ (c .before .before .before .before .plan-sized .ensures .sizes) in
-    let fits : sizeW (a .offsets .now) (a .columns .now) (a .m) (a .n) ≤ length (a .index .now) = omega (arith, w, c .if1 .left, c .before .before .before .before .plan-sized .kept .1 .1 .1 .1 .0) in
+    let w : c .before .words .result ≡ sizeW (a .offsets .now) (a .columns .now) (a .m) (a .n) = c .before .words .ensures ∙ fin.words-are (a .offsets .now) (a .columns .now) (a .m) (a .n) _ _ _ (c .before .before .before .before .plan-below .ensures .sizes) in
+    let fits : sizeW (a .offsets .now) (a .columns .now) (a .m) (a .n) ≤ length (a .index .now) = omega (arith, w, c .if1 .left, c .before .before .before .before .plan-below .kept .1 .1 .1 .1 .0) in
     record {
       says = rw (le-leb _ _ fits, w) refl;
-      words = c .before .before .before .before .plan-sized .ensures .words ∙ fin.written-yes (a .m) (a .n) (a .offsets .now) (a .columns .now) (a .index .now) _ refl fits;
+      words = c .before .before .before .before .plan-below .ensures .words ∙ fin.written-yes (a .m) (a .n) (a .offsets .now) (a .columns .now) (a .index .now) _ (omega (arith, stored-few (a .offsets .now) (a .columns .now) (a .m), tri-le (a .m) 256 (c .before .before .before .before .before .before .before .before .before .pre .csr .few), tri-256)) fits;
     }
 
 pub plan-accepted-spec : {M : Type 1} → statement M
 plan-accepted-spec =
     tie.close
-    (tie.spec plan-sized-requires words-requires new-requires same-length returns same-length-2 returns-2)
+    (tie.spec plan-below-requires words-requires new-requires same-length returns same-length-2 returns-2)

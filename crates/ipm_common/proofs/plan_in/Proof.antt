@@ -5,7 +5,6 @@ use Prim.Native.Nat.{ℕ, _≤_}
 use native.Mathlib.Omega.{arith}
 use lib.ListN.{length, drop}
 use borrow.Author.Needs.{needs}
-use borrow.Author.Tests.{not-true, not-false}
 use Rattle.csr.specs.Counts.{sizeW}
 use Rattle.pattern.proofs.Whole.{clear-zeros}
 use Rattle.pattern.proofs.Links.{inside}
@@ -37,6 +36,9 @@ slice-aggregate-count-all c = search needs
 count-all-requires : tie.Need-count-all-requires
 count-all-requires c κs = search needs
 
+cast-if1 : tie.Need-cast-if1
+cast-if1 c = search needs
+
 same-length : tie.Need-same-length
 same-length c = search needs
 
@@ -48,11 +50,11 @@ same-length-3 c = search needs
 
 returns : tie.Need-returns
 returns c =
-    let a = c .before .before .before .before .before .before .before .before .before .before .before .before .before .before .before .before .before .before .before .before .before .before .before .before .before .before .before .args in
-    record { sizes = c .before .before .before .count-all .ensures; words = sym (fin.written-off (a .m) (a .n) (a .offsets .now) (a .columns .now) (a .index .now) (a .wanted) (not-true (a .wanted) (c .if1 .taken))) }
+    let a = c .before .before .before .before .before .before .before .before .before .before .before .before .before .before .before .before .before .before .before .before .before .before .before .before .before .before .before .before .args in
+    record { sizes = c .before .before .before .before .count-all .ensures; words = sym (fin.written-off (a .m) (a .n) (a .offsets .now) (a .columns .now) (a .index .now) (a .below) (omega (arith, c .if1 .taken, c .before .before .before .before .count-all .ensures .stored))) }
 
 words-requires : tie.Need-words-requires
-words-requires c κs = (c .before .before .before .before .before .before .before .before .before .before .before .before .before .before .before .before .before .before .before .before .before .before .before .before .before .before .before .pre .0 .csr .few, c .before .before .before .before .before .before .before .before .before .before .before .before .before .before .before .before .before .before .before .before .before .before .before .before .before .before .before .pre .0 .wide, c .before .before .before .before .before .before .before .before .before .before .before .before .before .before .before .before .before .before .before .before .before .before .before .before .before .before .before .pre .0 .csr .nnz, c .before .before .before .count-all .ensures .few)
+words-requires c κs = (c .before .before .before .before .before .before .before .before .before .before .before .before .before .before .before .before .before .before .before .before .before .before .before .before .before .before .before .before .pre .0 .csr .few, c .before .before .before .before .before .before .before .before .before .before .before .before .before .before .before .before .before .before .before .before .before .before .before .before .before .before .before .before .pre .0 .wide, c .before .before .before .before .before .before .before .before .before .before .before .before .before .before .before .before .before .before .before .before .before .before .before .before .before .before .before .before .pre .0 .csr .nnz, c .before .before .before .before .count-all .ensures .few)
 
 same-length-4 : tie.Need-same-length-4
 same-length-4 c = search needs
@@ -65,11 +67,11 @@ same-length-6 c = search needs
 
 returns-2 : tie.Need-returns-2
 returns-2 c =
-    let a = c .before .before .before .before .before .before .before .before .before .before .before .before .before .before .before .before .before .before .before .before .before .before .before .before .before .before .before .before .before .args in
-    let w : c .before .words .result ≡ sizeW (a .offsets .now) (a .columns .now) (a .m) (a .n) = c .before .words .ensures ∙ fin.words-are (a .offsets .now) (a .columns .now) (a .m) (a .n) _ _ _ (c .before .before .before .before .before .count-all .ensures) in
+    let a = c .before .before .before .before .before .before .before .before .before .before .before .before .before .before .before .before .before .before .before .before .before .before .before .before .before .before .before .before .before .before .args in
+    let w : c .before .words .result ≡ sizeW (a .offsets .now) (a .columns .now) (a .m) (a .n) = c .before .words .ensures ∙ fin.words-are (a .offsets .now) (a .columns .now) (a .m) (a .n) _ _ _ (c .before .before .before .before .before .before .count-all .ensures) in
     record {
-      sizes = c .before .before .before .before .before .count-all .ensures;
-      words = sym (fin.written-no (a .m) (a .n) (a .offsets .now) (a .columns .now) (a .index .now) (a .wanted) (not-false (a .wanted) (c .before .before .if1 .left)) (omega (arith, w, c .if2 .taken)));
+      sizes = c .before .before .before .before .before .before .count-all .ensures;
+      words = sym (fin.written-no (a .m) (a .n) (a .offsets .now) (a .columns .now) (a .index .now) (a .below) (omega (arith, w, c .if2 .taken)));
     }
 
 slice-aggregate-put-plan : tie.Need-slice-aggregate-put-plan
@@ -77,14 +79,14 @@ slice-aggregate-put-plan c = search needs
 
 put-plan-requires : tie.Need-put-plan-requires
 put-plan-requires c κs =
-    let s = c .before .before .before .before .before .before .before .before .before .before .before .before .before .before .before .before .before .before .before .before .before .before .before .before .before .before .before .before .before .before .before .before .before .before .before .before in
+    let s = c .before .before .before .before .before .before .before .before .before .before .before .before .before .before .before .before .before .before .before .before .before .before .before .before .before .before .before .before .before .before .before .before .before .before .before .before .before in
     let a = s .args in
     let z = plan-size (a .offsets .now) (a .columns .now) (a .m) (a .n) (s .pre .0) in
-    let w : c .before .before .before .before .before .before .before .before .words .result ≡ sizeW (a .offsets .now) (a .columns .now) (a .m) (a .n) = c .before .before .before .before .before .before .before .before .words .ensures ∙ fin.words-are (a .offsets .now) (a .columns .now) (a .m) (a .n) _ _ _ (c .before .before .before .before .before .before .before .before .before .before .before .before .count-all .ensures) in
-    let l = c .before .before .before .before .before .before .before .before .before .before .before .before .count-all .kept .1 .1 .1 .1 .1 .1 .1 .0 in (
+    let w : c .before .before .before .before .before .before .before .before .words .result ≡ sizeW (a .offsets .now) (a .columns .now) (a .m) (a .n) = c .before .before .before .before .before .before .before .before .words .ensures ∙ fin.words-are (a .offsets .now) (a .columns .now) (a .m) (a .n) _ _ _ (c .before .before .before .before .before .before .before .before .before .before .before .before .before .count-all .ensures) in
+    let l = c .before .before .before .before .before .before .before .before .before .before .before .before .before .count-all .kept .1 .1 .1 .1 .1 .1 .1 .0 in (
       s .pre .0,
-      record { csr = s .pre .0 .csr; words = c .before .before .before .before .before .before .before .before .before .before .before .before .before .before .before .before .before .before .before .before .before .before .before .before .before .before .pattern .kept .1 .1 .1 .0; rows = c .before .before .before .before .before .before .before .before .before .before .before .before .before .before .before .before .before .before .before .before .before .before .before .before .before .before .pattern .ensures },
-      c .before .before .before .before .before .before .before .before .before .before .before .before .before .before .before .before .before .before .before .before .before .list-rows .ensures,
+      record { csr = s .pre .0 .csr; words = c .before .before .before .before .before .before .before .before .before .before .before .before .before .before .before .before .before .before .before .before .before .before .before .before .before .before .before .pattern .kept .1 .1 .1 .0; rows = c .before .before .before .before .before .before .before .before .before .before .before .before .before .before .before .before .before .before .before .before .before .before .before .before .before .before .before .pattern .ensures },
+      c .before .before .before .before .before .before .before .before .before .before .before .before .before .before .before .before .before .before .before .before .before .before .list-rows .ensures,
       omega (arith, z, w, c .before .before .before .before .before .before .before .if2 .left),
       s .pre .4,
       record { rows = omega (arith, s .pre .5 .rows, l); columns = omega (arith, s .pre .5 .columns, l) },
@@ -92,10 +94,10 @@ put-plan-requires c κs =
     )
 
 same-length-7 : tie.Need-same-length-7
-same-length-7 c = c .before .before .before .before .before .before .before .before .before .before .before .before .before .before .before .before .before .before .before .before .before .before .before .before .before .before .before .before .before .before .list-rows .kept .1 .1 .0
+same-length-7 c = c .before .before .before .before .before .before .before .before .before .before .before .before .before .before .before .before .before .before .before .before .before .before .before .before .before .before .before .before .before .before .before .list-rows .kept .1 .1 .0
 
 same-length-8 : tie.Need-same-length-8
-same-length-8 c = search needs
+same-length-8 c = c .before .before .before .before .before .before .before .before .before .before .before .before .before .before .before .before .before .before .before .before .before .before .before .before .before .before .before .before .before .before .before .list-rows .kept .1 .1 .1 .0
 
 same-length-9 : tie.Need-same-length-9
 same-length-9 c = c .before .before .before .before .before .before .before .before .put-plan .kept .1 .1 .1 .1 .1 .1 .1 .0
@@ -111,18 +113,18 @@ same-length-12 c = search needs
 
 returns-3 : tie.Need-returns-3
 returns-3 c =
-    let s = c .before .before .before .before .before .before .before .before .before .before .before .before .before .before .before .before .before .before .before .before .before .before .before .before .before .before .before .before .before .before .before .before .before .before .before .before .before .before .before .before .before .before .before .before .before in
+    let s = c .before .before .before .before .before .before .before .before .before .before .before .before .before .before .before .before .before .before .before .before .before .before .before .before .before .before .before .before .before .before .before .before .before .before .before .before .before .before .before .before .before .before .before .before .before .before in
     let a = s .args in
     let k = c .before .before .before .before .before .before .before .before .put-plan in
     let z = plan-size (a .offsets .now) (a .columns .now) (a .m) (a .n) (s .pre .0) in
-    let w : c .before .before .before .before .before .before .before .before .before .before .before .before .before .before .before .before .before .words .result ≡ sizeW (a .offsets .now) (a .columns .now) (a .m) (a .n) = c .before .before .before .before .before .before .before .before .before .before .before .before .before .before .before .before .before .words .ensures ∙ fin.words-are (a .offsets .now) (a .columns .now) (a .m) (a .n) _ _ _ (c .before .before .before .before .before .before .before .before .before .before .before .before .before .before .before .before .before .before .before .before .before .count-all .ensures) in
+    let w : c .before .before .before .before .before .before .before .before .before .before .before .before .before .before .before .before .before .words .result ≡ sizeW (a .offsets .now) (a .columns .now) (a .m) (a .n) = c .before .before .before .before .before .before .before .before .before .before .before .before .before .before .before .before .before .words .ensures ∙ fin.words-are (a .offsets .now) (a .columns .now) (a .m) (a .n) _ _ _ (c .before .before .before .before .before .before .before .before .before .before .before .before .before .before .before .before .before .before .before .before .before .before .count-all .ensures) in
     let fits : sizeW (a .offsets .now) (a .columns .now) (a .m) (a .n) ≤ length (a .index .now) = omega (arith, w, c .before .before .before .before .before .before .before .before .before .before .before .before .before .before .before .before .if2 .left) in
     let x = all.as-written (a .index .now) (k .last .1 .1 .1 .1 .1 .1 .1 .1 .1 .1 .0) (planOf (shape (a .offsets .now) (a .columns .now)) (a .m) (a .n)) (k .result) (omega (arith, fits, z)) (k .ensures) in
     record {
-      sizes = c .before .before .before .before .before .before .before .before .before .before .before .before .before .before .before .before .before .before .before .before .before .count-all .ensures;
+      sizes = c .before .before .before .before .before .before .before .before .before .before .before .before .before .before .before .before .before .before .before .before .before .before .count-all .ensures;
       words =
           x .0 ∙ ap (λ (y : ℕ). planOf (shape (a .offsets .now) (a .columns .now)) (a .m) (a .n) ++ drop y (a .index .now)) z
-          ∙ sym (fin.written-yes (a .m) (a .n) (a .offsets .now) (a .columns .now) (a .index .now) (a .wanted) (not-false (a .wanted) (c .before .before .before .before .before .before .before .before .before .before .before .before .before .before .before .before .before .before .if1 .left)) fits);
+          ∙ sym (fin.written-yes (a .m) (a .n) (a .offsets .now) (a .columns .now) (a .index .now) (a .below) (omega (arith, c .before .before .before .before .before .before .before .before .before .before .before .before .before .before .before .before .before .before .if1 .left, c .before .before .before .before .before .before .before .before .before .before .before .before .before .before .before .before .before .before .before .before .before .before .count-all .ensures .stored)) fits);
     }
 
 pub plan-in-spec : {M : Type 1} → statement M
@@ -135,6 +137,7 @@ plan-in-spec =
     list-rows-requires
     slice-aggregate-count-all
     count-all-requires
+    cast-if1
     same-length
     same-length-2
     same-length-3

@@ -12,13 +12,6 @@ use Rattle.ipm_common.proofs.products.Tie as tie
 word-at-requires : tie.Need-word-at-requires
 word-at-requires c κs = search needs
 
-mul-places : tie.Need-mul-places
-mul-places c =
-    let s = c .before .before .before .before .before in
-    let a = s .args in
-    let h = thru.cut-fits (a .p .now) (a .lp .now) (a .li .now) (a .m) (a .r) (a .q) (a .t) (c .word-at .result) (s .pre .1) (s .pre .2) (s .pre .4) (s .pre .5) (c .word-at .ensures) in
-    omega (arith, h .0, h .1, h .2)
-
 sub-places : tie.Need-sub-places
 sub-places c =
     let s = c .before .before .before .before .before in
@@ -65,7 +58,6 @@ products-spec =
     tie.close
     (tie.spec
     word-at-requires
-    mul-places
     sub-places
     part-places-start
     part-places-end

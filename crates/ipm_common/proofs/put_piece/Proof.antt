@@ -8,6 +8,7 @@ use Rattle.ipm_common.proofs.Stored as st
 use Rattle.lists.proofs.Pieces as old
 use Rattle.lists.specs.Lists.{weight, shape, piece, before}
 use Rattle.lists.specs.declared.Which.{Which}
+use Rattle.ipm_common.specs.Kept.{marksRead}
 use borrow.Author.Needs.{needs}
 use Rattle.ipm_common.proofs.put_piece.Statement.{statement}
 use Rattle.ipm_common.proofs.put_piece.Tie as tie
@@ -32,7 +33,7 @@ shared-marked-requires c κs =
     let a = s .args in
     let t = c .before .enum-told2 .given .1 in
     let e = ap (λ (w : Which). piece (shape (a .off .now) (a .cols .now)) w (a .i) (a .j)) t ∙ old.of-AnormIndptrI (a .off .now) (a .cols .now) (a .m) (a .p .now) (s .pre .0) (a .i) (a .j) (s .pre .2) (st.le (a .off .now) (a .cols .now) (a .m) (a .p .now) (s .pre .0) (a .lp .now) (a .li .now) (s .pre .1) (a .i) (a .j) (a .t) (s .pre .2) (s .pre .3) (s .pre .4) (s .pre .5)) in
-    (s .pre .8, s .pre .2, omega (arith, s .pre .2, st.le (a .off .now) (a .cols .now) (a .m) (a .p .now) (s .pre .0) (a .lp .now) (a .li .now) (s .pre .1) (a .i) (a .j) (a .t) (s .pre .2) (s .pre .3) (s .pre .4) (s .pre .5)), s .pre .9, s .pre .10, omega (arith, s .pre .7, ap length e))
+    (s .pre .8, s .pre .2, omega (arith, s .pre .2, st.le (a .off .now) (a .cols .now) (a .m) (a .p .now) (s .pre .0) (a .lp .now) (a .li .now) (s .pre .1) (a .i) (a .j) (a .t) (s .pre .2) (s .pre .3) (s .pre .4) (s .pre .5)), s .pre .9, s .pre .10 (ap marksRead t), omega (arith, s .pre .7, ap length e))
 
 enum-told-3 : tie.Need-enum-told-3
 enum-told-3 c = search needs
@@ -43,7 +44,7 @@ shared-marked-requires-2 c κs =
     let a = s .args in
     let t = c .before .enum-told3 .given .1 in
     let e = ap (λ (w : Which). piece (shape (a .off .now) (a .cols .now)) w (a .i) (a .j)) t ∙ old.of-AnormIndptrJ (a .off .now) (a .cols .now) (a .m) (a .p .now) (s .pre .0) (a .i) (a .j) (s .pre .2) (st.le (a .off .now) (a .cols .now) (a .m) (a .p .now) (s .pre .0) (a .lp .now) (a .li .now) (s .pre .1) (a .i) (a .j) (a .t) (s .pre .2) (s .pre .3) (s .pre .4) (s .pre .5)) in
-    (s .pre .8, s .pre .2, omega (arith, s .pre .2, st.le (a .off .now) (a .cols .now) (a .m) (a .p .now) (s .pre .0) (a .lp .now) (a .li .now) (s .pre .1) (a .i) (a .j) (a .t) (s .pre .2) (s .pre .3) (s .pre .4) (s .pre .5)), s .pre .9, s .pre .10, omega (arith, s .pre .7, ap length e))
+    (s .pre .8, s .pre .2, omega (arith, s .pre .2, st.le (a .off .now) (a .cols .now) (a .m) (a .p .now) (s .pre .0) (a .lp .now) (a .li .now) (s .pre .1) (a .i) (a .j) (a .t) (s .pre .2) (s .pre .3) (s .pre .4) (s .pre .5)), s .pre .9, s .pre .10 (ap marksRead t), omega (arith, s .pre .7, ap length e))
 
 enum-told-4 : tie.Need-enum-told-4
 enum-told-4 c = search needs
@@ -54,7 +55,7 @@ shared-marked-requires-3 c κs =
     let a = s .args in
     let t = c .before .enum-told4 .given .1 in
     let e = ap (λ (w : Which). piece (shape (a .off .now) (a .cols .now)) w (a .i) (a .j)) t ∙ old.of-AnormIndices (a .off .now) (a .cols .now) (a .m) (a .p .now) (s .pre .0) (a .i) (a .j) (s .pre .2) (st.le (a .off .now) (a .cols .now) (a .m) (a .p .now) (s .pre .0) (a .lp .now) (a .li .now) (s .pre .1) (a .i) (a .j) (a .t) (s .pre .2) (s .pre .3) (s .pre .4) (s .pre .5)) in
-    (s .pre .8, s .pre .2, omega (arith, s .pre .2, st.le (a .off .now) (a .cols .now) (a .m) (a .p .now) (s .pre .0) (a .lp .now) (a .li .now) (s .pre .1) (a .i) (a .j) (a .t) (s .pre .2) (s .pre .3) (s .pre .4) (s .pre .5)), s .pre .9, s .pre .10, omega (arith, s .pre .7, ap length e))
+    (s .pre .8, s .pre .2, omega (arith, s .pre .2, st.le (a .off .now) (a .cols .now) (a .m) (a .p .now) (s .pre .0) (a .lp .now) (a .li .now) (s .pre .1) (a .i) (a .j) (a .t) (s .pre .2) (s .pre .3) (s .pre .4) (s .pre .5)), s .pre .9, s .pre .10 (ap marksRead t), omega (arith, s .pre .7, ap length e))
 
 enum-told-5 : tie.Need-enum-told-5
 enum-told-5 c = search needs

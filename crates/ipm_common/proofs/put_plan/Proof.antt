@@ -28,7 +28,7 @@ transpose-requires-2 c κs =
     let a = s .args in
     let t = c .before .before .before .before .before .before .before .before .before .before .before .before .before .before .before .before .before .put-ten in
     let u = c .before .before .before .before .before .before .before .before .before .transpose in
-    (fin.accepted-grid (a .off .now) (a .cols .now) (a .m) (a .n) (s .pre .0), omega (arith, s .pre .3, fin.plan-long (a .off .now) (a .cols .now) (a .m) (a .n) (a .p .now) (a .lp .now) (a .li .now) (s .pre .1) (s .pre .2), t .kept .1 .1 .1 .1 .1 .1 .1 .1 .0, t .ensures .next, u .kept .1 .1 .1 .1 .1 .1 .0, u .ensures .next), omega (arith, s .pre .5 .columns, u .kept .1 .1 .1 .1 .0), omega (arith, s .pre .6 .columns, u .kept .1 .1 .1 .1 .1 .0))
+    (fin.accepted-grid (a .off .now) (a .cols .now) (a .m) (a .n) (s .pre .0), omega (arith, s .pre .3, fin.plan-long (a .off .now) (a .cols .now) (a .m) (a .n) (a .p .now) (a .lp .now) (a .li .now) (s .pre .1) (s .pre .2), t .kept .1 .1 .1 .1 .1 .1 .1 .1 .0, t .ensures .next, u .kept .1 .1 .1 .1 .1 .1 .1 .1 .0, u .ensures .next), omega (arith, s .pre .5 .columns, u .kept .1 .1 .1 .1 .1 .1 .0), omega (arith, s .pre .6 .columns, u .kept .1 .1 .1 .1 .1 .1 .1 .0))
 
 same-length : tie.Need-same-length
 same-length c = search needs
@@ -49,7 +49,7 @@ returns c =
     let t = c .before .before .before .before .before .before .before .before .before .before .before .before .before .before .before .before .before .before .before .before .before .before .before .before .put-ten in
     let u = c .before .before .before .before .before .before .before .before .before .before .before .before .before .before .before .before .transpose in
     let v = c .before .before .before .before .before .before .transpose2 in
-    fin.plan-wrote (a .off .now) (a .cols .now) (a .m) (a .n) (a .p .now) (a .lp .now) (a .li .now) (s .pre .1) (s .pre .2) (a .index .now) (t .last .1 .1 .1 .1 .1 .1 .1 .1 .0) (u .last .1 .1 .1 .1 .1 .1 .0) (v .last .1 .1 .1 .1 .1 .1 .0) (t .result) (u .result) (v .result) (t .ensures) (u .ensures) (v .ensures)
+    fin.plan-wrote (a .off .now) (a .cols .now) (a .m) (a .n) (a .p .now) (a .lp .now) (a .li .now) (s .pre .1) (s .pre .2) (a .index .now) (t .last .1 .1 .1 .1 .1 .1 .1 .1 .0) (u .last .1 .1 .1 .1 .1 .1 .1 .1 .0) (v .last .1 .1 .1 .1 .1 .1 .1 .1 .0) (t .result) (u .result) (v .result) (t .ensures) (u .ensures) (v .ensures)
 
 pub put-plan-spec : {M : Type 1} → statement M
 put-plan-spec =

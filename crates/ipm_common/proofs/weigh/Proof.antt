@@ -4,6 +4,7 @@ use mathlib.Core.Path.{sym, ap, _∙_}
 use native.Mathlib.Omega.{arith}
 use Rattle.csr.specs.Counts.{one}
 use Rattle.lists.specs.declared.Which.{Which}
+use Rattle.ipm_common.specs.Kept.{marksRead}
 use Rattle.lists.specs.Lists.{weight, shape}
 use Rattle.lists.proofs.Counts.{both-weight}
 use borrow.Author.Needs.{needs}
@@ -14,7 +15,7 @@ enum-told : tie.Need-enum-told
 enum-told c = search needs
 
 count-shared-requires : tie.Need-count-shared-requires
-count-shared-requires c κs = let s = c .before .before .before .before .before .before in (s .pre .3, s .pre .1, omega (arith, s .pre .1, s .pre .2), s .pre .4, s .pre .5)
+count-shared-requires c κs = let s = c .before .before .before .before .before .before in (s .pre .3, s .pre .1, omega (arith, s .pre .1, s .pre .2), s .pre .4, s .pre .5 (ap marksRead (c .enum-told .given .1)))
 
 cast-result : tie.Need-cast-result
 cast-result c = omega (arith, c .count-shared .ensures .1, c .before .before .before .before .before .before .before .pre .0 .csr .nnz)

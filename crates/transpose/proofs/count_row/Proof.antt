@@ -5,7 +5,7 @@ use mathlib.Core.List.{List}
 use native.Mathlib.Omega.{arith}
 use lib.ListN.{length, getD, set}
 use Rattle.lists.specs.declared.What.the-variants.{Numbers}
-use Rattle.transpose.specs.Bins.{inRow, Tally}
+use Rattle.transpose.specs.Bins.{inRow, Tally, colsOf}
 use Rattle.csr.specs.Pattern.{row}
 use lib.ListN.{take}
 use lib.Seq.{getD-set-same}
@@ -15,49 +15,49 @@ use Rattle.transpose.proofs.count_row.Statement.{statement}
 use Rattle.transpose.proofs.count_row.Tie as tie
 
 abbrev Inv-loop : tie.InvT-loop
-Inv-loop off cols m n i next₀ a b s₀ k₀ next s k =
-    (getD off i 0 ≤ k) × (length next ≡ length next₀) × Tally next n (inRow off cols Numbers i (k - getD off i 0)) × (k ≤ getD off (i + 1) 0) ×
-    (s ≡ pairs.over (pairs.upTo off cols i) (take (k - getD off i 0) (row off cols i))) × (s ≤ 256 * (k - getD off i 0))
+Inv-loop side off cols₀ bytes m n i next₀ a b s₀ k₀ next s k =
+    (getD off i 0 ≤ k) × (length next ≡ length next₀) × Tally next n (inRow off (colsOf side cols₀ bytes) Numbers i (k - getD off i 0)) × (k ≤ getD off (i + 1) 0) ×
+    (s ≡ pairs.over (pairs.upTo off (colsOf side cols₀ bytes) i) (take (k - getD off i 0) (row off (colsOf side cols₀ bytes) i))) × (s ≤ 256 * (k - getD off i 0))
 
 abbrev μ-loop : tie.MeasureT-loop
-μ-loop off cols m n i next₀ a b s₀ k₀ next s k = b - k
+μ-loop side off cols₀ bytes m n i next₀ a b s₀ k₀ next s k = b - k
 
 at-requires : tie.Need-at-requires Inv-loop μ-loop
-at-requires c κs = let s = c .before .before .before in omega (arith, s .pre .0 .offsets, s .pre .1)
+at-requires c κs = let s = c .before .before .before .before in omega (arith, s .pre .0 .offsets, s .pre .1)
 
 add-at : tie.Need-add-at Inv-loop μ-loop
-add-at c = let s = c .before .before .before .before in omega (arith, s .pre .0 .few, s .pre .1)
+add-at c = let s = c .before .before .before .before .before in omega (arith, s .pre .0 .few, s .pre .1)
 
 at-requires-2 : tie.Need-at-requires-2 Inv-loop μ-loop
-at-requires-2 c κs = let s = c .before .before .before .before in omega (arith, s .pre .0 .offsets, s .pre .1)
+at-requires-2 c κs = let s = c .before .before .before .before .before in omega (arith, s .pre .0 .offsets, s .pre .1)
 
 loop-holds : tie.Need-loop-holds Inv-loop μ-loop
 loop-holds c =
-    let s = c .before .before .before .before .before in
+    let s = c .before .before .before .before .before .before in
     let a = s .args in (
       omega (arith, c .before .at .ensures),
       refl,
-      law.count-start (a .off .now) (a .cols .now) (a .m) (a .n) (a .i) (s .pre .0) (s .pre .1) (a .next .now) (c .before .at .result) (c .before .at .ensures) (s .pre .3),
+      law.count-start (a .off .now) (colsOf (a .side) (a .cols .now) (a .bytes .now)) (a .m) (a .n) (a .i) (s .pre .0) (s .pre .1) (a .next .now) (c .before .at .result) (c .before .at .ensures) (s .pre .3),
       omega (arith, c .before .at .ensures, s .pre .0 .order (a .i) (s .pre .1)),
-      pairs.pairs-start (a .off .now) (a .cols .now) (a .m) (a .n) (a .i) (s .pre .0) (s .pre .1) (c .before .at .result) (c .before .at .ensures),
+      pairs.pairs-start (a .off .now) (colsOf (a .side) (a .cols .now) (a .bytes .now)) (a .m) (a .n) (a .i) (s .pre .0) (s .pre .1) (c .before .at .result) (c .before .at .ensures),
       omega arith,
     )
 
-at-requires-3 : tie.Need-at-requires-3 Inv-loop μ-loop
-at-requires-3 c κs =
-    let s = c .before .before .before .before .before .before .before in
+column-at-requires : tie.Need-column-at-requires Inv-loop μ-loop
+column-at-requires c κs =
+    let s = c .before .before .before .before .before .before .before .before in
     omega (arith, c .before .before .at2 .ensures, s .pre .0 .ends (s .args .i + 1) (omega (arith, s .pre .1)))
 
 bump-requires : tie.Need-bump-requires Inv-loop μ-loop
 bump-requires c κs =
-    let s = c .before .before .before .before .before .before .before .before .before in
+    let s = c .before .before .before .before .before .before .before .before .before .before in
     let a = s .args in
     let l = c .before .before .before .loop in
-    law.count-asks (a .off .now) (a .cols .now) (a .m) (a .n) (a .i) (s .pre .0) (s .pre .1) (l .k) (c .before .at3 .result) (l .inv .0) (omega (arith, c .before .before .before .before .at2 .ensures, c .before .before .loop-test .taken)) (c .before .at3 .ensures) (l .next) (omega (arith, s .pre .2, l .inv .1)) (l .inv .2)
+    law.count-asks (a .off .now) (colsOf (a .side) (a .cols .now) (a .bytes .now)) (a .m) (a .n) (a .i) (s .pre .0) (s .pre .1) (l .k) (c .before .column-at .result) (l .inv .0) (omega (arith, c .before .before .before .before .at2 .ensures, c .before .before .loop-test .taken)) (c .before .column-at .ensures) (l .next) (omega (arith, s .pre .2, l .inv .1)) (l .inv .2)
 
 add-s : tie.Need-add-s Inv-loop μ-loop
 add-s c =
-    let s = c .before .before .before .before .before .before .before .before .before .before .before .before in
+    let s = c .before .before .before .before .before .before .before .before .before .before .before .before .before in
     omega (
       arith,
       c .before .before .bump .ensures .0,
@@ -66,12 +66,12 @@ add-s c =
       c .before .before .before .before .before .before .before .at2 .ensures,
       s .pre .0 .ends (s .args .i + 1) (omega (arith, s .pre .1)),
       s .pre .0 .nnz,
-      law.count-asks (s .args .off .now) (s .args .cols .now) (s .args .m) (s .args .n) (s .args .i) (s .pre .0) (s .pre .1) (c .before .before .before .before .before .before .loop .k) (c .before .before .before .before .at3 .result) (c .before .before .before .before .before .before .loop .inv .0) (omega (arith, c .before .before .before .before .before .before .before .at2 .ensures, c .before .before .before .before .before .loop-test .taken)) (c .before .before .before .before .at3 .ensures) (c .before .before .before .before .before .before .loop .next) (omega (arith, s .pre .2, c .before .before .before .before .before .before .loop .inv .1)) (c .before .before .before .before .before .before .loop .inv .2) .1,
+      law.count-asks (s .args .off .now) (colsOf (s .args .side) (s .args .cols .now) (s .args .bytes .now)) (s .args .m) (s .args .n) (s .args .i) (s .pre .0) (s .pre .1) (c .before .before .before .before .before .before .loop .k) (c .before .before .before .before .column-at .result) (c .before .before .before .before .before .before .loop .inv .0) (omega (arith, c .before .before .before .before .before .before .before .at2 .ensures, c .before .before .before .before .before .loop-test .taken)) (c .before .before .before .before .column-at .ensures) (c .before .before .before .before .before .before .loop .next) (omega (arith, s .pre .2, c .before .before .before .before .before .before .loop .inv .1)) (c .before .before .before .before .before .before .loop .inv .2) .1,
     )
 
 add-k : tie.Need-add-k Inv-loop μ-loop
 add-k c =
-    let s = c .before .before .before .before .before .before .before .before .before .before .before .before in
+    let s = c .before .before .before .before .before .before .before .before .before .before .before .before .before in
     omega (arith, c .before .before .before .before .before .before .before .at2 .ensures, c .before .before .before .before .before .loop-test .taken, s .pre .0 .ends (s .args .i + 1) (omega (arith, s .pre .1)), s .pre .0 .nnz)
 
 loop-less : tie.Need-loop-less Inv-loop μ-loop
@@ -79,21 +79,21 @@ loop-less c = omega (arith, c .before .before .before .before .before .loop-test
 
 loop-again : tie.Need-loop-again Inv-loop μ-loop
 loop-again c =
-    let s = c .before .before .before .before .before .before .before .before .before .before .before .before in
+    let s = c .before .before .before .before .before .before .before .before .before .before .before .before .before in
     let a = s .args in
     let l = c .before .before .before .before .before .before .loop in
     let q = c .before .before .bump in
     let up : l .k < getD (a .off .now) (a .i + 1) 0 = omega (arith, c .before .before .before .before .before .before .before .at2 .ensures, c .before .before .before .before .before .loop-test .taken) in
     let long : a .n ≤ length (l .next) = omega (arith, s .pre .2, l .inv .1) in
-    let asks = law.count-asks (a .off .now) (a .cols .now) (a .m) (a .n) (a .i) (s .pre .0) (s .pre .1) (l .k) (c .before .before .before .before .at3 .result) (l .inv .0) up (c .before .before .before .before .at3 .ensures) (l .next) long (l .inv .2) in
-    let t = law.count-turn (a .off .now) (a .cols .now) (a .m) (a .n) (a .i) (s .pre .0) (s .pre .1) (l .k) (c .before .before .before .before .at3 .result) (l .inv .0) up (c .before .before .before .before .at3 .ensures) (l .next) long (l .inv .2) in (
+    let asks = law.count-asks (a .off .now) (colsOf (a .side) (a .cols .now) (a .bytes .now)) (a .m) (a .n) (a .i) (s .pre .0) (s .pre .1) (l .k) (c .before .before .before .before .column-at .result) (l .inv .0) up (c .before .before .before .before .column-at .ensures) (l .next) long (l .inv .2) in
+    let t = law.count-turn (a .off .now) (colsOf (a .side) (a .cols .now) (a .bytes .now)) (a .m) (a .n) (a .i) (s .pre .0) (s .pre .1) (l .k) (c .before .before .before .before .column-at .result) (l .inv .0) up (c .before .before .before .before .column-at .ensures) (l .next) long (l .inv .2) in (
       omega (arith, l .inv .0),
       q .kept .0 ∙ l .inv .1,
-      subst (λ (y : List ℕ). Tally y (a .n) (inRow (a .off .now) (a .cols .now) Numbers (a .i) (l .k + 1 - getD (a .off .now) (a .i) 0))) (sym (q .ensures .1)) t,
+      subst (λ (y : List ℕ). Tally y (a .n) (inRow (a .off .now) (colsOf (a .side) (a .cols .now) (a .bytes .now)) Numbers (a .i) (l .k + 1 - getD (a .off .now) (a .i) 0))) (sym (q .ensures .1)) t,
       omega (arith, up),
-      pairs.pairs-turn (a .off .now) (a .cols .now) (a .m) (a .n) (a .i) (s .pre .0) (s .pre .1) (l .k) (c .before .before .before .before .at3 .result) (l .inv .0) up (c .before .before .before .before .at3 .ensures)
-          (set (l .next) (c .before .before .before .before .at3 .result) (getD (l .next) (c .before .before .before .before .at3 .result) 0 + 1)) (l .s) (q .result) (l .inv .4)
-          (q .ensures .0 ∙ sym (getD-set-same (l .next) (c .before .before .before .before .at3 .result) (getD (l .next) (c .before .before .before .before .at3 .result) 0 + 1) 0 (asks .0))) t,
+      pairs.pairs-turn (a .off .now) (colsOf (a .side) (a .cols .now) (a .bytes .now)) (a .m) (a .n) (a .i) (s .pre .0) (s .pre .1) (l .k) (c .before .before .before .before .column-at .result) (l .inv .0) up (c .before .before .before .before .column-at .ensures)
+          (set (l .next) (c .before .before .before .before .column-at .result) (getD (l .next) (c .before .before .before .before .column-at .result) 0 + 1)) (l .s) (q .result) (l .inv .4)
+          (q .ensures .0 ∙ sym (getD-set-same (l .next) (c .before .before .before .before .column-at .result) (getD (l .next) (c .before .before .before .before .column-at .result) 0 + 1) 0 (asks .0))) t,
       omega (arith, l .inv .5, l .inv .0, q .ensures .0, asks .1),
     )
 
@@ -102,12 +102,12 @@ same-length c = c .before .loop .inv .1
 
 returns : tie.Need-returns Inv-loop μ-loop
 returns c =
-    let s = c .before .before .before .before .before .before .before in
+    let s = c .before .before .before .before .before .before .before .before in
     let a = s .args in
     let l = c .before .loop in
     let e : l .k ≡ getD (a .off .now) (a .i + 1) 0 = omega (arith, l .inv .3, c .before .before .at2 .ensures, c .loop-test .left) in (
-      law.count-end (a .off .now) (a .cols .now) (a .m) (a .n) (a .i) (s .pre .0) (s .pre .1) (l .next) (l .k) (omega (arith, e)) (l .inv .2),
-      pairs.pairs-end (a .off .now) (a .cols .now) (a .m) (a .n) (a .i) (s .pre .0) (s .pre .1) (l .k) (l .s) (omega (arith, e)) (l .inv .4),
+      law.count-end (a .off .now) (colsOf (a .side) (a .cols .now) (a .bytes .now)) (a .m) (a .n) (a .i) (s .pre .0) (s .pre .1) (l .next) (l .k) (omega (arith, e)) (l .inv .2),
+      pairs.pairs-end (a .off .now) (colsOf (a .side) (a .cols .now) (a .bytes .now)) (a .m) (a .n) (a .i) (s .pre .0) (s .pre .1) (l .k) (l .s) (omega (arith, e)) (l .inv .4),
       omega (arith, e, l .inv .5),
     )
 
@@ -121,7 +121,7 @@ count-row-spec =
     add-at
     at-requires-2
     loop-holds
-    at-requires-3
+    column-at-requires
     bump-requires
     add-s
     add-k

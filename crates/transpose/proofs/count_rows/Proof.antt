@@ -6,56 +6,56 @@ use lib.ListN.{length, getD}
 use Rattle.csr.specs.Counts.{sum, common, countS}
 use Rattle.csr.specs.Pattern.{row}
 use Rattle.lists.proofs.Walk.{sum-next}
-use Rattle.transpose.specs.Bins.{Tally, seen}
+use Rattle.transpose.specs.Bins.{Tally, seen, colsOf}
 use Rattle.transpose.proofs.Count as law
 use Rattle.transpose.proofs.count_rows.Statement.{statement}
 use Rattle.transpose.proofs.count_rows.Tie as tie
 
 abbrev Inv-loop : tie.InvT-loop
-Inv-loop off cols m n next₀ s₀ i₀ next s i =
-    (i ≤ m) × (length next ≡ length next₀) × Tally next n (seen off cols i) ×
-    (s ≡ sum i (λ a. sum (suc a) (λ b. common (row off cols a) (row off cols b)))) × (s ≤ 256 * getD off i 0)
+Inv-loop side off cols₀ bytes m n next₀ s₀ i₀ next s i =
+    (i ≤ m) × (length next ≡ length next₀) × Tally next n (seen off (colsOf side cols₀ bytes) i) ×
+    (s ≡ sum i (λ a. sum (suc a) (λ b. common (row off (colsOf side cols₀ bytes) a) (row off (colsOf side cols₀ bytes) b)))) × (s ≤ 256 * getD off i 0)
 
 abbrev μ-loop : tie.MeasureT-loop
-μ-loop off cols m n next₀ s₀ i₀ next s i = m - i
+μ-loop side off cols₀ bytes m n next₀ s₀ i₀ next s i = m - i
 
 loop-holds : tie.Need-loop-holds Inv-loop μ-loop
 unfolding sum
 loop-holds c =
-    let s = c .before .before .before in
+    let s = c .before .before .before .before in
     let a = s .args in
-    (omega arith, refl, law.seen-start (a .off .now) (a .cols .now) (a .n) (a .next .now) (s .pre .2), refl, omega arith)
+    (omega arith, refl, law.seen-start (a .off .now) (colsOf (a .side) (a .cols .now) (a .bytes .now)) (a .n) (a .next .now) (s .pre .2), refl, omega arith)
 
 count-row-requires : tie.Need-count-row-requires Inv-loop μ-loop
 count-row-requires c κs =
-    let s = c .before .before .before .before .before .before in
+    let s = c .before .before .before .before .before .before .before in
     let l = c .before .before .loop in
     (s .pre .0, c .before .loop-test .taken, omega (arith, s .pre .1, l .inv .1), l .inv .2)
 
 add-s : tie.Need-add-s Inv-loop μ-loop
 add-s c =
-    let s = c .before .before .before .before .before .before .before .before .before in
+    let s = c .before .before .before .before .before .before .before .before .before .before in
     let l = c .before .before .before .before .before .loop in
     let h : l .i < s .args .m = c .before .before .before .before .loop-test .taken in
     omega (arith, l .inv .4, c .before .before .count-row .ensures .2, s .pre .0 .order (l .i) h, s .pre .0 .ends (l .i + 1) (omega arith), s .pre .0 .nnz)
 
 add-i : tie.Need-add-i Inv-loop μ-loop
-add-i c = omega (arith, c .before .before .before .before .before .before .before .before .before .pre .0 .few, c .before .before .before .before .loop-test .taken)
+add-i c = omega (arith, c .before .before .before .before .before .before .before .before .before .before .pre .0 .few, c .before .before .before .before .loop-test .taken)
 
 loop-less : tie.Need-loop-less Inv-loop μ-loop
 loop-less c = omega (arith, c .before .before .before .before .loop-test .taken)
 
 loop-again : tie.Need-loop-again Inv-loop μ-loop
 loop-again c =
-    let s = c .before .before .before .before .before .before .before .before .before in
+    let s = c .before .before .before .before .before .before .before .before .before .before in
     let a = s .args in
     let l = c .before .before .before .before .before .loop in
     let q = c .before .before .count-row in
     let h : l .i < a .m = c .before .before .before .before .loop-test .taken in (
       omega (arith, h),
-      q .kept .1 .1 .1 .1 .1 .0 ∙ l .inv .1,
+      q .kept .1 .1 .1 .1 .1 .1 .1 .0 ∙ l .inv .1,
       q .ensures .0,
-      ap₂ _+_ (l .inv .3) (q .ensures .1) ∙ sym (sum-next (l .i) (λ x. sum (suc x) (λ y. common (row (a .off .now) (a .cols .now) x) (row (a .off .now) (a .cols .now) y)))),
+      ap₂ _+_ (l .inv .3) (q .ensures .1) ∙ sym (sum-next (l .i) (λ x. sum (suc x) (λ y. common (row (a .off .now) (colsOf (a .side) (a .cols .now) (a .bytes .now)) x) (row (a .off .now) (colsOf (a .side) (a .cols .now) (a .bytes .now)) y)))),
       omega (arith, l .inv .4, q .ensures .2, s .pre .0 .order (l .i) h),
     )
 
@@ -65,12 +65,12 @@ same-length c = c .before .loop .inv .1
 returns : tie.Need-returns Inv-loop μ-loop
 unfolding countS
 returns c =
-    let s = c .before .before .before .before .before in
+    let s = c .before .before .before .before .before .before in
     let a = s .args in
     let l = c .before .loop in
     let e : l .i ≡ a .m = omega (arith, l .inv .0, c .loop-test .left) in (
-      subst (λ (x : ℕ). Tally (l .next) (a .n) (seen (a .off .now) (a .cols .now) x)) e (l .inv .2),
-      l .inv .3 ∙ ap (λ (x : ℕ). sum x (λ y. sum (suc y) (λ z. common (row (a .off .now) (a .cols .now) y) (row (a .off .now) (a .cols .now) z)))) e,
+      subst (λ (x : ℕ). Tally (l .next) (a .n) (seen (a .off .now) (colsOf (a .side) (a .cols .now) (a .bytes .now)) x)) e (l .inv .2),
+      l .inv .3 ∙ ap (λ (x : ℕ). sum x (λ y. sum (suc y) (λ z. common (row (a .off .now) (colsOf (a .side) (a .cols .now) (a .bytes .now)) y) (row (a .off .now) (colsOf (a .side) (a .cols .now) (a .bytes .now)) z)))) e,
       omega (arith, l .inv .4, s .pre .0 .ends (l .i) (l .inv .0), s .pre .0 .nnz),
     )
 
