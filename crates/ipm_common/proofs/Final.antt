@@ -3,6 +3,7 @@ use mathlib.Core.Path.{_≡_, sym, ap, _∙_}
 use mathlib.Core.List.{List, _++_}
 use Prim.Native.Nat.{ℕ, _+_, _*_, _<_, _≤_}
 use native.Mathlib.Omega.{arith}
+use native.Mathlib.Decide.{decLt}
 use lib.ListN.{length, drop}
 use borrow.Author.Tests.{lt-leb, le-leb, lt-ltb, le-ltb}
 use lib.Dec.{ltb}
@@ -62,3 +63,11 @@ module _ (m n : ℕ) (off cols index : List ℕ) where
   pub written-yes : (below : ℕ) → countE off cols m < below → sizeW off cols m n ≤ length index → written below m n off cols index ≡ planWords off cols m n ++ drop (sizeW off cols m n) index
   unfolding written
   written-yes below e h = rw (lt-ltb (countE off cols m) below e, le-leb (sizeW off cols m n) (length index) h)
+
+  pub written-other : (below : ℕ) → (countE off cols m < below → sizeW off cols m n ≤ length index → ⊥) → written below m n off cols index ≡ index
+  written-other below never = go (decLt (countE off cols m) below) (decLt (length index) (sizeW off cols m n))
+    where
+      go : Dec (countE off cols m < below) → Dec (length index < sizeW off cols m n) → written below m n off cols index ≡ index
+      go (no h) x = written-off below (omega arith)
+      go (yes h) (yes l) = written-no below l
+      go (yes h) (no l) = absurd (never h (omega arith))

@@ -1,10 +1,10 @@
 -- What a yes at each of the questions says. Assumes nothing.
-use mathlib.Core.Path.{_≡_, refl}
+use mathlib.Core.Path.{_≡_, refl, sym, _∙_}
 use mathlib.Core.Bool.{Bool, true, false, not, _&&_}
 use mathlib.Core.List.{List}
-use Prim.Native.Nat.{ℕ, _+_, _*_, _≤_}
+use Prim.Native.Nat.{ℕ, _+_, _-_, _*_, _/_, _≤_}
 use native.Mathlib.Omega.{arith}
-use borrow.Author.Tests.{eqb-true, leb-true}
+use borrow.Author.Tests.{eqb-true, leb-true, le-leb, eq-eqb}
 use lib.Dec.{eqb, leb, ltb}
 use lib.ListN.{length, getD}
 use Rattle.csr.specs.Verdict.{Verdict, passed, refused, ask}
@@ -12,6 +12,10 @@ use Rattle.csr.specs.Questions.{maxEntries, firstFrom, falls, firstNo, offsetsR
 use Rattle.csr.proofs.Right.{and-left, and-right}
 use Rattle.machine.specs.Outcome.{largestLimit}
 use Rattle.ipm_simd.specs.Solve.{lengthsRight, sizesVerdict}
+use Rattle.ipm_simd.specs.Parts.{EntriesBelow}
+
+pub not-passed : (q p l : ℕ) → refused q p l ≡ passed → ⊥
+not-passed q p l h = let z : _≡_ {A = ℕ} 0 1 = cc in omega arith
 
 -- a question whose no is not the answer got a yes
 asked : (t : Bool) (next : Verdict) (q p l : ℕ) → ask t next (refused q p l) ≡ passed → (t ≡ true) × (next ≡ passed)
@@ -63,3 +67,41 @@ sizes-of W E m n s index b c tolerances output work N h =
       from = leb-true 1 N (and-left (leb 1 N) (leb N largestLimit) (h10 .0));
       upTo = leb-true N largestLimit (and-right (leb 1 N) (leb N largestLimit) (h10 .0));
     }
+
+-- and the other way
+sizes-yes : (W E m n s index b c tolerances output work N : ℕ) → Sizes W E m n s index b c tolerances output work N
+    → sizesVerdict W E m n s index b c tolerances output work N ≡ passed
+unfolding sizesVerdict
+sizes-yes W E m n s index b c tolerances output work N q =
+    simp (le-leb _ _ (q .index-long), le-leb _ _ (q .slack), eq-eqb _ _ (q .b-long), eq-eqb _ _ (q .c-long), eq-eqb _ _ (q .tolerances-long), eq-eqb _ _ (q .output-long), le-leb _ _ (q .work-long), le-leb _ _ (q .from), le-leb _ _ (q .upTo))
+
+module _ (m n s b c tolerances output work N : ℕ) where
+  -- the same lists, another W and another E
+  other : {W₀ E₀ l W E index : ℕ} → Sizes W₀ E₀ m n s l b c tolerances output work N → W ≤ index → 4 * (5 * n + 3 * m + 2 * s + E) ≤ work → Sizes W E m n s index b c tolerances output work N
+  other q i w = record {
+    index-long = i;
+    slack = q .slack;
+    b-long = q .b-long;
+    c-long = q .c-long;
+    tolerances-long = q .tolerances-long;
+    output-long = q .output-long;
+    work-long = w;
+    from = q .from;
+    upTo = q .upTo;
+  }
+
+  pub below-yes : sizesVerdict 0 0 m n s 0 b c tolerances output work N ≡ passed → EntriesBelow m n s b c tolerances output work N (work / 4 - (5 * n + 3 * m + 2 * s) + 1)
+  below-yes h =
+      let q = sizes-of 0 0 m n s 0 b c tolerances output work N h in
+      record {
+        yes = λ W E index i e. sizes-yes W E m n s index b c tolerances output work N (other q i (omega (arith, q .work-long, e)));
+        under = λ W E index v. omega (arith, sizes-of W E m n s index b c tolerances output work N v .work-long);
+      }
+
+  pub below-no : {q p l : ℕ} → sizesVerdict 0 0 m n s 0 b c tolerances output work N ≡ refused q p l → EntriesBelow m n s b c tolerances output work N 0
+  below-no {q} {p} {l} h = record {
+    yes = λ W E index i e. absurd (omega (arith, e));
+    under = λ W E index v.
+        let a = sizes-of W E m n s index b c tolerances output work N v in
+        absurd (not-passed q p l (sym h ∙ sizes-yes 0 0 m n s 0 b c tolerances output work N (other a (omega arith) (omega (arith, a .work-long)))));
+  }

@@ -36,9 +36,11 @@ use Rattle.run.specs.Tests.{memoryAt, Run}
 use Rattle.ipm_simd.specs.declared.SolveAnswer.{SolveAnswer}
 use Rattle.ipm_simd.specs.declared.SolveAnswer.the-variants as answers
 use Rattle.ipm_simd.specs.Solve.{Given, lent, call, words, room, plannedHas, told, outcomeVerdict, sizesVerdict, memoryVerdict, begun, solveVerdict, ifPassed, solveBuffers, Solved}
-use Rattle.ipm_simd.specs.Parts.{Counted, Planned, Asked10, written, Finished, Continued}
+use Rattle.ipm_simd.specs.Parts.{Counted, Planned, Asked10, EntriesBelow, written, Finished, Continued}
+use Rattle.ipm_common.specs.Plan.{written as indexed}
+use Rattle.ipm_common.proofs.Final.{written-yes, written-other}
 use Rattle.ipm_simd.proofs.Numbers.{rest-same}
-use Rattle.ipm_simd.proofs.Questions.{sizes-of}
+use Rattle.ipm_simd.proofs.Questions.{sizes-of, not-passed}
 
 -- ---- the index memory has room for the plan
 pub plan-room : {off cols : List ℕ} {vals : List Float} {m n s : ℕ} {index : List ℕ} {e h d : ℕ} → Planned off cols vals m n s index e h d
@@ -206,9 +208,6 @@ module _ (a : Given) {output work : List Float} {index : List ℕ} {e h d : ℕ}
       all = λ i. record { output = out i; index = plan i; work = clear i }
 
 -- ---- questions 6 to 10
-not-passed : (q p l : ℕ) → refused q p l ≡ passed → ⊥
-not-passed q p l h = let z : _≡_ {A = ℕ} 0 1 = cc in omega arith
-
 module _ (a : Given) (B : Buffers) where
   -- the verdict of questions 6 to 10, of the counted E, S and D
   memory-is : (e h d : ℕ) → Counted (a .offsets) (a .columns) (a .m) e h d
@@ -253,6 +252,18 @@ module _ (a : Given) (B : Buffers) where
           buffers = ap (λ (x : Verdict). ifPassed a x (leaves (call a) (words a) (room a) (a .limit) B) B) (sym z);
           demand3 = λ p. absurd (not-passed (r .question) (r .place) (r .lane) (sym z ∙ p));
         }
+
+    module _ (below : ℕ) (bound : EntriesBelow (a .m) (a .n) (a .s) (length (a .b)) (length (a .c)) (length (a .tolerances)) (length (B .output)) (length (B .work)) (a .limit) below) where
+      -- the index memory after ten yeses, and after a no
+      pub index-planned : passed ≡ verdict → indexed below (a .m) (a .n) (a .offsets) (a .columns) (B .index) ≡ words a ++ drop (sizeW (a .offsets) (a .columns) (a .m) (a .n)) (B .index)
+      index-planned v =
+          let q = sizes-of _ e (a .m) (a .n) (a .s) (length (B .index)) (length (a .b)) (length (a .c)) (length (a .tolerances)) (length (B .output)) (length (B .work)) (a .limit) (sym v) in
+          written-yes (a .m) (a .n) (a .offsets) (a .columns) (B .index) below (omega (arith, c .stored, bound .under _ e _ (sym v))) (omega (arith, words-of (a .offsets) (a .columns) (a .m) (a .n) e h d c, q .index-long))
+
+      pub index-kept : (r : Refusal) → refusal r ≡ verdict → indexed below (a .m) (a .n) (a .offsets) (a .columns) (B .index) ≡ B .index
+      index-kept r v =
+          written-other (a .m) (a .n) (a .offsets) (a .columns) (B .index) below
+          (λ l w. not-passed (r .question) (r .place) (r .lane) (v ∙ bound .yes _ e _ (omega (arith, words-of (a .offsets) (a .columns) (a .m) (a .n) e h d c, w)) (omega (arith, c .stored, l))))
 
   -- ---- questions 1 to 5
   abbrev early : Verdict

@@ -1,7 +1,7 @@
 -- What the parts of a solve start from, and what they leave. Definitions only.
 use mathlib.Core.Path.{_≡_}
 use mathlib.Core.List.{List, _++_}
-use Prim.Native.Nat.{ℕ, _+_, _*_, _≤_}
+use Prim.Native.Nat.{ℕ, _+_, _*_, _<_, _≤_}
 use lib.ListN.{length}
 use lib.Ieee.{Float}
 use Rattle.csr.specs.Csr.{Accepted}
@@ -14,7 +14,7 @@ use Rattle.machine.specs.Demand3.{Buffers, leaves, Demand3}
 use Rattle.csr.specs.Verdict.{passed, andThen}
 use Rattle.tests.specs.Layout.{lAt, Lent}
 use Rattle.ipm_simd.specs.declared.SolveAnswer.{SolveAnswer}
-use Rattle.ipm_simd.specs.Solve.{Given, call, words, room, plannedHas, told, outcomeVerdict, memoryVerdict, ifPassed}
+use Rattle.ipm_simd.specs.Solve.{Given, call, words, room, plannedHas, told, outcomeVerdict, sizesVerdict, memoryVerdict, ifPassed}
 
 -- e, h and d are E, S and D
 pub record Counted (off cols : List ℕ) (m e h d : ℕ) : Type 0 where
@@ -42,6 +42,11 @@ pub record Asked10 (a : Given) (B : Buffers) (e h d : ℕ) : Type 0 where
   pub work : 4 * (lAt (a .n) (a .m) (a .s) + e) ≤ length (B .work)
   pub from : 1 ≤ a .limit
   pub upTo : a .limit ≤ largestLimit
+
+-- questions 7 to 10 get a yes just where E is below r
+pub record EntriesBelow (m n s b c tolerances output work N r : ℕ) : Type 0 where
+  pub yes : (W E index : ℕ) → W ≤ index → E < r → sizesVerdict W E m n s index b c tolerances output work N ≡ passed
+  pub under : (W E index : ℕ) → sizesVerdict W E m n s index b c tolerances output work N ≡ passed → E < r
 
 -- on acceptance the new list, else the old
 abbrev pub written : Outcome → List Float → List Float → List Float

@@ -5,7 +5,8 @@ ghost use mathlib.Core.List.{List, _++_};
 ghost use Prim.Native.Nat.{ℕ, _+_, _*_, _<_, _≤_};
 ghost use lib.ListN.{length, take, drop, replicate};
 ghost use Rattle.csr.specs.Csr.{Accepted};
-ghost use Rattle.csr.specs.Counts.{countE, countS, countD};
+ghost use Rattle.csr.specs.Counts.{sizeW};
+ghost use Rattle.lists.specs.Lists.{planWords};
 ghost use Rattle.csr.specs.Verdict.{told as toldAsked};
 ghost use Rattle.lanes.specs.Arithmetic.{null};
 ghost use Rattle.machine.specs.declared.Outcome.the-variants.{NoAt11};
@@ -14,7 +15,7 @@ ghost use Rattle.step.specs.Steps.{Untouched};
 ghost use Rattle.run.specs.Tests.{memoryAt, Run};
 ghost use Rattle.tests.specs.Layout.{lAt, Lent};
 ghost use Rattle.ipm_simd.specs.Solve.{given, lent, told, outcomeVerdict, lengthsRight, sizesVerdict, Solved};
-ghost use Rattle.ipm_simd.specs.Parts.{Planned, Asked10, Counted, written, Continued, Finished};
+ghost use Rattle.ipm_simd.specs.Parts.{Planned, Asked10, EntriesBelow, written, Continued, Finished};
 use csr::Asked;
 use csr::Refusal;
 use lanes::LaneState;
@@ -206,8 +207,8 @@ fn report(outcome: Outcome, output: &mut [f64], work: &[f64]) -> SolveAnswer
     }
 }
 
-// The plan, the tests, the output and the clearing, after ten yeses.
-fn solve_asked(
+// The tests, the output and the clearing, after ten yeses and the plan.
+fn solve_planned(
     m: usize,
     n: usize,
     s: usize,
@@ -219,17 +220,16 @@ fn solve_asked(
     tolerances: &[f64],
     limit: usize,
     output: &mut [f64],
-    index: &mut [u32],
+    index: &[u32],
     work: &mut [f64],
     e: usize,
     h: usize,
     d: usize,
 ) -> SolveAnswer
-    requires { ⌜ Asked10 (given m n s (now offsets) (now columns) (now values) (now b) (now c) (now tolerances) limit) (lent (now output) (now index) (now work)) e h d ⌝ }
-    ensures { λ r. ⌜ Finished (given m n s (now (offsets .entry)) (now (columns .entry)) (now (values .entry)) (now (b .entry)) (now (c .entry)) (now (tolerances .entry)) limit) (lent (now (output .entry)) (now (index .entry)) (now (work .entry))) (lent (now (output .exit)) (now (index .exit)) (now (work .exit))) r ⌝ }
+    requires { ⌜ Planned (now offsets) (now columns) (now values) m n s (now index) e h d × Asked10 (given m n s (now offsets) (now columns) (now values) (now b) (now c) (now tolerances) limit) (lent (now output) (now index) (now work)) e h d ⌝ }
+    ensures { λ r. ⌜ ((old : List ℕ) → Asked10 (given m n s (now (offsets .entry)) (now (columns .entry)) (now (values .entry)) (now (b .entry)) (now (c .entry)) (now (tolerances .entry)) limit) (lent (now (output .entry)) old (now (work .entry))) e h d → now (index .entry) ≡ planWords (now (offsets .entry)) (now (columns .entry)) m n ++ drop (sizeW (now (offsets .entry)) (now (columns .entry)) m n) old → Finished (given m n s (now (offsets .entry)) (now (columns .entry)) (now (values .entry)) (now (b .entry)) (now (c .entry)) (now (tolerances .entry)) limit) (lent (now (output .entry)) old (now (work .entry))) (lent (now (output .exit)) (now (index .entry)) (now (work .exit))) r) ⌝ }
 {
     let room = 4 * (5 * n + 3 * m + 2 * s + e);
-    ipm_common::write_plan(offsets, columns, m, n, index);
     let outcome = run_plan(
         offsets,
         columns,
@@ -252,7 +252,28 @@ fn solve_asked(
     answer
 }
 
-// Questions 6 to 10 of a matrix that has passed 1 to 5, and the solve.
+// Questions 7 to 10 get a yes just where E is below this.
+fn entries_below(
+    m: usize,
+    n: usize,
+    s: usize,
+    b: usize,
+    c: usize,
+    tolerances: usize,
+    output: usize,
+    work: usize,
+    limit: usize,
+) -> usize
+    requires { ⌜ (m ≤ 256) × (n ≤ 1024) ⌝ }
+    ensures { λ r. ⌜ EntriesBelow m n s b c tolerances output work limit r ⌝ }
+{
+    match ask_sizes(0, 0, m, n, s, 0, b, c, tolerances, output, work, limit) {
+        Asked::Refused(r) => 0,
+        Asked::Good => work / 4 - (5 * n + 3 * m + 2 * s) + 1,
+    }
+}
+
+// Questions 6 to 10 of a matrix that has passed 1 to 5, and the solve. The plan is written where all of them get a yes.
 fn solve_accepted(
     m: usize,
     n: usize,
@@ -271,7 +292,18 @@ fn solve_accepted(
     requires { ⌜ Accepted (now offsets) (now columns) m n × (length (now values) ≡ length (now columns)) ⌝ }
     ensures { λ r. ⌜ Continued (given m n s (now (offsets .entry)) (now (columns .entry)) (now (values .entry)) (now (b .entry)) (now (c .entry)) (now (tolerances .entry)) limit) (lent (now (output .entry)) (now (index .entry)) (now (work .entry))) (lent (now (output .exit)) (now (index .exit)) (now (work .exit))) r ⌝ }
 {
-    let sizes = ipm_common::sizes(m, n, offsets, columns);
+    let below = entries_below(
+        m,
+        n,
+        s,
+        b.len(),
+        c.len(),
+        tolerances.len(),
+        output.len(),
+        work.len(),
+        limit,
+    );
+    let sizes = ipm_common::plan_below(m, n, offsets, columns, index, below);
     let e = sizes.e as usize;
     let h = sizes.s;
     let d = sizes.d as usize;
@@ -291,7 +323,7 @@ fn solve_accepted(
         limit,
     ) {
         Asked::Refused(r) => SolveAnswer::Refused(r),
-        Asked::Good => solve_asked(
+        Asked::Good => solve_planned(
             m,
             n,
             s,
