@@ -2,7 +2,7 @@
 use mathlib.Core.Path.{_≡_, sym, _∙_}
 use mathlib.Core.Bool.{cond}
 use mathlib.Core.List.{List}
-use Prim.Native.Nat.{ℕ, _+_, _-_, _<_}
+use Prim.Native.Nat.{ℕ, _+_, _-_, _*_, _≤_, _<_}
 use native.Mathlib.Omega.{arith}
 use lib.Dec.{ltb}
 use lib.ListN.{length}
@@ -10,13 +10,12 @@ use lib.Ieee.{Float, neg}
 use Rattle.lanes.specs.Lists.{at, vec, fold, lane}
 use Rattle.lanes.specs.Arithmetic.{_⊕_, _⊖_, _⊗_, _⊘_, null, one, larger, Σ}
 use Rattle.lanes.proofs.Lists.{lane-at}
-use Rattle.lanes.specs.Lanes.{lanes, cell, quad}
-use Rattle.lanes.specs.Region.{reg, Fills, Apart}
-use Rattle.lanes.proofs.Regions.{grown, kept-apart, apart-front}
-use Rattle.lanes.proofs.Quads.{lanes-ext, reg-quad, own-quad, other-quad, fold-turn}
-use Rattle.lanes.specs.Region.{Grows}
+use Rattle.lanes.specs.Lanes.{lanes, cell, quad, put}
+use Rattle.lanes.specs.Region.{reg, Kept, Fills, Grows, Apart, before, after}
+use Rattle.lanes.proofs.Regions.{grows-none, grown, kept-none, kept-put, kept-apart, apart-front}
+use Rattle.lanes.proofs.Quads.{lanes-ext, reg-quad, own-quad, other-quad, grows-turn, fold-turn}
 use Rattle.rows.specs.Parts.{plusRow, lessRow, plusCol, lessCol}
-use Rattle.kernels.specs.Kernels.{uAt, dxAt, qAt, fAt, rAt}
+use Rattle.kernels.specs.Kernels.{FillsThree, costAt, overAt, uAt, dxAt, qAt, fAt, rAt}
 
 -- an entry of a lent list, lane by lane
 pub lane-quad : (ws : List Float) (n k : ℕ) → k < n → quad ws k ≡ lanes (λ t. at (lane 4 n t ws) k)
@@ -27,37 +26,122 @@ pub filled : {o i n : ℕ} (F : ℕ → ℕ → Float) {old new : List Float} �
 unfolding vec
 filled F w e = grown w e
 
+-- ---- three regions, one after the other, filled by one loop
+
+-- the first i entries from entry o are written
+pub record Front (o i : ℕ) (F : ℕ → ℕ → Float) (ws : List Float) : Type 0 where
+  pub within : (t : ℕ) → t < 4 → reg 4 ws o i t ≡ vec i (F t)
+
+front-none : (o : ℕ) (F : ℕ → ℕ → Float) (ws : List Float) → Front o 0 F ws
+unfolding vec
+front-none o F ws = record { within = grows-none 4 o (λ t _. F t) ws .within }
+
+front-own : {o i : ℕ} {F : ℕ → ℕ → Float} {ws ws′ v : List Float} → Front o i F ws → 4 * (o + i) + 4 ≤ length ws → v ≡ lanes (λ t. F t i) → ws′ ≡ put 4 ws (o + i) v → Front o (i + 1) F ws′
+unfolding vec
+front-own {o} {i} {F} {ws} f h ev ew =
+    let w : Grows 4 o i (λ t _. F t) ws ws = record { kept = kept-none 4 o i ws; within = f .within } in
+    record { within = grows-turn w h ev ew .within }
+
+stored : (k : ℕ) (v : List Float) {ws ws′ : List Float} → ws′ ≡ put 4 ws k v → Kept 4 k 1 ws ws′
+stored k v {ws} e = rw e (kept-put (kept-none 4 k 1 ws) k v (omega arith) (omega arith))
+
+front-other : {p i k : ℕ} {F : ℕ → ℕ → Float} {ws ws′ : List Float} → Front p i F ws → Kept 4 k 1 ws ws′ → Apart p i k 1 → Front p i F ws′
+front-other f w a = record { within = λ t b. kept-apart w a t b ∙ f .within t b }
+
+-- the first i entries of each are written
+pub record Three (o p q i n : ℕ) (A B C : ℕ → ℕ → Float) (old new : List Float) : Type 0 where
+  pub kept : Kept 4 o (3 * n) old new
+  pub first : Front o i A new
+  pub second : Front p i B new
+  pub third : Front q i C new
+
+pub three-none : (o p q n : ℕ) (A B C : ℕ → ℕ → Float) (ws : List Float) → Three o p q 0 n A B C ws ws
+three-none o p q n A B C ws = record { kept = kept-none 4 o (3 * n) ws; first = front-none o A ws; second = front-none p B ws; third = front-none q C ws }
+
+pub three-turn : {o p q i n : ℕ} (A B C : ℕ → ℕ → Float) {old new w1 w2 w3 a b c : List Float} → Three o p q i n A B C old new → p ≡ o + n → q ≡ p + n → i < n → 4 * (o + 3 * n) ≤ length old
+    → a ≡ lanes (λ t. A t i) → b ≡ lanes (λ t. B t i) → c ≡ lanes (λ t. C t i) → w1 ≡ put 4 new (o + i) a → w2 ≡ put 4 w1 (p + i) b → w3 ≡ put 4 w2 (q + i) c
+    → Three o p q (i + 1) n A B C old w3
+three-turn {o} {p} {q} {i} {n} A B C {old} {new} {w1} {w2} {w3} {a} {b} {c} w ep eq h room ea eb ec e1 e2 e3 =
+    record {
+      kept = k3;
+      first = front-other (front-other (front-own (w .first) (omega (arith, w .kept .size)) ea e1) s2 (before (omega (arith, ep)))) s3 (before (omega (arith, ep, eq)));
+      second = front-other (front-own (front-other (w .second) s1 (after (omega (arith, ep)))) (omega (arith, ep, k1 .size)) eb e2) s3 (before (omega (arith, eq)));
+      third = front-own (front-other (front-other (w .third) s1 (after (omega (arith, ep, eq)))) s2 (after (omega (arith, eq)))) (omega (arith, ep, eq, k2 .size)) ec e3;
+    }
+  where
+    s1 : Kept 4 (o + i) 1 new w1
+    s1 = stored (o + i) a e1
+
+    s2 : Kept 4 (p + i) 1 w1 w2
+    s2 = stored (p + i) b e2
+
+    s3 : Kept 4 (q + i) 1 w2 w3
+    s3 = stored (q + i) c e3
+
+    k1 : Kept 4 o (3 * n) old w1
+    k1 = rw e1 (kept-put (w .kept) (o + i) a (omega arith) (omega arith))
+
+    k2 : Kept 4 o (3 * n) old w2
+    k2 = rw e2 (kept-put k1 (p + i) b (omega (arith, ep)) (omega (arith, ep)))
+
+    k3 : Kept 4 o (3 * n) old w3
+    k3 = rw e3 (kept-put k2 (q + i) c (omega (arith, ep, eq)) (omega (arith, ep, eq)))
+
+pub three : {o p q i n : ℕ} (A B C : ℕ → ℕ → Float) {old new : List Float} → Three o p q i n A B C old new → i ≡ n → FillsThree o p q n (λ t. vec n (A t)) (λ t. vec n (B t)) (λ t. vec n (C t)) old new
+three {o} {p} {q} {i} {n} A B C {old} {new} w e = let w′ : Three o p q n n A B C old new = rw e at w in record { kept = w′ .kept; first = w′ .first .within; second = w′ .second .within; third = w′ .third .within }
+
+-- ---- the right-hand side, by columns
+
 module _ (toff rows places : List ℕ) (vals c : List Float) (x z y n m : ℕ) (mu : List Float) where
+  abbrev pub costLane : List Float → ℕ → ℕ → Float
+  costLane ws t = costAt toff rows places vals (lane 4 n t c) (reg 4 ws y m t)
+
+  abbrev pub overLane : List Float → ℕ → ℕ → Float
+  overLane ws t = overAt (at mu t) (reg 4 ws x n t)
+
   abbrev pub uLane : List Float → ℕ → ℕ → Float
   uLane ws t = uAt toff rows places vals (lane 4 n t c) (at mu t) (reg 4 ws x n t) (reg 4 ws z n t) (reg 4 ws y m t)
 
-  pub u-turn : {old new a xe ce ze v nul : List Float} {out e : ℕ} → Grows 4 out e (λ t _. uLane old t) old new
-      → Apart x n out n → Apart z n out n → Apart y m out n → e < n
-      → nul ≡ lanes (λ t. null) → a ≡ lanes (λ t. plusCol toff rows places vals (reg 4 new y m t) e (at nul t)) → xe ≡ quad new (x + e) → ce ≡ quad c e → ze ≡ quad new (z + e)
-      → v ≡ lanes (λ t. at xe t ⊗ (at ce t ⊖ at a t ⊕ at mu t ⊘ at xe t) ⊘ at ze t)
-      → v ≡ lanes (λ t. uLane old t e)
-  u-turn {old} {new} {a} {xe} {ce} {ze} {v} {nul} {out} {e} w ax az ay h e0 ea ex ec ez ev =
-      now ∙ lanes-ext (λ t. uLane new t e) (λ t. uLane old t e)
-      (λ t b. rw (kept-apart (w .kept) (apart-front ax (omega arith)) t b, kept-apart (w .kept) (apart-front az (omega arith)) t b, kept-apart (w .kept) (apart-front ay (omega arith)) t b))
-    where
-      now : v ≡ lanes (λ t. uLane new t e)
-      now = unfold uAt in rw (ev, ea, e0, ex ∙ reg-quad new x n e h, ec ∙ lane-quad c n e h, ez ∙ reg-quad new z n e h)
+  module _ {old new : List Float} {o : ℕ} (k : Kept 4 o (3 * n) old new) {e : ℕ} (h : e < n) where
+    pub cost-turn : {a ce d nul : List Float} → Apart y m o (3 * n) → nul ≡ lanes (λ t. null)
+        → a ≡ lanes (λ t. plusCol toff rows places vals (reg 4 new y m t) e (at nul t)) → ce ≡ quad c e → d ≡ lanes (λ t. at ce t ⊖ at a t)
+        → d ≡ lanes (λ t. costLane old t e)
+    cost-turn {a} {ce} {d} {nul} ay e0 ea ec ed =
+        now ∙ lanes-ext (λ t. costLane new t e) (λ t. costLane old t e) (λ t b. rw (kept-apart k ay t b))
+      where
+        now : d ≡ lanes (λ t. costLane new t e)
+        now = unfold costAt in rw (ed, ea, e0, ec ∙ lane-quad c n e h)
 
-  abbrev pub dxLane : ℕ → List Float → ℕ → ℕ → Float
-  dxLane dy ws t = dxAt toff rows places vals (lane 4 n t c) (at mu t) (reg 4 ws x n t) (reg 4 ws z n t) (reg 4 ws y m t) (reg 4 ws dy m t)
+    pub over-turn : {xe q : List Float} → Apart x n o (3 * n) → xe ≡ quad new (x + e) → q ≡ lanes (λ t. at mu t ⊘ at xe t) → q ≡ lanes (λ t. overLane old t e)
+    over-turn ax ex eq = rw (eq, ex ∙ other-quad k ax e h)
 
-  pub dx-turn : {old new a da xe ce ze v nul : List Float} (dy : ℕ) {out e : ℕ} → Grows 4 out e (λ t _. dxLane dy old t) old new
-      → Apart x n out n → Apart z n out n → Apart y m out n → Apart dy m out n → e < n
-      → nul ≡ lanes (λ t. null) → a ≡ lanes (λ t. plusCol toff rows places vals (reg 4 new y m t) e (at nul t)) → da ≡ lanes (λ t. plusCol toff rows places vals (reg 4 new dy m t) e (at nul t))
-      → xe ≡ quad new (x + e) → ce ≡ quad c e → ze ≡ quad new (z + e)
-      → v ≡ lanes (λ t. (at ce t ⊖ at a t ⊖ at da t ⊕ at mu t ⊘ at xe t) ⊗ at xe t ⊘ at ze t)
-      → v ≡ lanes (λ t. dxLane dy old t e)
-  dx-turn {old} {new} {a} {da} {xe} {ce} {ze} {v} {nul} dy {out} {e} w ax az ay ad h e0 ea ed ex ec ez ev =
-      now ∙ lanes-ext (λ t. dxLane dy new t e) (λ t. dxLane dy old t e)
-      (λ t b. rw (kept-apart (w .kept) (apart-front ax (omega arith)) t b, kept-apart (w .kept) (apart-front az (omega arith)) t b, kept-apart (w .kept) (apart-front ay (omega arith)) t b, kept-apart (w .kept) (apart-front ad (omega arith)) t b))
+    pub u-turn : {xe ze d q v : List Float} → Apart x n o (3 * n) → Apart z n o (3 * n) → xe ≡ quad new (x + e) → ze ≡ quad new (z + e)
+        → d ≡ lanes (λ t. costLane old t e) → q ≡ lanes (λ t. overLane old t e) → v ≡ lanes (λ t. at xe t ⊗ (at d t ⊕ at q t) ⊘ at ze t)
+        → v ≡ lanes (λ t. uLane old t e)
+    unfolding uAt
+    u-turn ax az ex ez ed eq ev = rw (ev, ed, eq, ex ∙ other-quad k ax e h, ez ∙ other-quad k az e h)
+
+-- ---- dx, in place
+
+module _ (toff rows places : List ℕ) (vals : List Float) (x z dy over out n m : ℕ) where
+  abbrev pub dxLane : List Float → ℕ → ℕ → Float
+  dxLane ws t = dxAt toff rows places vals (reg 4 ws out n t) (reg 4 ws over n t) (reg 4 ws x n t) (reg 4 ws z n t) (reg 4 ws dy m t)
+
+  pub dx-turn : {old new da d q xe ze v nul : List Float} {e : ℕ} → Grows 4 out e (λ t _. dxLane old t) old new
+      → Apart x n out n → Apart z n out n → Apart dy m out n → Apart over n out n → e < n
+      → nul ≡ lanes (λ t. null) → da ≡ lanes (λ t. plusCol toff rows places vals (reg 4 new dy m t) e (at nul t))
+      → d ≡ quad new (out + e) → q ≡ quad new (over + e) → xe ≡ quad new (x + e) → ze ≡ quad new (z + e)
+      → v ≡ lanes (λ t. (at d t ⊖ at da t ⊕ at q t) ⊗ at xe t ⊘ at ze t)
+      → v ≡ lanes (λ t. dxLane old t e)
+  unfolding dxAt
+  dx-turn {old} {new} {da} {d} {q} {xe} {ze} {v} {nul} {e} w ax az ad ao h e0 ea ed eq ex ez ev =
+      rw (ev, col, ed ∙ own-quad (w .kept) n h, eq ∙ other-quad (w .kept) (apart-front ao (omega arith)) e h, ex ∙ other-quad (w .kept) (apart-front ax (omega arith)) e h, ez ∙ other-quad (w .kept) (apart-front az (omega arith)) e h)
     where
-      now : v ≡ lanes (λ t. dxLane dy new t e)
-      now = unfold dxAt in rw (ev, ea, ed, e0, ex ∙ reg-quad new x n e h, ec ∙ lane-quad c n e h, ez ∙ reg-quad new z n e h)
+      col : da ≡ lanes (λ t. plusCol toff rows places vals (reg 4 old dy m t) e null)
+      col =
+          rw (ea, e0)
+          (lanes-ext (λ t. plusCol toff rows places vals (reg 4 new dy m t) e null) (λ t. plusCol toff rows places vals (reg 4 old dy m t) e null)
+          (λ t b. rw (kept-apart (w .kept) (apart-front ad (omega arith)) t b)))
 
 module _ (toff rows places : List ℕ) (vals c : List Float) (z y n m : ℕ) where
   abbrev pub qLane : List Float → ℕ → ℕ → Float

@@ -11,7 +11,7 @@ ghost use Rattle.machine.specs.Machine.{complement, largestRatio, moved};
 ghost use Rattle.lanes.specs.Lanes.{lanes};
 ghost use Rattle.lanes.specs.Region.{reg, Fills, Apart};
 ghost use Rattle.rows.specs.Parts.{Rows, Cols};
-ghost use Rattle.kernels.specs.Kernels.{uAt, dxAt, qAt, fAt, rAt};
+ghost use Rattle.kernels.specs.Kernels.{FillsThree, costAt, overAt, uAt, dxAt, qAt, fAt, rAt};
 use lanes::add4;
 use lanes::div4;
 use lanes::get4;
@@ -40,22 +40,18 @@ pub fn one4() -> [f64; 4]
 
 // ---- entries by value
 
-fn u_in(x: [f64; 4], c: [f64; 4], a: [f64; 4], mu: [f64; 4], z: [f64; 4]) -> [f64; 4]
-    ensures { λ r. ⌜ r ≡ lanes (λ t. at x t ⊗ (at c t ⊖ at a t ⊕ at mu t ⊘ at x t) ⊘ at z t) ⌝ }
+fn u_in(x: [f64; 4], cost: [f64; 4], over: [f64; 4], z: [f64; 4]) -> [f64; 4]
+    ensures { λ r. ⌜ r ≡ lanes (λ t. at x t ⊗ (at cost t ⊕ at over t) ⊘ at z t) ⌝ }
 {
-    let q = div4(mu, x);
-    let d = sub4(c, a);
-    let p = add4(d, q);
+    let p = add4(cost, over);
     div4(mul4(x, p), z)
 }
 
-fn dx_in(c: [f64; 4], a: [f64; 4], da: [f64; 4], mu: [f64; 4], x: [f64; 4], z: [f64; 4]) -> [f64; 4]
-    ensures { λ r. ⌜ r ≡ lanes (λ t. (at c t ⊖ at a t ⊖ at da t ⊕ at mu t ⊘ at x t) ⊗ at x t ⊘ at z t) ⌝ }
+fn dx_in(cost: [f64; 4], da: [f64; 4], over: [f64; 4], x: [f64; 4], z: [f64; 4]) -> [f64; 4]
+    ensures { λ r. ⌜ r ≡ lanes (λ t. (at cost t ⊖ at da t ⊕ at over t) ⊗ at x t ⊘ at z t) ⌝ }
 {
-    let q = div4(mu, x);
-    let d = sub4(c, a);
-    let g = sub4(d, da);
-    let p = add4(g, q);
+    let g = sub4(cost, da);
+    let p = add4(g, over);
     div4(mul4(p, x), z)
 }
 
@@ -116,6 +112,7 @@ fn r_start(b: &[f64], work: &[f64], w: usize, m: usize, i: usize, s: usize) -> [
 
 // ---- loops that fill a region
 
+// The reduced costs c − Aᵀy, mu/x and, of both, u.
 pub fn rhs_u(
     toff: &[u32],
     rows: &[u32],
@@ -126,22 +123,28 @@ pub fn rhs_u(
     x: usize,
     z: usize,
     y: usize,
+    cost: usize,
+    over: usize,
     out: usize,
     n: usize,
     m: usize,
     mu: [f64; 4],
 )
-    requires { ⌜ Cols n m (now toff) (now rows) (now places) (now vals) × (4 * n ≤ length (now c)) × Apart x n out n × Apart z n out n × Apart y m out n × (4 * (x + n) ≤ length (now work)) × (4 * (z + n) ≤ length (now work)) × (4 * (y + m) ≤ length (now work)) × (4 * (out + n) ≤ length (now work)) ⌝ }
-    ensures { λ _. ⌜ Fills 4 out n (λ t. vec n (uAt (now (toff .entry)) (now (rows .entry)) (now (places .entry)) (now (vals .entry)) (lane 4 n t (now (c .entry))) (at mu t) (reg 4 (now (work .entry)) x n t) (reg 4 (now (work .entry)) z n t) (reg 4 (now (work .entry)) y m t))) (now (work .entry)) (now (work .exit)) ⌝ }
+    requires { ⌜ Cols n m (now toff) (now rows) (now places) (now vals) × (4 * n ≤ length (now c)) × (over ≡ cost + n) × (out ≡ over + n) × Apart x n cost (3 * n) × Apart z n cost (3 * n) × Apart y m cost (3 * n) × (4 * (x + n) ≤ length (now work)) × (4 * (z + n) ≤ length (now work)) × (4 * (y + m) ≤ length (now work)) × (4 * (cost + 3 * n) ≤ length (now work)) ⌝ }
+    ensures { λ _. ⌜ FillsThree cost over out n (λ t. vec n (costAt (now (toff .entry)) (now (rows .entry)) (now (places .entry)) (now (vals .entry)) (lane 4 n t (now (c .entry))) (reg 4 (now (work .entry)) y m t))) (λ t. vec n (overAt (at mu t) (reg 4 (now (work .entry)) x n t))) (λ t. vec n (uAt (now (toff .entry)) (now (rows .entry)) (now (places .entry)) (now (vals .entry)) (lane 4 n t (now (c .entry))) (at mu t) (reg 4 (now (work .entry)) x n t) (reg 4 (now (work .entry)) z n t) (reg 4 (now (work .entry)) y m t))) (now (work .entry)) (now (work .exit)) ⌝ }
 {
     let zero = zero4();
     let mut e = 0;
     while e < n {
         let a = col_plus(toff, rows, places, vals, work, y, n, m, e, zero);
-        let xe = get4(work, x + e);
         let ce = get4(c, e);
+        let xe = get4(work, x + e);
         let ze = get4(work, z + e);
-        let v = u_in(xe, ce, a, mu, ze);
+        let d = sub4(ce, a);
+        let q = div4(mu, xe);
+        let v = u_in(xe, d, q, ze);
+        put4(work, cost + e, d);
+        put4(work, over + e, q);
         put4(work, out + e, v);
         e += 1;
     }
@@ -178,34 +181,33 @@ pub fn rhs_f(
     }
 }
 
+// dx, in place of the reduced costs, given mu/x.
 pub fn compute_dx(
     toff: &[u32],
     rows: &[u32],
     places: &[u32],
     vals: &[f64],
-    c: &[f64],
     work: &mut [f64],
     x: usize,
     z: usize,
-    y: usize,
     dy: usize,
+    over: usize,
     out: usize,
     n: usize,
     m: usize,
-    mu: [f64; 4],
 )
-    requires { ⌜ Cols n m (now toff) (now rows) (now places) (now vals) × (4 * n ≤ length (now c)) × Apart x n out n × Apart z n out n × Apart y m out n × Apart dy m out n × (4 * (x + n) ≤ length (now work)) × (4 * (z + n) ≤ length (now work)) × (4 * (y + m) ≤ length (now work)) × (4 * (dy + m) ≤ length (now work)) × (4 * (out + n) ≤ length (now work)) ⌝ }
-    ensures { λ _. ⌜ Fills 4 out n (λ t. vec n (dxAt (now (toff .entry)) (now (rows .entry)) (now (places .entry)) (now (vals .entry)) (lane 4 n t (now (c .entry))) (at mu t) (reg 4 (now (work .entry)) x n t) (reg 4 (now (work .entry)) z n t) (reg 4 (now (work .entry)) y m t) (reg 4 (now (work .entry)) dy m t))) (now (work .entry)) (now (work .exit)) ⌝ }
+    requires { ⌜ Cols n m (now toff) (now rows) (now places) (now vals) × Apart x n out n × Apart z n out n × Apart dy m out n × Apart over n out n × (4 * (x + n) ≤ length (now work)) × (4 * (z + n) ≤ length (now work)) × (4 * (dy + m) ≤ length (now work)) × (4 * (over + n) ≤ length (now work)) × (4 * (out + n) ≤ length (now work)) ⌝ }
+    ensures { λ _. ⌜ Fills 4 out n (λ t. vec n (dxAt (now (toff .entry)) (now (rows .entry)) (now (places .entry)) (now (vals .entry)) (reg 4 (now (work .entry)) out n t) (reg 4 (now (work .entry)) over n t) (reg 4 (now (work .entry)) x n t) (reg 4 (now (work .entry)) z n t) (reg 4 (now (work .entry)) dy m t))) (now (work .entry)) (now (work .exit)) ⌝ }
 {
     let zero = zero4();
     let mut e = 0;
     while e < n {
-        let a = col_plus(toff, rows, places, vals, work, y, n, m, e, zero);
         let da = col_plus(toff, rows, places, vals, work, dy, n, m, e, zero);
-        let ce = get4(c, e);
+        let d = get4(work, out + e);
+        let q = get4(work, over + e);
         let xe = get4(work, x + e);
         let ze = get4(work, z + e);
-        let v = dx_in(ce, a, da, mu, xe, ze);
+        let v = dx_in(d, da, q, xe, ze);
         put4(work, out + e, v);
         e += 1;
     }

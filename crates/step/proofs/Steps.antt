@@ -1,5 +1,5 @@
 -- The calls of a step, one after the other, leave in each lane what the machine works out. Assumes nothing.
-use mathlib.Core.Path.{_≡_, refl, ap, _∙_}
+use mathlib.Core.Path.{_≡_, refl, sym, ap, _∙_}
 use mathlib.Core.Logic.{inr}
 use mathlib.Core.Bool.{Bool, cond, false}
 use mathlib.Core.List.{List}
@@ -12,19 +12,19 @@ use Rattle.lanes.specs.Arithmetic.{_⊖_, _⊗_, _⊘_, null, one, larger, smal
 use Rattle.lanes.specs.Constants.{dampingValue}
 use Rattle.lanes.specs.Region.{reg, Kept, Fills, Apart, before, after}
 use Rattle.lanes.specs.Lanes.{lanes}
-use Rattle.lanes.proofs.Lists.{vec-same}
+use Rattle.lanes.proofs.Lists.{vec-same, vec-at}
 use Rattle.lanes.proofs.Regions.{kept-apart}
 use Rattle.lanes.proofs.Quads.{lane-of}
-use Rattle.machine.specs.Machine.{Problem, LaneData, Settings, standard, State, Direction, cell, factor, forward, backward, uOf, vOf, fOf, dyOf, dxOf, direction, complement, largestRatio, moved, theta, stepLength, rowProduct}
+use Rattle.machine.specs.Machine.{Problem, LaneData, Settings, standard, State, Direction, cell, factor, forward, backward, columnProduct, uOf, vOf, fOf, dyOf, dxOf, direction, complement, largestRatio, moved, theta, stepLength, rowProduct}
 use Rattle.machine.specs.Work.{stepBy}
 use Rattle.machine.proofs.Factor.{fold-same}
 use Rattle.sparse.specs.Sparse.{front, back}
-use Rattle.kernels.specs.Kernels.{uAt, dxAt, fAt}
+use Rattle.kernels.specs.Kernels.{FillsThree, costAt, uAt, dxAt, fAt}
 use Rattle.links.specs.Planned.{RowsOf, ColsOf, LowOf, HighOf, Holds}
 use Rattle.tests.specs.Layout.{yAt, dyAt, rhsAt, wAt, dwAt, lAt}
 use Rattle.tests.proofs.ToMachine.{row-plus, col-plus, front-machine, back-machine}
 use Rattle.tests.proofs.Tests.{reg-front}
-use Rattle.step.specs.Steps.{numbersIn, directionIn, changes, Untouched, Still, RightSide, Changed, Directed, Advanced, Took}
+use Rattle.step.specs.Steps.{numbersIn, directionIn, reducedCosts, muOverX, changes, Untouched, Still, Ready, RightSide, Changed, Directed, Advanced, Took}
 
 -- a shorter region of the same start
 other-front : (ws : List Float) (k n t : ℕ) (mu : Float) (p : List Float) (r dr : ℕ) → k ≤ n → complement k mu p (reg 4 ws r k t) (reg 4 ws dr k t) ≡ complement k mu p (reg 4 ws r n t) (reg 4 ws dr n t)
@@ -41,13 +41,19 @@ largestRatio-front ws k n t w dw r dr l =
 
 module _ (A : Problem) (H : Settings) (d : LaneData) (q : State) where
   module _ (toff rows places : List ℕ) (C : ColsOf A toff rows places) where
+    costs-machine : vec (A .n) (costAt toff rows places (A .vals) (d .c) (q .y)) ≡ reducedCosts A d q
+    unfolding costAt
+    costs-machine = vec-same (A .n) _ _ (λ e h. rw (col-plus A toff rows places C e h (q .y)))
+
     u-machine : (mu : Float) → vec (A .n) (uAt toff rows places (A .vals) (d .c) mu (q .x) (q .z) (q .y)) ≡ uOf A H d q mu
-    unfolding uAt uOf
+    unfolding uAt costAt uOf
     u-machine mu = vec-same (A .n) _ _ (λ e h. rw (col-plus A toff rows places C e h (q .y)))
 
-    dx-machine : (mu : Float) (dy : List Float) → vec (A .n) (dxAt toff rows places (A .vals) (d .c) mu (q .x) (q .z) (q .y) dy) ≡ dxOf A H d q mu dy
+    dx-machine : (mu : Float) (dy : List Float) → vec (A .n) (dxAt toff rows places (A .vals) (reducedCosts A d q) (muOverX A mu q) (q .x) (q .z) dy) ≡ dxOf A H d q mu dy
     unfolding dxAt dxOf
-    dx-machine mu dy = vec-same (A .n) _ _ (λ e h. rw (col-plus A toff rows places C e h (q .y), col-plus A toff rows places C e h dy))
+    dx-machine mu dy =
+        vec-same (A .n) _ _
+        (λ e h. rw (vec-at (A .n) (λ e. at (d .c) e ⊖ columnProduct A (q .y) e) e h, vec-at (A .n) (λ e. mu ⊘ at (q .x) e) e h, col-plus A toff rows places C e h dy))
 
   f-machine : RowsOf A → (mu : Float) → vec (A .m) (fAt (A .off) (A .cols) (A .vals) (A .s) (d .b) mu (q .x) (q .y) (uOf A H d q mu)) ≡ fOf A H d q mu
   unfolding fAt fOf vOf rowProduct
@@ -90,14 +96,34 @@ module _ (A : Problem) where
   still-wider : {top top′ : ℕ} {a b : List Float} → Still A top a b → top ≤ top′ → Still A top′ a b
   still-wider P h = record { frame = untouched-wider (P .frame) h; kept = P .kept }
 
+  -- ---- the factor and the substitutions: the numbers stay, and what dx needs
+  factor-still : {E : ℕ} {a b : List Float} → Kept 4 (lAt n m s) E a b → Still A (lAt n m s + E) a b
+  factor-still {E} K = nums-kept (lAt n m s + E) K (omega arith) (before (omega arith)) (before (omega arith)) (before (omega arith)) (before (omega arith))
+
+  solve-still : (E : ℕ) {a b : List Float} → Kept 4 (dyAt n m) m a b → Still A (lAt n m s + E) a b
+  solve-still E K = nums-kept (lAt n m s + E) K (omega arith) (before (omega arith)) (before (omega arith)) (before (omega arith)) (after (omega arith))
+
+  pub readied : (d : ℕ → LaneData) (mu : List Float) {E : ℕ} {w1 w2 w3 : List Float} → Ready A d mu w1 → Kept 4 (lAt n m s) E w1 w2 → Kept 4 (dyAt n m) m w2 w3 → Ready A d mu w3
+  readied d mu {E} {w1} {w2} {w3} R K S = record {
+    costs = λ t b. region (2 * n) (omega arith) t b ∙ R .costs t b ∙ ap (reducedCosts A (d t)) (sym (stays t b));
+    quotients = λ t b. region (3 * n) (omega arith) t b ∙ R .quotients t b ∙ ap (muOverX A (at mu t)) (sym (stays t b));
+  }
+    where
+      region : (o : ℕ) → o + n ≤ 4 * n → (t : ℕ) → t < 4 → reg 4 w3 o n t ≡ reg 4 w1 o n t
+      region o h t b = same o n S (before (omega arith)) t b ∙ same o n K (before (omega arith)) t b
+
+      stays : (t : ℕ) → t < 4 → numbersIn A w3 t ≡ numbersIn A w1 t
+      stays t b = still-on (factor-still K) (solve-still E S) .kept t b
+
   module _ (H : Settings) (d : ℕ → LaneData) (mu : List Float) where
     -- ---- the right-hand side: u, then f
     module _ (toff rows places : List ℕ) (R : RowsOf A) (C : ColsOf A toff rows places) where
       pub right-side : {w0 w1 w2 : List Float}
-          → Fills 4 (4 * n) n (λ t. vec n (uAt toff rows places (A .vals) (d t .c) (at mu t) (reg 4 w0 0 n t) (reg 4 w0 n n t) (reg 4 w0 (yAt n) m t))) w0 w1
+          → FillsThree (2 * n) (3 * n) (4 * n) n (λ t. vec n (costAt toff rows places (A .vals) (d t .c) (reg 4 w0 (yAt n) m t))) (λ t. muOverX A (at mu t) (numbersIn A w0 t))
+          (λ t. vec n (uAt toff rows places (A .vals) (d t .c) (at mu t) (reg 4 w0 0 n t) (reg 4 w0 n n t) (reg 4 w0 (yAt n) m t))) w0 w1
           → Fills 4 (rhsAt n m) m (λ t. vec m (fAt (A .off) (A .cols) (A .vals) s (d t .b) (at mu t) (reg 4 w1 0 n t) (reg 4 w1 (yAt n) m t) (reg 4 w1 (4 * n) n t))) w1 w2
           → RightSide A H d mu w0 w2
-      right-side {w0} {w1} {w2} F1 F2 = record { still = still-on s1 s2; rhs = f }
+      right-side {w0} {w1} {w2} F1 F2 = record { still = still-on s1 s2; rhs = f; ready = record { costs = costs; quotients = quotients } }
         where
           s1 : Still A (lAt n m s) w0 w1
           s1 = nums-kept (lAt n m s) (F1 .kept) (omega arith) (before (omega arith)) (before (omega arith)) (after (omega arith)) (after (omega arith))
@@ -106,7 +132,7 @@ module _ (A : Problem) where
           s2 = nums-kept (lAt n m s) (F2 .kept) (omega arith) (before (omega arith)) (before (omega arith)) (before (omega arith)) (after (omega arith))
 
           u : (t : ℕ) → t < 4 → reg 4 w1 (4 * n) n t ≡ uOf A H (d t) (numbersIn A w0 t) (at mu t)
-          u t b = F1 .within t b ∙ u-machine A H (d t) (numbersIn A w0 t) toff rows places C (at mu t)
+          u t b = F1 .third t b ∙ u-machine A H (d t) (numbersIn A w0 t) toff rows places C (at mu t)
 
           f : (t : ℕ) → t < 4 → reg 4 w2 (rhsAt n m) m t ≡ fOf A H (d t) (numbersIn A w0 t) (at mu t)
           f t b =
@@ -115,16 +141,27 @@ module _ (A : Problem) where
               ∙ ap (λ (v : List Float). vec m (fAt (A .off) (A .cols) (A .vals) s (d t .b) (at mu t) (reg 4 w0 0 n t) (reg 4 w0 (yAt n) m t) v)) (u t b)
               ∙ f-machine A H (d t) (numbersIn A w0 t) R (at mu t)
 
+          costs : (t : ℕ) → t < 4 → reg 4 w2 (2 * n) n t ≡ reducedCosts A (d t) (numbersIn A w2 t)
+          costs t b =
+              same (2 * n) n (F2 .kept) (before (omega arith)) t b
+              ∙ F1 .first t b
+              ∙ costs-machine A H (d t) (numbersIn A w0 t) toff rows places C
+              ∙ ap (reducedCosts A (d t)) (sym (still-on s1 s2 .kept t b))
+
+          quotients : (t : ℕ) → t < 4 → reg 4 w2 (3 * n) n t ≡ muOverX A (at mu t) (numbersIn A w2 t)
+          quotients t b = same (3 * n) n (F2 .kept) (before (omega arith)) t b ∙ F1 .second t b ∙ ap (muOverX A (at mu t)) (sym (still-on s1 s2 .kept t b))
+
     -- ---- dx, dz and dw of dy, and theta
     module _ (toff rows places : List ℕ) (C : ColsOf A toff rows places) (slack : s ≤ m) where
       pub changed : {w0 w1 w2 w3 r1 r2 r : List Float}
-          → Fills 4 (2 * n) n (λ t. vec n (dxAt toff rows places (A .vals) (d t .c) (at mu t) (reg 4 w0 0 n t) (reg 4 w0 n n t) (reg 4 w0 (yAt n) m t) (reg 4 w0 (dyAt n m) m t))) w0 w1
+          → Ready A d mu w0
+          → Fills 4 (2 * n) n (λ t. vec n (dxAt toff rows places (A .vals) (reg 4 w0 (2 * n) n t) (reg 4 w0 (3 * n) n t) (reg 4 w0 0 n t) (reg 4 w0 n n t) (reg 4 w0 (dyAt n m) m t))) w0 w1
           → Fills 4 (3 * n) n (λ t. complement n (at mu t) (reg 4 w1 n n t) (reg 4 w1 0 n t) (reg 4 w1 (2 * n) n t)) w1 w2
           → Fills 4 (dwAt n m s) s (λ t. complement s (at mu t) (reg 4 w2 (wAt n m) s t) (reg 4 w2 (yAt n) s t) (reg 4 w2 (dyAt n m) s t)) w2 w3
           → r1 ≡ lanes (λ t. largestRatio n (reg 4 w3 0 n t) (reg 4 w3 (2 * n) n t) (reg 4 w3 n n t) (reg 4 w3 (3 * n) n t))
           → r2 ≡ lanes (λ t. largestRatio s (reg 4 w3 (wAt n m) s t) (reg 4 w3 (dwAt n m s) s t) (reg 4 w3 (yAt n) s t) (reg 4 w3 (dyAt n m) s t))
           → r ≡ lanes (λ t. larger (at r1 t) (at r2 t)) → Changed A H d mu w0 w3 r
-      changed {w0} {w1} {w2} {w3} {r1} {r2} {r} F1 F2 F3 e1 e2 e = record {
+      changed {w0} {w1} {w2} {w3} {r1} {r2} {r} R F1 F2 F3 e1 e2 e = record {
         still = still-on (still-on s1 s2) s3;
         worked = λ t b i. record { dx = dx t b i; dz = dz t b i; dy = dy3 t b i; dw = dw t b i };
         largest = ratio;
@@ -146,7 +183,7 @@ module _ (A : Problem) where
           dy3 t b = same (dyAt n m) m (F3 .kept) (before (omega arith)) t b ∙ dy2 t b
 
           dx1 : (t : ℕ) → t < 4 → reg 4 w1 (2 * n) n t ≡ dxOf A H (d t) (numbersIn A w0 t) (at mu t) (reg 4 w0 (dyAt n m) m t)
-          dx1 t b = F1 .within t b ∙ dx-machine A H (d t) (numbersIn A w0 t) toff rows places C (at mu t) (reg 4 w0 (dyAt n m) m t)
+          dx1 t b = F1 .within t b ∙ rw (R .costs t b, R .quotients t b) (dx-machine A H (d t) (numbersIn A w0 t) toff rows places C (at mu t) (reg 4 w0 (dyAt n m) m t))
 
           dx : (t : ℕ) → t < 4 → reg 4 w3 (2 * n) n t ≡ dxOf A H (d t) (numbersIn A w0 t) (at mu t) (reg 4 w0 (dyAt n m) m t)
           dx t b = same (2 * n) n (F3 .kept) (before (omega arith)) t b ∙ same (2 * n) n (F2 .kept) (before (omega arith)) t b ∙ dx1 t b
@@ -190,10 +227,10 @@ module _ (A : Problem) where
       }
         where
           s2 : Still A (lAt n m s + E) w1 w2
-          s2 = nums-kept (lAt n m s + E) K (omega arith) (before (omega arith)) (before (omega arith)) (before (omega arith)) (before (omega arith))
+          s2 = factor-still K
 
           s3 : Still A (lAt n m s + E) w2 w3
-          s3 = nums-kept (lAt n m s + E) (S .kept) (omega arith) (before (omega arith)) (before (omega arith)) (before (omega arith)) (after (omega arith))
+          s3 = solve-still E (S .kept)
 
           f : (t : ℕ) → t < 4 → reg 4 w2 (rhsAt n m) m t ≡ fOf A H (d t) (numbersIn A w0 t) (at mu t)
           f t b = same (rhsAt n m) m K (before (omega arith)) t b ∙ F .rhs t b

@@ -7,9 +7,9 @@ use lib.ListN.{getD, length}
 use lib.Ieee.{Float}
 use Rattle.lanes.specs.Lists.{at, vec}
 use Rattle.lanes.specs.Region.{reg}
-use Rattle.lanes.specs.Arithmetic.{_⊘_, null, one, smaller}
+use Rattle.lanes.specs.Arithmetic.{_⊖_, _⊘_, null, one, smaller}
 use Rattle.lanes.specs.Constants.{startValue, dampingValue}
-use Rattle.machine.specs.Machine.{Problem, LaneData, Settings, State, Direction, fOf, dxOf, complement, theta, direction, stepLength, moved, status}
+use Rattle.machine.specs.Machine.{Problem, LaneData, Settings, State, Direction, columnProduct, fOf, dxOf, complement, theta, direction, stepLength, moved, status}
 use Rattle.machine.specs.Work.{stepBy, stepOf}
 use Rattle.tests.specs.Layout.{dyAt, rhsAt, lAt, numbersAt, directionAt}
 
@@ -31,6 +31,18 @@ module _ (A : Problem) where
     pub frame : Untouched top old new
     pub kept : (t : ℕ) → t < 4 → numbersIn new t ≡ numbersIn old t
 
+  -- c − Aᵀy, and mu/x
+  abbrev pub reducedCosts : LaneData → State → List Float
+  reducedCosts d q = vec (A .n) (λ e. at (d .c) e ⊖ columnProduct A (q .y) e)
+
+  abbrev pub muOverX : Float → State → List Float
+  muOverX mu q = vec (A .n) (λ e. mu ⊘ at (q .x) e)
+
+  -- until dx and dz are worked out, their regions have the reduced costs and mu/x
+  pub record Ready (d : ℕ → LaneData) (mu ws : List Float) : Type 0 where
+    pub costs : (t : ℕ) → t < 4 → reg 4 ws (2 * A .n) (A .n) t ≡ reducedCosts (d t) (numbersIn ws t)
+    pub quotients : (t : ℕ) → t < 4 → reg 4 ws (3 * A .n) (A .n) t ≡ muOverX (at mu t) (numbersIn ws t)
+
   module _ (H : Settings) (d : ℕ → LaneData) where
     -- dx, dz and dw of dy
     abbrev pub changes : ℕ → State → Float → List Float → Direction
@@ -38,10 +50,11 @@ module _ (A : Problem) where
         let dx = dxOf A H (d t) q mu dy in
         record { dx = dx; dz = complement (A .n) mu (q .z) (q .x) dx; dy = dy; dw = complement (A .s) mu (q .w) (q .y) dy }
 
-    -- the right-hand side is the machine's f
+    -- the right-hand side is the machine's f, and what dx needs besides dy is kept
     pub record RightSide (mu old new : List Float) : Type 0 where
       pub still : Still (lAt (A .n) (A .m) (A .s)) old new
       pub rhs : (t : ℕ) → t < 4 → reg 4 new (rhsAt (A .n) (A .m)) (A .m) t ≡ fOf A H (d t) (numbersIn old t) (at mu t)
+      pub ready : Ready d mu new
 
     -- dx, dz and dw are those of the dy that is there, dy has not changed, and `ratios` are the lanes' thetas
     pub record Changed (mu old new ratios : List Float) : Type 0 where

@@ -15,7 +15,7 @@ ghost use Rattle.machine.specs.Work.{callOf, problemOf};
 ghost use Rattle.links.specs.Planned.{RowsOf, ColsOf};
 ghost use Rattle.links.specs.Prepared.{Prepared};
 ghost use Rattle.tests.specs.Layout.{lAt, numbersAt, Lent};
-ghost use Rattle.step.specs.Steps.{RightSide, Changed, Directed, Advanced, Took, Fresh, LanesStep};
+ghost use Rattle.step.specs.Steps.{Ready, RightSide, Changed, Directed, Advanced, Took, Fresh, LanesStep};
 use factor::normal_matrix_cholesky_decomposition;
 use kernels::compute_complement;
 use kernels::compute_dx;
@@ -35,7 +35,7 @@ use substitution::cholesky_solve;
 use tests::gamma;
 use tests::mu_in;
 
-// u, of n entries, and of it f, the right-hand side.
+// The reduced costs and mu/x, in the regions of dx and dz; of them u, and of u f, the right-hand side.
 fn normal_eqn_rhs(
     off: &[u32],
     cols: &[u32],
@@ -55,14 +55,16 @@ fn normal_eqn_rhs(
     requires { ⌜ RowsOf (problemOf m n s (now off) (now cols) (now vals)) × ColsOf (problemOf m n s (now off) (now cols) (now vals)) (now cp) (now ci) (now cm) × Lent m n s (now b) (now c) (now tol) × (4 * lAt n m s ≤ length (now work)) ⌝ }
     ensures { λ _. ⌜ RightSide (problemOf m n s (now (off .entry)) (now (cols .entry)) (now (vals .entry))) standard (laneData (callOf m n s (now (off .entry)) (now (cols .entry)) (now (vals .entry)) (now (b .entry)) (now (c .entry)) (now (tol .entry)))) mu (now (work .entry)) (now (work .exit)) ⌝ }
 {
+    let dx = 2 * n;
+    let dz = 3 * n;
     let tmp = 4 * n;
     let y = 5 * n;
     let rhs = y + m + m;
-    rhs_u(cp, ci, cm, vals, c, work, 0, n, y, tmp, n, m, mu);
+    rhs_u(cp, ci, cm, vals, c, work, 0, n, y, dx, dz, tmp, n, m, mu);
     rhs_f(off, cols, vals, b, work, 0, y, tmp, rhs, n, m, s, mu);
 }
 
-// dx, dz and dw, of the dy that is there, and theta.
+// dx, dz and dw, of the dy, the reduced costs and mu/x that are there, and theta.
 fn compute_dx_dz_dw(
     off: &[u32],
     cols: &[u32],
@@ -79,7 +81,7 @@ fn compute_dx_dz_dw(
     s: usize,
     mu: [f64; 4],
 ) -> [f64; 4]
-    requires { ⌜ ColsOf (problemOf m n s (now off) (now cols) (now vals)) (now cp) (now ci) (now cm) × Lent m n s (now b) (now c) (now tol) × (4 * lAt n m s ≤ length (now work)) ⌝ }
+    requires { ⌜ ColsOf (problemOf m n s (now off) (now cols) (now vals)) (now cp) (now ci) (now cm) × Lent m n s (now b) (now c) (now tol) × (4 * lAt n m s ≤ length (now work)) × Ready (problemOf m n s (now off) (now cols) (now vals)) (laneData (callOf m n s (now off) (now cols) (now vals) (now b) (now c) (now tol))) mu (now work) ⌝ }
     ensures { λ r. ⌜ Changed (problemOf m n s (now (off .entry)) (now (cols .entry)) (now (vals .entry))) standard (laneData (callOf m n s (now (off .entry)) (now (cols .entry)) (now (vals .entry)) (now (b .entry)) (now (c .entry)) (now (tol .entry)))) mu (now (work .entry)) (now (work .exit)) r ⌝ }
 {
     let dx = 2 * n;
@@ -88,7 +90,7 @@ fn compute_dx_dz_dw(
     let dy = y + m;
     let w = dy + m + m;
     let dw = w + s;
-    compute_dx(cp, ci, cm, vals, c, work, 0, n, y, dy, dx, n, m, mu);
+    compute_dx(cp, ci, cm, vals, work, 0, n, dy, dz, dx, n, m);
     compute_complement(work, n, 0, dx, dz, n, mu);
     compute_complement(work, w, y, dy, dw, s, mu);
     let p = theta_of(work, 0, dx, n, dz, n);

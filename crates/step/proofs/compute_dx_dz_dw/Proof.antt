@@ -32,7 +32,7 @@ add-dw c = search needs
 compute-dx-requires : tie.Need-compute-dx-requires
 compute-dx-requires c κs =
     let e = c .before .before .before .before .before .before .before .before .before .before .before in
-    (e .pre .0 .ranges, omega (arith, e .pre .1 .c-long), before (omega arith), before (omega arith), after (omega arith), after (omega arith), omega (arith, e .pre .2), omega (arith, e .pre .2), omega (arith, e .pre .2), omega (arith, e .pre .2), omega (arith, e .pre .2))
+    (e .pre .0 .ranges, before (omega arith), before (omega arith), after (omega arith), after (omega arith), omega (arith, e .pre .2), omega (arith, e .pre .2), omega (arith, e .pre .2), omega (arith, e .pre .2), omega (arith, e .pre .2))
 
 compute-complement-requires : tie.Need-compute-complement-requires
 compute-complement-requires c κs =
@@ -72,7 +72,7 @@ same-length c = search needs
 returns : tie.Need-returns
 returns c =
     let e = c .before .before .before .before .before .before .before .before .before .before .before .before .before .before .before .before .before .before .before .before .before .before .before .before .before .before .before in
-    changed _ _ (laneData (callOf (e .args .m) (e .args .n) (e .args .s) (e .args .off .now) (e .args .cols .now) (e .args .vals .now) (e .args .b .now) (e .args .c .now) (e .args .tol .now))) _ _ _ _ (e .pre .0) (e .pre .1 .slack) (c .before .before .before .before .before .before .before .before .before .before .before .before .before .before .before .compute-dx .ensures) (c .before .before .before .before .before .before .before .before .before .before .before .compute-complement .ensures) (c .before .before .before .before .before .before .before .compute-complement2 .ensures)
+    changed _ _ (laneData (callOf (e .args .m) (e .args .n) (e .args .s) (e .args .off .now) (e .args .cols .now) (e .args .vals .now) (e .args .b .now) (e .args .c .now) (e .args .tol .now))) _ _ _ _ (e .pre .0) (e .pre .1 .slack) (e .pre .3) (c .before .before .before .before .before .before .before .before .before .before .before .before .before .before .before .compute-dx .ensures) (c .before .before .before .before .before .before .before .before .before .before .before .compute-complement .ensures) (c .before .before .before .before .before .before .before .compute-complement2 .ensures)
     (c .before .before .before .theta-of .ensures) (c .before .theta-of2 .ensures) (c .larger4 .ensures)
 
 pub compute-dx-dz-dw-spec : {M : Type 1} → statement M

@@ -6,7 +6,7 @@ use Rattle.lanes.specs.Region.{before, after}
 use Rattle.machine.specs.Outcome.{laneData}
 use Rattle.machine.specs.Work.{callOf}
 use Rattle.links.proofs.Follows.{rows-for, cols-for, low-for, high-for, planned-for}
-use Rattle.step.proofs.Steps.{directed}
+use Rattle.step.proofs.Steps.{directed, readied}
 use Rattle.step.proofs.Held.{count-for, kept-for, held-for}
 use Rattle.step.proofs.directions.Statement.{statement}
 use Rattle.step.proofs.directions.Tie as tie
@@ -73,7 +73,8 @@ compute-dx-dz-dw-requires c κs =
     let z = c .before .before .before .before .before .before .before .before .before .before .before .normal-eqn-rhs .ensures .still .frame .size in
     let y = c .before .before .before .before .before .before .before .normal-matrix-cholesky-decomposition .ensures .kept .size in
     let x = c .before .before .before .cholesky-solve .ensures .kept .size in
-    (cols-for (e .pre .0), e .pre .1, omega (arith, e .pre .2, x, y, z))
+    let k = kept-for (e .pre .0) (c .before .before .before .before .before .before .before .normal-matrix-cholesky-decomposition .ensures) in
+    (cols-for (e .pre .0), e .pre .1, omega (arith, e .pre .2, x, y, z), readied _ _ _ (c .before .before .before .before .before .before .before .before .before .before .before .normal-eqn-rhs .ensures .ready) k (c .before .before .before .cholesky-solve .ensures .kept))
 
 same-length : tie.Need-same-length
 same-length c = search needs
