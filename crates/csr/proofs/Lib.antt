@@ -1,3 +1,5 @@
+pub mod Chain
+pub mod Examples
 pub mod First
 pub mod Right
 pub mod Yes

@@ -1,9 +1,8 @@
--- The marked examples on the pattern, the sizes and questions 1 to 5: rows under one theorem.
-use mathlib.Core.Path.{_≡_, refl}
+-- The marked examples on the pattern, the sizes and questions 1 to 5: rows under one theorem, `examples-hold` of proofs/Examples.antt. Definitions only.
+use mathlib.Core.Path.{_≡_}
 use mathlib.Core.Bool.{Bool, true, false}
 use mathlib.Core.List.{List, [], _∷_, map}
 use Prim.Native.Nat.{ℕ}
-use native.Mathlib.Omega.{arith}
 use lib.ListN.{length}
 use Rattle.csr.specs.Pattern.{neighbours}
 use Rattle.csr.specs.Chain.{Chain}
@@ -32,7 +31,7 @@ pub data Said : Type 0 where
   there : Bool → Said
   verdict : Verdict → Said
 
-pub answer : Matrix → Ask → Said
+unfoldable pub answer : Matrix → Ask → Said
 unfolding countE countS countD sizeW sizeF isStored firstNo
 answer a E = number (countE (a .offsets) (a .columns) (a .m))
 answer a S = number (countS (a .offsets) (a .columns) (a .m))
@@ -78,7 +77,7 @@ twice = record { m = 1; n = 2; offsets = 0 ∷ 2 ∷ []; columns = 1 ∷ 1 ∷ [
 abbrev tall : ℕ → Matrix
 tall m = record { m = m; n = 1; offsets = []; columns = [] }
 
-pub examples : List Example
+unfoldable pub examples : List Example
 unfolding answer
 examples =
     row single E (number 1) ∷ row single S (number 1) ∷ row single D (number 0) ∷ row single W (number 19) ∷
@@ -93,8 +92,7 @@ examples =
     row star first (verdict passed) ∷ []
 
 -- each example's answer is what it says, and (2, 1) of rows {0, 1}, {0}, {1} has the chain 2-0-1
-pub examples-hold :
-    (map (λ (e : Example). answer (e .of) (e .asks)) examples ≡ map (λ (e : Example). e .says) examples) ×
-    ((chain : Chain (neighbours (star .offsets) (star .columns)) 2 1) × (chain .between ≡ 0 ∷ []))
-unfolding examples answer neighbours
-examples-hold = (refl, (record { between = 0 ∷ []; linked = (refl, refl); below = (omega arith, tt) }, refl))
+abbrev pub Hold : Type 0
+Hold =
+    (map (λ (e : Example). answer (e .of) (e .asks)) examples ≡ map (λ (e : Example). e .says) examples)
+    × ((chain : Chain (neighbours (star .offsets) (star .columns)) 2 1) × (chain .between ≡ 0 ∷ []))

@@ -1,5 +1,8 @@
+pub mod Bools
 pub mod Pattern
 pub mod Chain
+pub mod Walks
+pub mod Factor
 pub mod Counts
 pub mod Csr
 pub mod Verdict

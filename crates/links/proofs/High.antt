@@ -11,7 +11,7 @@ use lib.Dec.{ltb, leb}
 use lib.ListN.{length, getD, length-append}
 use lib.Ieee.{Float}
 use Rattle.csr.specs.Pattern.{has}
-use Rattle.csr.specs.Chain.{factorHas}
+use Rattle.csr.specs.Factor.{factorHas}
 use Rattle.csr.specs.Counts.{sum, isStored}
 use Rattle.lists.specs.Cat.{cat, pick}
 use Rattle.lists.specs.Lists.{Shape, shape, lplace, listOf, piece, inColumn, column, columnEnds, columns, endsOf, columnsOf}

@@ -9,7 +9,9 @@ use native.Mathlib.Numerals.{add-one}
 use lib.ListN.{length, getD}
 use lib.Ieee.{Float}
 use Rattle.csr.specs.Pattern.{has, neighbours, stored}
-use Rattle.csr.specs.Chain.{Chain, stored↔chain, neighbours-sym}
+use Rattle.csr.specs.Chain.{Chain}
+use Rattle.csr.specs.Walks.{neighbours-sym}
+use Rattle.csr.proofs.Chain.{stored↔chain}
 use Rattle.csr.specs.Counts.{sum, one}
 use Rattle.lists.specs.Cat.{cat, pick, pairs}
 use Rattle.lists.specs.Lists.{Shape, shape, lplace, listOf, piece}

@@ -9,7 +9,9 @@ use native.Mathlib.Omega.{arith}
 use lib.Ieee.{Float}
 use lib.ListN.{length, drop, replicate, getD}
 use Rattle.csr.specs.Pattern.{neighbours, stored}
-use Rattle.csr.specs.Chain.{Chain, factor-stored, stored↔chain, neighbours-sym}
+use Rattle.csr.specs.Chain.{Chain}
+use Rattle.csr.specs.Walks.{neighbours-sym}
+use Rattle.csr.proofs.Chain.{factor-stored, stored↔chain}
 use Rattle.lanes.specs.Lists.{at}
 use Rattle.machine.specs.Machine.{Problem, Status, spoilt, live, status, next, yields, machine, left, start, inFactor}
 use Rattle.lanes.specs.Arithmetic.{null}

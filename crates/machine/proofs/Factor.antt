@@ -43,7 +43,7 @@ module _ (A : Problem) (q : State) where
   Before i j a b = (a < i) ⊎ ((a ≡ i) × (b < j))
 
   diag : (i : ℕ) → inFactor A i i ≡ true
-  unfolding inFactor Rattle.csr.specs.Chain.factorHas
+  unfolding inFactor Rattle.csr.specs.Factor.factorHas
   diag i = rw (eq-eqb i i refl) refl
 
   -- an entry reads only what stands before it in the factor

@@ -9,5 +9,5 @@ pub mod Ends
 pub mod Output
 pub mod Demand3
 pub mod Turns
+pub mod Tests
 pub mod Theorems
-pub mod Examples

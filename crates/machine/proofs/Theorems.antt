@@ -8,7 +8,8 @@ use native.Mathlib.Omega.{arith}
 use lib.Dec.{T}
 use lib.Ieee.{nan}
 use Rattle.csr.specs.Pattern.{neighbours}
-use Rattle.csr.specs.Chain.{Chain, factor-stored, stored-diag}
+use Rattle.csr.specs.Chain.{Chain, stored-diag}
+use Rattle.csr.proofs.Chain.{factor-stored}
 use Rattle.machine.specs.Machine.{Problem, LaneData, Settings, State, Status, status, machine, next, yields, G, inFactor}
 use Rattle.machine.specs.Outcome.{Call}
 use Rattle.machine.specs.Theorems as theorems
@@ -17,6 +18,7 @@ use Rattle.machine.proofs.Floats.{unmoved, unmoved-nan, null-mul-nan}
 use Rattle.machine.proofs.Wait.{SoundMachine, left-sound, nan-x, nan-z, nan-y, nan-w, G-spoilt, rust-next}
 use Rattle.machine.proofs.Machines.{waits, wait-lost, machine-next, spoilt-on}
 use Rattle.machine.proofs.Factor.{factor-is}
+use Rattle.machine.proofs.Tests as tests
 use Rattle.machine.proofs.Ends as ending
 use Rattle.machine.proofs.Demand3 as demand
 
@@ -44,6 +46,15 @@ module _ (A : Problem) (H : Settings) (d : LaneData) where
 
   pub rust-steps : theorems.Rust-steps A H d
   rust-steps q n s = rust-next A H d q (status A H d q) refl n s
+
+  pub strictly-below : theorems.Strictly-below A H d
+  strictly-below = tests.strictly-below A H d
+
+  pub divisors-alone : theorems.Divisors-alone A H d
+  divisors-alone = tests.divisors-alone A H d
+
+  pub mu-alone : theorems.Mu-alone A H d
+  mu-alone = tests.mu-alone A H d
 
   pub done-stays : theorems.Done-stays A H d
   done-stays k q a f j = waits A H d q k (a .from) (a .reads) (a .isDone) f j
@@ -89,6 +100,9 @@ module _ (K : ℕ) (says : ℕ → ℕ → Status) where
   larger-limit = ending.larger K says
 
 module _ (C : Call) where
+  pub tolerances-in-order : theorems.Tolerances-in-order C
+  tolerances-in-order = tests.tolerances-in-order C
+
   pub every-test : theorems.Every-test C
   every-test = demand.every-test C
 

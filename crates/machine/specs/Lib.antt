@@ -4,4 +4,3 @@ pub mod Ends
 pub mod Demand3
 pub mod Work
 pub mod Theorems
-pub mod Examples

@@ -11,7 +11,7 @@ use lib.Ieee.Scale.{finite}
 pub use Rattle.machine.specs.declared.Status.{Status}
 pub use Rattle.machine.specs.declared.Status.the-variants.{Spoilt as spoilt, Done as done, Step as steps}
 use Rattle.csr.specs.Pattern.{has, row}
-use Rattle.csr.specs.Chain.{factorHas}
+use Rattle.csr.specs.Factor.{factorHas}
 use Rattle.root.specs.Root.{root}
 use Rattle.lanes.specs.Lists.{at, grow, vec, fold, each}
 use Rattle.lanes.specs.Constants.{startValue, centringValue, dampingValue}

@@ -2,7 +2,7 @@
 use mathlib.Core.Path.{_≡_}
 use mathlib.Core.Logic.{_⊎_, _↔_, _≢_}
 use mathlib.Core.Bool.{Bool, true, false}
-use mathlib.Core.List.{List}
+use mathlib.Core.List.{List, _++_}
 use Prim.Native.Nat.{ℕ, zero, suc, _+_, _≤_, _<_}
 use lib.Dec.{T}
 use lib.ListN.{length}
@@ -12,8 +12,8 @@ use Rattle.csr.specs.Pattern.{neighbours, stored}
 use Rattle.csr.specs.Chain.{Chain}
 use Rattle.lanes.specs.Arithmetic.{_⊕_, _⊗_, null, one}
 use Rattle.lanes.specs.Lists.{at}
-use Rattle.machine.specs.Machine.{Problem, LaneData, Settings, State, live, Status, spoilt, done, status, mu, direction, allFinite, after, G, machine, yields, inFactor, cell, factor, factorEntry}
-use Rattle.machine.specs.Outcome.{Outcome, noAt12, largestLimit, outcome, Call}
+use Rattle.machine.specs.Machine.{Problem, LaneData, Settings, State, live, Status, spoilt, done, status, mu, direction, allFinite, after, standard, R, Q, G, machine, yields, inFactor, cell, factor, factorEntry}
+use Rattle.machine.specs.Outcome.{Outcome, noAt12, largestLimit, outcome, Call, laneData}
 use Rattle.machine.specs.Ends.{Ends}
 use Rattle.machine.specs.Demand3.{Memory, Buffers, Has, AtTest, Made, Demand3}
 use Rattle.machine.specs.Work.{stepOf}
@@ -77,6 +77,20 @@ module _ (A : Problem) (H : Settings) (d : LaneData) where
       → SoundState A q
       → Has (after A H d q (status A H d q)) (stepOf A H d q (status A H d q))
       × (status A H d (stepOf A H d q (status A H d q)) ≡ yields A H d (after A H d q (status A H d q)))
+
+  -- ---- a test
+
+  -- 'strictly': a measure that is just its tolerance is not below it
+  abbrev pub Strictly-below : Type 0
+  Strictly-below = (q : State) → (R A H d q ≡ d .primal) ⊎ ((Q A H d q ≡ d .dual) ⊎ (G A H d q ≡ d .gap)) → status A H d q ≢ done
+
+  -- '1 + root(Σx²)', '1 + root(Σy²)': the divisors of R and Q read neither b nor c
+  abbrev pub Divisors-alone : Type 0
+  Divisors-alone = (d' : LaneData) (q : State) → (standard .divisorR A d' q ≡ standard .divisorR A d q) × (standard .divisorQ A d' q ≡ standard .divisorQ A d q)
+
+  -- 'n + s': of the problem mu reads n and s, and no row that is not slack
+  abbrev pub Mu-alone : Type 0
+  Mu-alone = (A' : Problem) (q : State) → A' .n ≡ A .n → A' .s ≡ A .s → mu A' H d q ≡ mu A H d q
 
   -- ---- the machine from test to test
 
@@ -143,6 +157,17 @@ module _ (K : ℕ) (says : ℕ → ℕ → Status) where
   Larger-limit = (N N' : ℕ) → N ≤ N' → outcome K says N ≢ noAt12 N → outcome K says N' ≡ outcome K says N
 
 module _ (C : Call) where
+  -- 'four primal, four dual, four optimality' tolerances: lane l has number l of each
+  abbrev pub Tolerances-in-order : Type 0
+  Tolerances-in-order =
+      (primal dual gap : List Float)
+      → length primal ≡ C .K
+      → length dual ≡ C .K
+      → C .tolerances ≡ primal ++ (dual ++ gap)
+      → (l : ℕ)
+      → l < C .K
+      → (laneData C l .primal ≡ at primal l) × (laneData C l .dual ≡ at dual l) × (laneData C l .gap ≡ at gap l)
+
   -- what the tests made say of each one of them
   abbrev pub Every-test : Type 0
   Every-test =

@@ -8,21 +8,11 @@ use native.Mathlib.Omega.{arith}
 use native.Mathlib.Decide.{ℕ-discrete, decLt}
 use borrow.Author.Tests.{eq-eqb, eqb-true}
 use lib.Dec.{eqb}
+use Rattle.csr.specs.Bools.{or-out, or-left, or-right}
 use Rattle.csr.specs.Pattern.{has, shares, row, neighbours, stored}
 use Rattle.csr.specs.Chain.{Below, Meets, stored-rule}
 use Rattle.csr.specs.Csr.{Accepted}
 use Rattle.pattern.specs.Links.{orElse, linked, firstOf, links, Inside}
-
-or-out : (a b : Bool) → a || b ≡ true → (a ≡ true) ⊎ (b ≡ true)
-or-out true b e = inl refl
-or-out false b e = inr e
-
-or-left : (a b : Bool) → a ≡ true → a || b ≡ true
-or-left a b e = rw e
-
-or-right : (a b : Bool) → b ≡ true → a || b ≡ true
-or-right true b e = refl
-or-right false b e = e
 
 -- ---- a number of a list
 

@@ -12,6 +12,7 @@ use lib.Count.{ones}
 use lib.ListN.{length, getD, set}
 use lib.Seq.{getD-set-same, getD-set-other}
 use borrow.Author.Tests.{ne-eqb, eq-eqb, eqb-true, eqb-false, not-true, not-false, le-leb, lt-leb, lt-ltb, le-ltb, leb-true}
+use Rattle.csr.specs.Bools.{and-out}
 use Rattle.csr.specs.Pattern.{stored, fill}
 use Rattle.csr.specs.Chain.{Meets, stored-diag, fill-out, fill-in, fill-nb, off-diag}
 use Rattle.csr.specs.Counts.{sum, one}
@@ -125,14 +126,6 @@ meet-digit p i j d h =
 -- rows i and j have bit k in common
 abbrev pub Common : List ℕ → ℕ → ℕ → Type 0
 Common p i j = (k : ℕ) × (k < 256) × (bit p i k ≡ true) × (bit p j k ≡ true)
-
-or-out : (a b : Bool) → a || b ≡ true → (a ≡ true) ⊎ (b ≡ true)
-or-out true b e = inl refl
-or-out false b e = inr e
-
-and-out : (a b : Bool) → a && b ≡ true → (a ≡ true) × (b ≡ true)
-and-out true b e = (refl, e)
-and-out false b e = absurd (false≢true e)
 
 four-out : (a b c d : Bool) → a || b || c || d ≡ true → (a ≡ true) ⊎ ((b ≡ true) ⊎ ((c ≡ true) ⊎ (d ≡ true)))
 four-out true b c d e = inl refl

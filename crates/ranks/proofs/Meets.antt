@@ -8,7 +8,7 @@ use lib.ListN.{length, getD, length-map, drop, length-drop}
 use lib.Seq.{length-take-le}
 use lib.Ieee.{Float, binary64, add, sub, mul, div}
 use Rattle.csr.specs.Pattern.{row}
-use Rattle.csr.specs.Chain.{factorHas}
+use Rattle.csr.specs.Factor.{factorHas}
 use Rattle.csr.specs.Counts.{one}
 use Rattle.lists.specs.Cat.{pick}
 use Rattle.lists.specs.Lists.{Shape, shape, find, place, lplace, before, weight, products, shared, piece, listOf}

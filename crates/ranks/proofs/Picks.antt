@@ -12,7 +12,9 @@ use lib.Seq.{getD-at}
 use borrow.Author.Tests.{eq-eqb, ne-eqb}
 use lib.Ieee.{Float}
 use Rattle.csr.specs.Pattern.{has, row, shares, neighbours, stored}
-use Rattle.csr.specs.Chain.{Below, stored-rule, factorHas, factor-stored, stored-diag}
+use Rattle.csr.specs.Chain.{Below, stored-rule, stored-diag}
+use Rattle.csr.specs.Factor.{factorHas}
+use Rattle.csr.proofs.Chain.{factor-stored}
 use Rattle.csr.specs.Csr.{Under, Rising}
 use Rattle.csr.specs.Counts.{sum, one, common, isStored}
 use Rattle.lists.specs.Cat.{cat, pick}

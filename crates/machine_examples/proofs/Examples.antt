@@ -2,8 +2,8 @@
 use mathlib.Core.Path.{refl}
 use mathlib.Core.List.{List, [], _∷_, _++_}
 use lib.Ieee.{toBits, ofBits, add, sub, mul, div, neg, lt, ofInt, round, isNan}
 use Rattle.machine.specs.Outcome.{solved, xAt}
-use Rattle.machine.specs.Examples.{Row, Answers, Writes, All, firstTest, later, rows, paper-accepted, paper-strict, divisors, strict-R, strict-G, layout, spent, empty-done, empty-spent, paper-nan, chained}
+use Rattle.machine_examples.specs.Examples.{Row, Answers, Writes, All, firstTest, later, rows, paper-accepted, paper-strict, divisors, strict-R, strict-G, layout, spent, empty-done, empty-spent, paper-nan, chained}
 
 paper-accepted-answers : Answers paper-accepted
 unfolding solved xAt toBits ofBits add sub mul div neg lt ofInt round isNan

@@ -6,9 +6,11 @@ use Prim.Native.Nat.{ℕ}
 use lib.Ieee.{Float, nan, binary64, toBits, ofBits, round}
 use lib.ListN.{replicate}
 use Rattle.lanes.specs.Arithmetic.{_⊘_, whole, one, null}
 use Rattle.machine.specs.Machine.{Problem, standard}
-use Rattle.machine.specs.Outcome.{Call, Outcome, accepted, noAt11, noAt12, solved}
+use Rattle.machine.specs.declared.Outcome.{Outcome}
+use Rattle.machine.specs.declared.Outcome.the-variants.{Accepted as accepted, NoAt11 as noAt11, NoAt12 as noAt12}
+use Rattle.machine.specs.Outcome.{Call, solved}
 use Rattle.machine.specs.Demand3.{outputAfter}
 
 -- a call, a limit, the answer, and the bits of the output where it is accepted
 pub record Row : Type 0 where

@@ -1,0 +1,1 @@
+// Worked examples of the one-lane machine: definitions and laws only.
