@@ -54,7 +54,9 @@ returns c =
     record { sizes = c .before .before .before .before .count-all .ensures; words = sym (fin.written-off (a .m) (a .n) (a .offsets .now) (a .columns .now) (a .index .now) (a .below) (omega (arith, c .if1 .taken, c .before .before .before .before .count-all .ensures .stored))) }
 
 words-requires : tie.Need-words-requires
-words-requires c κs = (c .before .before .before .before .before .before .before .before .before .before .before .before .before .before .before .before .before .before .before .before .before .before .before .before .before .before .before .before .pre .0 .csr .few, c .before .before .before .before .before .before .before .before .before .before .before .before .before .before .before .before .before .before .before .before .before .before .before .before .before .before .before .before .pre .0 .wide, c .before .before .before .before .before .before .before .before .before .before .before .before .before .before .before .before .before .before .before .before .before .before .before .before .before .before .before .before .pre .0 .csr .nnz, c .before .before .before .before .count-all .ensures .few)
+words-requires c κs =
+    let p = c .before .before .before .before .before .before .before .before .before .before .before .before .before .before .before .before .before .before .before .before .before .before .before .before .before .before .before .before .pre .0 in
+    (p .csr .few, omega (arith, p .csr .few, p .wide), p .csr .nnz, c .before .before .before .before .count-all .ensures .few)
 
 same-length-4 : tie.Need-same-length-4
 same-length-4 c = search needs
