@@ -13,8 +13,8 @@ use Rattle.pattern.proofs.Digits.{sum-ext}
 use Rattle.pattern.proofs.Whole.{count-D, sum-cut}
 use Rattle.lists.specs.Cat.{cat, pick}
 use Rattle.lists.specs.Ready.{Ready}
-use Rattle.ipm_common.specs.Kept.{kept, Rows}
-use Rattle.ipm_common.proofs.Lists.{kept-has, kept-none}
+use Rattle.pairs.specs.Kept.{kept, Rows}
+use Rattle.pairs.proofs.Lists.{kept-has, kept-none}
 
 common-join : (xs ys zs : List ℕ) → common (xs ++ ys) zs ≡ common xs zs + common ys zs
 unfolding common

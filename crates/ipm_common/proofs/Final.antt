@@ -17,8 +17,8 @@ use Rattle.lists.specs.declared.Side.the-variants.{Factor, Matrix}
 use Rattle.lists.proofs.Write.{wrote-as}
 use Rattle.lists.proofs.Whole.{three, three-length}
 use Rattle.transpose.specs.Bins.{Grid, sideIn}
-use Rattle.ipm_common.specs.Kept.{Rows}
-use Rattle.ipm_common.proofs.Factor.{side-same}
+use Rattle.pairs.specs.Kept.{Rows}
+use Rattle.pairs.proofs.Factor.{side-same}
 use Rattle.ipm_common.proofs.Counted.{and-false}
 
 pub accepted-grid : (off cols : List ℕ) (m n : ℕ) → Accepted off cols m n → Grid off cols m n

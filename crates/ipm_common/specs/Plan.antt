@@ -2,7 +2,7 @@
 use mathlib.Core.Path.{_≡_}
 use mathlib.Core.Bool.{_&&_, cond}
 use mathlib.Core.List.{List, _++_}
-use Prim.Native.Nat.{ℕ, _≤_}
+use Prim.Native.Nat.{ℕ, _<_, _≤_}
 use lib.Dec.{leb, ltb}
 use lib.ListN.{length, drop}
 use Rattle.csr.specs.Verdict.{Verdict, passed, planned, accepted, refused, ask, andThen, refusal}
@@ -41,6 +41,11 @@ planIndex m n offsets columns index =
     left (planVerdict m n offsets columns (length index))
     (planWords offsets columns m n ++ drop (sizeW offsets columns m n) index)
     index
+
+-- a memory has a word for each row and one for each column, and one more
+pub record Room (m n : ℕ) (s : List ℕ) : Type 0 where
+  pub rows : m < length s
+  pub columns : n < length s
 
 -- E, S and D
 pub record Tallied (offsets columns : List ℕ) (m e s d : ℕ) : Type 0 where

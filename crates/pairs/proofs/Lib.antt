@@ -1,0 +1,5 @@
+pub mod Lists
+pub mod Factor
+pub mod Through
+pub mod Stored
+pub mod Turns
