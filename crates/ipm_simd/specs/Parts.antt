@@ -1,35 +1,20 @@
 -- What the parts of a solve start from, and what they leave. Definitions only.
 use mathlib.Core.Path.{_≡_}
-use mathlib.Core.List.{List, _++_}
+use mathlib.Core.List.{List}
 use Prim.Native.Nat.{ℕ, _+_, _*_, _<_, _≤_}
 use lib.ListN.{length}
 use lib.Ieee.{Float}
 use Rattle.csr.specs.Csr.{Accepted}
-use Rattle.csr.specs.Counts.{countE, countS, countD, sizeW}
-use Rattle.lists.specs.Lists.{planWords}
+use Rattle.csr.specs.Counts.{sizeW}
 use Rattle.machine.specs.declared.Outcome.{Outcome}
 use Rattle.machine.specs.declared.Outcome.the-variants.{Accepted as accepted, NoAt11 as noAt11, NoAt12 as noAt12}
 use Rattle.machine.specs.Outcome.{largestLimit, solved}
 use Rattle.machine.specs.Demand3.{Buffers, leaves, Demand3}
 use Rattle.csr.specs.Verdict.{passed, andThen}
 use Rattle.tests.specs.Layout.{lAt, Lent}
+use Rattle.cuts.specs.Planned.{Counted}
 use Rattle.ipm_simd.specs.declared.SolveAnswer.{SolveAnswer}
 use Rattle.ipm_simd.specs.Solve.{Given, call, words, room, plannedHas, told, outcomeVerdict, sizesVerdict, memoryVerdict, ifPassed}
-
--- e, h and d are E, S and D
-pub record Counted (off cols : List ℕ) (m e h d : ℕ) : Type 0 where
-  pub stored : e ≡ countE off cols m
-  pub shared : h ≡ countS off cols m
-  pub products : d ≡ countD off cols m
-
--- an accepted matrix with its values, and an index memory that starts with its plan
-pub record Planned (off cols : List ℕ) (vals : List Float) (m n s : ℕ) (index : List ℕ) (e h d : ℕ) : Type 0 where
-  pub ok : Accepted off cols m n
-  pub values : length vals ≡ length cols
-  pub slack : s ≤ m
-  pub counts : Counted off cols m e h d
-  pub rest : List ℕ
-  pub plan : index ≡ planWords off cols m n ++ rest
 
 -- questions 1 to 10 got a yes
 pub record Asked10 (a : Given) (B : Buffers) (e h d : ℕ) : Type 0 where

@@ -1,6 +1,5 @@
 // Four linear programs over one matrix, solved lane by lane: the public call.
 ghost use mathlib.Core.Path.{_≡_};
-ghost use mathlib.Core.Bool.{_&&_};
 ghost use mathlib.Core.List.{List, _++_};
 ghost use Prim.Native.Nat.{ℕ, _+_, _*_, _<_, _≤_};
 ghost use lib.ListN.{length, take, drop, replicate};
@@ -10,12 +9,9 @@ ghost use Rattle.lists.specs.Lists.{planWords};
 ghost use Rattle.csr.specs.Verdict.{told as toldAsked};
 ghost use Rattle.lanes.specs.Arithmetic.{null};
 ghost use Rattle.machine.specs.declared.Outcome.the-variants.{NoAt11};
-ghost use Rattle.machine.specs.Work.{callOf};
-ghost use Rattle.step.specs.Steps.{Untouched};
-ghost use Rattle.run.specs.Tests.{memoryAt, Run};
-ghost use Rattle.tests.specs.Layout.{lAt, Lent};
+ghost use Rattle.cuts.specs.Planned.{Planned};
 ghost use Rattle.ipm_simd.specs.Solve.{given, lent, told, outcomeVerdict, lengthsRight, sizesVerdict, Solved};
-ghost use Rattle.ipm_simd.specs.Parts.{Planned, Asked10, EntriesBelow, written, Continued, Finished};
+ghost use Rattle.ipm_simd.specs.Parts.{Asked10, EntriesBelow, written, Continued, Finished};
 use csr::Asked;
 use csr::Refusal;
 use lanes::LaneState;
@@ -99,75 +95,6 @@ fn ask_sizes(
     Asked::Good
 }
 
-// The tests, on the sixteen lists cut out of the index memory.
-fn run_plan(
-    offsets: &[u32],
-    columns: &[u32],
-    values: &[f64],
-    b: &[f64],
-    c: &[f64],
-    tolerances: &[f64],
-    index: &[u32],
-    work: &mut [f64],
-    m: usize,
-    n: usize,
-    s: usize,
-    limit: usize,
-    e: usize,
-    h: usize,
-    d: usize,
-) -> Outcome
-    requires { ⌜ Planned (now offsets) (now columns) (now values) m n s (now index) e h d × Lent m n s (now b) (now c) (now tolerances) × (4 * (lAt n m s + e) ≤ length (now work)) × (1 ≤ limit) ⌝ }
-    ensures { λ r. ⌜ Untouched (lAt n m s + e) (now (work .entry)) (now (work .exit)) × Run (callOf m n s (now (offsets .entry)) (now (columns .entry)) (now (values .entry)) (now (b .entry)) (now (c .entry)) (now (tolerances .entry))) limit (memoryAt m n s (now (work .exit))) r ⌝ }
-{
-    let t = columns.len();
-    let b1 = e + 1;
-    let b2 = b1 + h;
-    let b3 = b2 + h;
-    let b4 = b3 + h;
-    let b5 = b4 + (e + 1);
-    let b6 = b5 + d;
-    let b7 = b6 + d;
-    let b8 = b7 + (m + 1);
-    let b9 = b8 + m;
-    let b10 = b9 + e;
-    let b11 = b10 + (m + 1);
-    let b12 = b11 + e;
-    let b13 = b12 + e;
-    let b14 = b13 + (n + 1);
-    let b15 = b14 + t;
-    let b16 = b15 + t;
-    run::run(
-        offsets,
-        columns,
-        values,
-        &index[0..b1],
-        &index[b1..b2],
-        &index[b2..b3],
-        &index[b3..b4],
-        &index[b4..b5],
-        &index[b5..b6],
-        &index[b6..b7],
-        &index[b7..b8],
-        &index[b8..b9],
-        &index[b9..b10],
-        &index[b10..b11],
-        &index[b11..b12],
-        &index[b12..b13],
-        &index[b13..b14],
-        &index[b14..b15],
-        &index[b15..b16],
-        b,
-        c,
-        tolerances,
-        work,
-        m,
-        n,
-        s,
-        limit,
-    )
-}
-
 // The first numbers of the memory, all that the output has room for.
 fn copy_front(output: &mut [f64], work: &[f64])
     requires { ⌜ length (now output) ≤ length (now work) ⌝ }
@@ -230,7 +157,7 @@ fn solve_planned(
     ensures { λ r. ⌜ ((old : List ℕ) → Asked10 (given m n s (now (offsets .entry)) (now (columns .entry)) (now (values .entry)) (now (b .entry)) (now (c .entry)) (now (tolerances .entry)) limit) (lent (now (output .entry)) old (now (work .entry))) e h d → now (index .entry) ≡ planWords (now (offsets .entry)) (now (columns .entry)) m n ++ drop (sizeW (now (offsets .entry)) (now (columns .entry)) m n) old → Finished (given m n s (now (offsets .entry)) (now (columns .entry)) (now (values .entry)) (now (b .entry)) (now (c .entry)) (now (tolerances .entry)) limit) (lent (now (output .entry)) old (now (work .entry))) (lent (now (output .exit)) (now (index .entry)) (now (work .exit))) r) ⌝ }
 {
     let room = 4 * (5 * n + 3 * m + 2 * s + e);
-    let outcome = run_plan(
+    let outcome = cuts::run_plan(
         offsets,
         columns,
         values,

@@ -2,16 +2,16 @@
 use Prim.Native.Nat.{ℕ, _+_, _*_}
 use borrow.Author.Needs.{needs}
 use native.Mathlib.Omega.{arith}
-use mathlib.Core.Path.{_≡_, sym, ap, _∙_, subst}
-use mathlib.Core.List.{List, _++_}
+use mathlib.Core.Path.{sym, ap, _∙_, subst}
+use mathlib.Core.List.{List}
 use lib.ListN.{length, drop}
-use Rattle.csr.specs.Verdict.{Verdict, passed, refusal, told}
+use Rattle.csr.specs.Verdict.{told}
 use Rattle.csr.specs.Counts.{sizeW}
-use Rattle.lists.specs.Lists.{planWords}
 use Rattle.links.proofs.Few.{few-stored, few-shared, few-products}
 use Rattle.ipm_simd.specs.declared.SolveAnswer.the-variants as answers
 use Rattle.ipm_simd.specs.Solve.{given, lent, sizesVerdict}
-use Rattle.ipm_simd.specs.Parts.{Counted, Asked10, Continued}
+use Rattle.ipm_simd.specs.Parts.{Continued}
+use Rattle.cuts.specs.Planned.{Counted}
 use Rattle.ipm_simd.proofs.Solves.{asked-all, refused-here, go-on, index-planned, index-kept}
 use Rattle.ipm_simd.proofs.solve_accepted.Statement.{statement}
 use Rattle.ipm_simd.proofs.solve_accepted.Tie as tie

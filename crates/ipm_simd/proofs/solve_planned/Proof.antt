@@ -1,7 +1,6 @@
 -- `ipm_simd::solve_planned` meets its contract. Assumes nothing.
 use borrow.Author.Needs.{needs}
 use native.Mathlib.Omega.{arith}
-use Prim.Native.Nat.{_*_, _+_}
 use Rattle.ipm_simd.specs.Solve.{given, call}
 use Rattle.ipm_simd.proofs.Solves.{lane-under, finished}
 use Rattle.ipm_simd.proofs.solve_planned.Statement.{statement}

@@ -1,10 +1,10 @@
+-- `cuts::run_plan` meets its contract. Assumes nothing.
 use borrow.Author.Needs.{needs}
 use native.Mathlib.Omega.{arith}
-use Prim.Native.Nat.{_*_, _+_}
 use Rattle.tests.specs.Layout.{lAt}
-use Rattle.ipm_simd.proofs.Solves.{plan-room, prepared-plan, places-fit, count-plan, untouched-count}
-use Rattle.ipm_simd.proofs.run_plan.Statement.{statement}
-use Rattle.ipm_simd.proofs.run_plan.Tie as tie
+use Rattle.cuts.proofs.Cuts.{plan-room, prepared-plan, places-fit, count-plan, untouched-count}
+use Rattle.cuts.proofs.run_plan.Statement.{statement}
+use Rattle.cuts.proofs.run_plan.Tie as tie
 
 add-b1 : tie.Need-add-b1
 add-b1 c = let z = plan-room (c .before .before .before .before .before .before .before .before .pre .0) in omega (arith, z)
