@@ -4,10 +4,12 @@ ghost use mathlib.Core.Logic.{_≢_};
 ghost use Prim.Native.Nat.{ℕ, _+_, _*_, _<_, _≤_};
 ghost use lib.ListN.{length, getD};
 ghost use Rattle.machine.specs.declared.Status.the-variants.{Spoilt};
-ghost use Rattle.machine.specs.Work.{callOf, Says, Stepped};
+ghost use Rattle.machine.specs.Machine.{standard};
+ghost use Rattle.machine.specs.Outcome.{laneData};
+ghost use Rattle.machine.specs.Work.{callOf, problemOf, Says, Stepped};
 ghost use Rattle.links.specs.Prepared.{Prepared};
-ghost use Rattle.tests.specs.Layout.{lAt, Lent};
-ghost use Rattle.step.specs.Steps.{Untouched};
+ghost use Rattle.tests.specs.Layout.{lAt, Lent, Measured};
+ghost use Rattle.step.specs.Steps.{Untouched, Centred};
 ghost use Rattle.run.specs.Tests.{memoryAt, Bears, Tested, Run};
 use machine::Outcome;
 use machine::Status;
@@ -42,12 +44,34 @@ fn test_at(
     m: usize,
     n: usize,
     s: usize,
+    nx: [f64; 4],
+    ny: [f64; 4],
+    g: [f64; 4],
+    mu: [f64; 4],
     k: usize,
 ) -> [Status; 4]
-    requires { ⌜ Prepared (now off) (now cols) (now vals) m n s (now ap) (now ai) (now aj) (now ae) (now dp) (now di) (now dj) (now lp) (now ld) (now li) (now tp) (now ti) (now tm) (now cp) (now ci) (now cm) × Lent m n s (now b) (now c) (now tol) × (4 * (lAt n m s + length (now li)) ≤ length (now work)) × Bears (callOf m n s (now off) (now cols) (now vals) (now b) (now c) (now tol)) k (memoryAt m n s (now work)) ⌝ }
+    requires { ⌜ Prepared (now off) (now cols) (now vals) m n s (now ap) (now ai) (now aj) (now ae) (now dp) (now di) (now dj) (now lp) (now ld) (now li) (now tp) (now ti) (now tm) (now cp) (now ci) (now cm) × Lent m n s (now b) (now c) (now tol) × (4 * (lAt n m s + length (now li)) ≤ length (now work)) × Bears (callOf m n s (now off) (now cols) (now vals) (now b) (now c) (now tol)) k (memoryAt m n s (now work)) × Measured m n s (now work) nx ny g mu ⌝ }
     ensures { λ r. ⌜ Tested (callOf m n s (now (off .entry)) (now (cols .entry)) (now (vals .entry)) (now (b .entry)) (now (c .entry)) (now (tol .entry))) k (memoryAt m n s (now (work .entry))) r ⌝ }
 {
-    tests::test(off, cols, vals, cp, ci, cm, b, c, tol, work, m, n, s)
+    tests::test(
+        off,
+        cols,
+        vals,
+        cp,
+        ci,
+        cm,
+        b,
+        c,
+        tol,
+        work,
+        m,
+        n,
+        s,
+        nx,
+        ny,
+        g,
+        mu,
+    )
 }
 
 // The step after a test that found no lane spoilt.
@@ -79,8 +103,9 @@ fn step_at(
     n: usize,
     s: usize,
     statuses: [Status; 4],
+    mu: [f64; 4],
 )
-    requires { ⌜ Prepared (now off) (now cols) (now vals) m n s (now ap) (now ai) (now aj) (now ae) (now dp) (now di) (now dj) (now lp) (now ld) (now li) (now tp) (now ti) (now tm) (now cp) (now ci) (now cm) × Lent m n s (now b) (now c) (now tol) × (4 * (lAt n m s + length (now li)) ≤ length (now work)) × Says (callOf m n s (now off) (now cols) (now vals) (now b) (now c) (now tol)) (memoryAt m n s (now work)) statuses × ((l : ℕ) → l < 4 → getD statuses l Spoilt ≢ Spoilt) ⌝ }
+    requires { ⌜ Prepared (now off) (now cols) (now vals) m n s (now ap) (now ai) (now aj) (now ae) (now dp) (now di) (now dj) (now lp) (now ld) (now li) (now tp) (now ti) (now tm) (now cp) (now ci) (now cm) × Lent m n s (now b) (now c) (now tol) × (4 * (lAt n m s + length (now li)) ≤ length (now work)) × Says (callOf m n s (now off) (now cols) (now vals) (now b) (now c) (now tol)) (memoryAt m n s (now work)) statuses × ((l : ℕ) → l < 4 → getD statuses l Spoilt ≢ Spoilt) × Centred (problemOf m n s (now off) (now cols) (now vals)) standard (laneData (callOf m n s (now off) (now cols) (now vals) (now b) (now c) (now tol))) mu (now work) ⌝ }
     ensures { λ _. ⌜ Untouched (lAt n m s + length (now (li .entry))) (now (work .entry)) (now (work .exit)) × Stepped (callOf m n s (now (off .entry)) (now (cols .entry)) (now (vals .entry)) (now (b .entry)) (now (c .entry)) (now (tol .entry))) (memoryAt m n s (now (work .entry))) (memoryAt m n s (now (work .exit))) ⌝ }
 {
     step_lanes(
@@ -111,6 +136,7 @@ fn step_at(
         n,
         s,
         statuses,
+        mu,
     );
 }
 
@@ -151,6 +177,11 @@ pub fn run(
     let mut k: usize = 0;
     loop {
         k += 1;
+        let sums = tests::measure(work, m, n, s);
+        let nx = sums.nx;
+        let ny = sums.ny;
+        let g = sums.g;
+        let mu = sums.mu;
         let statuses = test_at(
             off,
             cols,
@@ -178,6 +209,10 @@ pub fn run(
             m,
             n,
             s,
+            nx,
+            ny,
+            g,
+            mu,
             k,
         );
         let spoilt = machine::lowest_spoilt(statuses);
@@ -219,6 +254,7 @@ pub fn run(
             n,
             s,
             statuses,
+            mu,
         );
     }
 }

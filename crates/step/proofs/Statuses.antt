@@ -20,7 +20,7 @@ use Rattle.machine.specs.declared.Status.the-variants.{Spoilt, Done, Step}
 use Rattle.machine.specs.Outcome.{isDone}
 use Rattle.machine.specs.Work.{stepOf, stepBy}
 use Rattle.tests.specs.Layout.{yAt, wAt, numbersAt}
-use Rattle.step.specs.Steps.{Fresh, Took, LanesStep}
+use Rattle.step.specs.Steps.{Fresh, Took, Centred, LanesStep}
 use Rattle.step.proofs.Steps.{untouched, untouched-on}
 
 -- ---- the start
@@ -74,7 +74,7 @@ module _ (A : Problem) (H : Settings) (d : LaneData) (q : State) where
 
 pub by-statuses : (A : Problem) (H : Settings) (d : ℕ → LaneData) {top : ℕ} {m : List Float} {done : List Bool} {old new : List Float} (statuses : List Status)
     → Took A H d top m done old new
-    → ((t : ℕ) → t < 4 → at m t ≡ mu A H (d t) (numbersAt (A .m) (A .n) (A .s) old t))
+    → Centred A H d m old
     → ((t : ℕ) → t < 4 → getD done t false ≡ isDone (getD statuses t Spoilt))
     → ((t : ℕ) → t < 4 → getD statuses t Spoilt ≡ status A H (d t) (numbersAt (A .m) (A .n) (A .s) old t))
     → ((t : ℕ) → t < 4 → getD statuses t Spoilt ≢ Spoilt)

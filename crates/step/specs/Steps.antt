@@ -9,7 +9,7 @@ use Rattle.lanes.specs.Lists.{at, vec}
 use Rattle.lanes.specs.Region.{reg}
 use Rattle.lanes.specs.Arithmetic.{_⊖_, _⊘_, null, one, smaller}
 use Rattle.lanes.specs.Constants.{startValue, dampingValue}
-use Rattle.machine.specs.Machine.{Problem, LaneData, Settings, State, Direction, columnProduct, fOf, dxOf, complement, theta, direction, stepLength, moved, status}
+use Rattle.machine.specs.Machine.{Problem, LaneData, Settings, State, Direction, columnProduct, fOf, dxOf, complement, theta, direction, stepLength, moved, mu, status}
 use Rattle.machine.specs.Work.{stepBy, stepOf}
 use Rattle.tests.specs.Layout.{dyAt, rhsAt, lAt, numbersAt, directionAt}
 
@@ -77,6 +77,10 @@ module _ (A : Problem) where
           → let q = numbersIn old t in
           let r = direction A H (d t) q (at mu t) in
           numbersIn new t ≡ stepBy A q (cond (getD done t false) null (stepLength A H (d t) q r)) r
+
+    -- each lane's mu is its machine's, of the numbers in a memory
+    abbrev pub Centred : List Float → List Float → Type 0
+    Centred ts ws = (t : ℕ) → t < 4 → at ts t ≡ mu A H (d t) (numbersIn ws t)
 
     -- each lane takes its own step, as its own test says
     pub record LanesStep (top : ℕ) (old new : List Float) : Type 0 where

@@ -15,7 +15,7 @@ ghost use Rattle.machine.specs.Work.{callOf, problemOf};
 ghost use Rattle.links.specs.Planned.{RowsOf, ColsOf};
 ghost use Rattle.links.specs.Prepared.{Prepared};
 ghost use Rattle.tests.specs.Layout.{lAt, numbersAt, Lent};
-ghost use Rattle.step.specs.Steps.{Ready, RightSide, Changed, Directed, Advanced, Took, Fresh, LanesStep};
+ghost use Rattle.step.specs.Steps.{Ready, RightSide, Changed, Directed, Advanced, Took, Fresh, Centred, LanesStep};
 use factor::normal_matrix_cholesky_decomposition;
 use kernels::compute_complement;
 use kernels::compute_dx;
@@ -32,8 +32,6 @@ use lanes::smaller4;
 use lanes::splat;
 use machine::Status;
 use substitution::cholesky_solve;
-use tests::gamma;
-use tests::mu_in;
 
 // The reduced costs and mu/x, in the regions of dx and dz; of them u, and of u f, the right-hand side.
 fn normal_eqn_rhs(
@@ -332,12 +330,11 @@ pub fn step_lanes(
     n: usize,
     s: usize,
     statuses: [Status; 4],
+    mu: [f64; 4],
 )
-    requires { ⌜ Prepared (now off) (now cols) (now vals) m n s (now ap) (now ai) (now aj) (now ae) (now dp) (now di) (now dj) (now lp) (now ld) (now li) (now tp) (now ti) (now tm) (now cp) (now ci) (now cm) × Lent m n s (now b) (now c) (now tol) × (4 * (lAt n m s + length (now li)) ≤ length (now work)) × ((l : ℕ) → l < 4 → getD statuses l Spoilt ≡ status (problemOf m n s (now off) (now cols) (now vals)) standard (laneData (callOf m n s (now off) (now cols) (now vals) (now b) (now c) (now tol)) l) (numbersAt m n s (now work) l)) × ((l : ℕ) → l < 4 → getD statuses l Spoilt ≢ Spoilt) ⌝ }
+    requires { ⌜ Prepared (now off) (now cols) (now vals) m n s (now ap) (now ai) (now aj) (now ae) (now dp) (now di) (now dj) (now lp) (now ld) (now li) (now tp) (now ti) (now tm) (now cp) (now ci) (now cm) × Lent m n s (now b) (now c) (now tol) × (4 * (lAt n m s + length (now li)) ≤ length (now work)) × ((l : ℕ) → l < 4 → getD statuses l Spoilt ≡ status (problemOf m n s (now off) (now cols) (now vals)) standard (laneData (callOf m n s (now off) (now cols) (now vals) (now b) (now c) (now tol)) l) (numbersAt m n s (now work) l)) × ((l : ℕ) → l < 4 → getD statuses l Spoilt ≢ Spoilt) × Centred (problemOf m n s (now off) (now cols) (now vals)) standard (laneData (callOf m n s (now off) (now cols) (now vals) (now b) (now c) (now tol))) mu (now work) ⌝ }
     ensures { λ _. ⌜ LanesStep (problemOf m n s (now (off .entry)) (now (cols .entry)) (now (vals .entry))) standard (laneData (callOf m n s (now (off .entry)) (now (cols .entry)) (now (vals .entry)) (now (b .entry)) (now (c .entry)) (now (tol .entry)))) (lAt n m s + length (now (li .entry))) (now (work .entry)) (now (work .exit)) ⌝ }
 {
-    let g = gamma(work, m, n, s);
-    let mu = mu_in(g, n, s);
     let done = lanes_done(statuses);
     normal_eqn_step(
         off,

@@ -19,7 +19,7 @@ use Rattle.lanes.proofs.Regions.{reg-at}
 use Rattle.lanes.proofs.Quads.{lane-of}
 use Rattle.kernels.specs.Kernels.{qAt, rAt}
 use Rattle.links.specs.Planned.{RowsOf, ColsOf}
-use Rattle.tests.specs.Layout.{yAt, numbersAt, judged}
+use Rattle.tests.specs.Layout.{yAt, wAt, numbersAt, judged, Measured}
 use Rattle.tests.proofs.ToMachine.{row-less, col-less}
 
 -- the first of a region's entries
@@ -56,25 +56,36 @@ module _ (A : Problem) (d : LaneData) (q : State) where
       ap (λ (v : Float). v ⊘ (one ⊕ norm (A .m) (q .y)))
       (squares (A .n) (qAt toff rows places (A .vals) (d .c) (q .z) (q .y)) (dualResidual A standard d q) (λ e h. unfold qAt dualResidual in col-less A toff rows places C e h (q .y) _))
 
-module _ (A : Problem) (d : ℕ → LaneData) (work : List Float) (slack : A .s ≤ A .m) where
+-- ---- what the test and the step both read
+module _ (m n s : ℕ) (work : List Float) (slack : s ≤ m) where
+  abbrev gFront : ℕ → Float
+  gFront t = Σ n (λ e. at (reg 4 work n n t) e ⊗ at (reg 4 work 0 n t) e) ⊕ Σ s (λ i. at (reg 4 work (wAt n m) s t) i ⊗ at (reg 4 work (yAt n) s t) i)
+
+  pub measured : {nx ny gs ts : List Float} → nx ≡ lanes (λ t. norm n (reg 4 work 0 n t)) → ny ≡ lanes (λ t. norm m (reg 4 work (yAt n) m t))
+      → gs ≡ lanes gFront → ts ≡ lanes (λ t. centringValue ⊗ at gs t ⊘ whole (n + s)) → Measured m n s work nx ny gs ts
+  measured {nx} {ny} {gs} {ts} ex ey eg et = record {
+    x-norm = lane-of (λ t. norm n (reg 4 work 0 n t)) ex;
+    y-norm = lane-of (λ t. norm m (reg 4 work (yAt n) m t)) ey;
+    gap = λ t b.
+        lane-of gFront eg t b
+        ∙ ap (λ (v : Float). Σ n (λ e. at (reg 4 work n n t) e ⊗ at (reg 4 work 0 n t) e) ⊕ v)
+        (Σ-same s (λ i. at (reg 4 work (wAt n m) s t) i ⊗ at (reg 4 work (yAt n) s t) i) (λ i. at (reg 4 work (wAt n m) s t) i ⊗ at (reg 4 work (yAt n) m t) i)
+        (λ i h. ap (λ (v : Float). at (reg 4 work (wAt n m) s t) i ⊗ v) (reg-front work (yAt n) s m t i h slack)));
+    centred = lane-of (λ t. centringValue ⊗ at gs t ⊘ whole (n + s)) et;
+  }
+
+-- ---- the test
+module _ (A : Problem) (d : ℕ → LaneData) (work : List Float) {nx ny gs ts : List Float} (M : Measured (A .m) (A .n) (A .s) work nx ny gs ts) where
   abbrev q : ℕ → State
   q t = numbersAt (A .m) (A .n) (A .s) work t
 
-  abbrev gSum : ℕ → Float
-  gSum t = Σ (A .n) (λ e. at (q t .z) e ⊗ at (q t .x) e) ⊕ Σ (A .s) (λ i. at (q t .w) i ⊗ at (reg 4 work (yAt (A .n)) (A .s) t) i)
-
-  g-lanes : {gs : List Float} → gs ≡ lanes gSum → (l : ℕ) → l < 4 → at gs l ≡ g A standard (d l) (q l)
+  g-lane : (l : ℕ) → l < 4 → at gs l ≡ g A standard (d l) (q l)
   unfolding g
-  g-lanes e l b =
-      lane-of gSum e l b
-      ∙ ap (λ (v : Float). Σ (A .n) (λ e. at (q l .z) e ⊗ at (q l .x) e) ⊕ v)
-      (Σ-same (A .s) (λ i. at (q l .w) i ⊗ at (reg 4 work (yAt (A .n)) (A .s) l) i) (λ i. at (q l .w) i ⊗ at (q l .y) i)
-      (λ i h. ap (λ (v : Float). at (q l .w) i ⊗ v) (reg-front work (yAt (A .n)) (A .s) (A .m) l i h slack)))
+  g-lane l b = M .gap l b
 
-  pub mu-lanes : {gs ts : List Float} → gs ≡ lanes gSum → ts ≡ lanes (λ t. centringValue ⊗ at gs t ⊘ whole (A .n + A .s))
-      → (l : ℕ) → l < 4 → at ts l ≡ mu A standard (d l) (q l)
+  pub mu-lane : (l : ℕ) → l < 4 → at ts l ≡ mu A standard (d l) (q l)
   unfolding mu
-  mu-lanes {gs} eg et l b = lane-of (λ t. centringValue ⊗ at gs t ⊘ whole (A .n + A .s)) et l b ∙ rw (g-lanes eg l b)
+  mu-lane l b = M .centred l b ∙ rw (g-lane l b)
 
   module _ (toff rows places : List ℕ) (rs : RowsOf A) (C : ColsOf A toff rows places) where
     abbrev rSum : ℕ → Float
@@ -83,26 +94,18 @@ module _ (A : Problem) (d : ℕ → LaneData) (work : List Float) (slack : A .s 
     abbrev qSum : ℕ → Float
     qSum t = Σ (A .n) (λ e. qAt toff rows places (A .vals) (d t .c) (q t .z) (q t .y) e ⊗ qAt toff rows places (A .vals) (d t .c) (q t .z) (q t .y) e)
 
-    pub tested : {nx ny r qs gs ts gg : List Float} {k : Status}
-        → nx ≡ lanes (λ t. norm (A .n) (q t .x)) → ny ≡ lanes (λ t. norm (A .m) (q t .y))
-        → r ≡ lanes (λ t. √ (rSum t) ⊘ (one ⊕ at nx t)) → qs ≡ lanes (λ t. √ (qSum t) ⊘ (one ⊕ at ny t))
-        → gs ≡ lanes gSum → ts ≡ lanes (λ t. centringValue ⊗ at gs t ⊘ whole (A .n + A .s)) → gg ≡ lanes (λ t. at gs t ⊘ (one ⊕ at nx t ⊕ at ny t))
+    pub tested : {r qs gg : List Float} {k : Status}
+        → r ≡ lanes (λ t. √ (rSum t) ⊘ (one ⊕ at nx t)) → qs ≡ lanes (λ t. √ (qSum t) ⊘ (one ⊕ at ny t)) → gg ≡ lanes (λ t. at gs t ⊘ (one ⊕ at nx t ⊕ at ny t))
         → (l : ℕ) → l < 4 → k ≡ judged (at r l) (at qs l) (at gg l) (at ts l) (d l .primal) (d l .dual) (d l .gap)
         → k ≡ status A standard (d l) (q l)
-    tested {nx} {ny} {r} {qs} {gs} {ts} {gg} {k} ex ey er eq eg et eh l b ek =
-        ek ∙ rw (re, qe, he, mu-lanes eg et l b) (unfold status in refl)
+    tested {r} {qs} {gg} {k} er eq eh l b ek =
+        ek ∙ rw (re, qe, he, mu-lane l b) (unfold status in refl)
       where
-        nxe : at nx l ≡ norm (A .n) (q l .x)
-        nxe = lane-of (λ t. norm (A .n) (q t .x)) ex l b
-
-        nye : at ny l ≡ norm (A .m) (q l .y)
-        nye = lane-of (λ t. norm (A .m) (q t .y)) ey l b
-
         re : at r l ≡ R A standard (d l) (q l)
-        re = lane-of (λ t. √ (rSum t) ⊘ (one ⊕ at nx t)) er l b ∙ rw nxe (r-machine A (d l) (q l) rs)
+        re = lane-of (λ t. √ (rSum t) ⊘ (one ⊕ at nx t)) er l b ∙ rw (M .x-norm l b) (r-machine A (d l) (q l) rs)
 
         qe : at qs l ≡ Q A standard (d l) (q l)
-        qe = lane-of (λ t. √ (qSum t) ⊘ (one ⊕ at ny t)) eq l b ∙ rw nye (q-machine A (d l) (q l) toff rows places C)
+        qe = lane-of (λ t. √ (qSum t) ⊘ (one ⊕ at ny t)) eq l b ∙ rw (M .y-norm l b) (q-machine A (d l) (q l) toff rows places C)
 
         he : at gg l ≡ G A standard (d l) (q l)
-        he = lane-of (λ t. at gs t ⊘ (one ⊕ at nx t ⊕ at ny t)) eh l b ∙ rw (g-lanes eg l b, nxe, nye) (unfold G in refl)
+        he = lane-of (λ t. at gs t ⊘ (one ⊕ at nx t ⊕ at ny t)) eh l b ∙ rw (g-lane l b, M .x-norm l b, M .y-norm l b) (unfold G in refl)

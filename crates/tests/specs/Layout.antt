@@ -1,5 +1,5 @@
 -- The regions of the working memory: x, z, dx, dz, tmp of n entries; y, dy, rhs of m; w, dw of s; l of E. Definitions only.
-use Prim.Native.Nat.{ℕ, _+_, _*_, _≤_}
+use Prim.Native.Nat.{ℕ, _+_, _*_, _≤_, _<_}
 use mathlib.Core.Path.{_≡_}
 use mathlib.Core.Bool.{cond, _&&_}
 use mathlib.Core.List.{List}
@@ -8,6 +8,9 @@ use lib.Ieee.{Float, lt, isNan}
 use Rattle.machine.specs.Machine.{State, Direction}
 use Rattle.machine.specs.declared.Status.{Status}
 use Rattle.machine.specs.declared.Status.the-variants.{Spoilt, Done, Step}
+use Rattle.lanes.specs.Lists.{at}
+use Rattle.lanes.specs.Arithmetic.{_⊕_, _⊗_, _⊘_, Σ, norm, whole}
+use Rattle.lanes.specs.Constants.{centringValue}
 use Rattle.lanes.specs.Region.{reg}
 
 abbrev pub yAt : ℕ → ℕ
@@ -47,3 +50,14 @@ pub record Lent (m n s : ℕ) (b c tol : List Float) : Type 0 where
   pub b-long : length b ≡ 4 * m
   pub c-long : length c ≡ 4 * n
   pub tol-long : length tol ≡ 12
+
+-- the lanes' norms of x and y, their g: Σ z·x + Σ w·y over the slack rows, and their mu, of the numbers in a memory
+pub record Measured (m n s : ℕ) (ws nx ny g mu : List Float) : Type 0 where
+  pub x-norm : (t : ℕ) → t < 4 → at nx t ≡ norm n (numbersAt m n s ws t .x)
+  pub y-norm : (t : ℕ) → t < 4 → at ny t ≡ norm m (numbersAt m n s ws t .y)
+  pub gap :
+      (t : ℕ)
+      → t < 4
+      → let q = numbersAt m n s ws t in
+      at g t ≡ Σ n (λ e. at (q .z) e ⊗ at (q .x) e) ⊕ Σ s (λ i. at (q .w) i ⊗ at (q .y) i)
+  pub centred : (t : ℕ) → t < 4 → at mu t ≡ centringValue ⊗ at g t ⊘ whole (n + s)

@@ -14,7 +14,7 @@ ghost use Rattle.machine.specs.declared.Status.the-variants.{Spoilt};
 ghost use Rattle.machine.specs.Outcome.{laneData};
 ghost use Rattle.machine.specs.Work.{callOf, problemOf};
 ghost use Rattle.links.specs.Planned.{RowsOf, ColsOf};
-ghost use Rattle.tests.specs.Layout.{lAt, yAt, wAt, numbersAt, Lent, judged};
+ghost use Rattle.tests.specs.Layout.{lAt, yAt, wAt, numbersAt, Lent, judged, Measured};
 use kernels::dot_product;
 use kernels::dual_squares;
 use kernels::one4;
@@ -27,7 +27,7 @@ use lanes::root4;
 use lanes::splat;
 use machine::Status;
 
-pub fn vector_norm(work: &[f64], o: usize, k: usize) -> [f64; 4]
+fn vector_norm(work: &[f64], o: usize, k: usize) -> [f64; 4]
     requires { ⌜ 4 * (o + k) ≤ length (now work) ⌝ }
     ensures { λ r. ⌜ r ≡ lanes (λ t. norm k (reg 4 (now (work .entry)) o k t)) ⌝ }
 {
@@ -85,7 +85,7 @@ fn dual_feasibility(
 }
 
 // g: Σ z·x + Σ w·y over the slack rows.
-pub fn gamma(work: &[f64], m: usize, n: usize, s: usize) -> [f64; 4]
+fn gamma(work: &[f64], m: usize, n: usize, s: usize) -> [f64; 4]
     requires { ⌜ (s ≤ m) × (4 * lAt n m s ≤ length (now work)) ⌝ }
     ensures { λ r. ⌜ r ≡ lanes (λ t. Σ n (λ e. at (reg 4 (now (work .entry)) n n t) e ⊗ at (reg 4 (now (work .entry)) 0 n t) e) ⊕ Σ s (λ i. at (reg 4 (now (work .entry)) (wAt n m) s t) i ⊗ at (reg 4 (now (work .entry)) (yAt n) s t) i)) ⌝ }
 {
@@ -105,7 +105,7 @@ fn gap_in(g: [f64; 4], nx: [f64; 4], ny: [f64; 4]) -> [f64; 4]
 }
 
 // mu, given g.
-pub fn mu_in(g: [f64; 4], n: usize, s: usize) -> [f64; 4]
+fn mu_in(g: [f64; 4], n: usize, s: usize) -> [f64; 4]
     requires { ⌜ (n ≤ 1024) × (s ≤ 256) ⌝ }
     ensures { λ r. ⌜ r ≡ lanes (λ t. centringValue ⊗ at g t ⊘ whole (n + s)) ⌝ }
 {
@@ -113,6 +113,26 @@ pub fn mu_in(g: [f64; 4], n: usize, s: usize) -> [f64; 4]
     let d = splat(k as f64);
     let a = mul4(splat(LaneState::CENTRING), g);
     div4(a, d)
+}
+
+// What the test and the step both read, of the four lanes: the norms of x and y, g and mu.
+pub struct Measures {
+    pub nx: [f64; 4],
+    pub ny: [f64; 4],
+    pub g: [f64; 4],
+    pub mu: [f64; 4],
+}
+
+pub fn measure(work: &[f64], m: usize, n: usize, s: usize) -> Measures
+    requires { ⌜ (m ≤ 256) × (n ≤ 1024) × (s ≤ m) × (4 * lAt n m s ≤ length (now work)) ⌝ }
+    ensures { λ r. ⌜ Measured m n s (now (work .entry)) (r .nx) (r .ny) (r .g) (r .mu) ⌝ }
+{
+    let y = 5 * n;
+    let nx = vector_norm(work, 0, n);
+    let ny = vector_norm(work, y, m);
+    let g = gamma(work, m, n, s);
+    let mu = mu_in(g, n, s);
+    Measures { nx, ny, g, mu }
 }
 
 // What one lane's test yields, of R, Q, G, mu and its three tolerances.
@@ -150,7 +170,7 @@ fn judge4(r: [f64; 4], q: [f64; 4], g: [f64; 4], mu: [f64; 4], tol: &[f64]) -> [
     [a, b, c, d]
 }
 
-// The test: of each lane, what its numbers yield.
+// The test: of each lane, what its numbers yield, given what `measure` says of them.
 pub fn test(
     off: &[u32],
     cols: &[u32],
@@ -165,17 +185,17 @@ pub fn test(
     m: usize,
     n: usize,
     s: usize,
+    nx: [f64; 4],
+    ny: [f64; 4],
+    g: [f64; 4],
+    mu: [f64; 4],
 ) -> [Status; 4]
-    requires { ⌜ RowsOf (problemOf m n s (now off) (now cols) (now vals)) × ColsOf (problemOf m n s (now off) (now cols) (now vals)) (now toff) (now rows) (now places) × Lent m n s (now b) (now c) (now tol) × (4 * lAt n m s ≤ length (now work)) ⌝ }
+    requires { ⌜ RowsOf (problemOf m n s (now off) (now cols) (now vals)) × ColsOf (problemOf m n s (now off) (now cols) (now vals)) (now toff) (now rows) (now places) × Lent m n s (now b) (now c) (now tol) × (4 * lAt n m s ≤ length (now work)) × Measured m n s (now work) nx ny g mu ⌝ }
     ensures { λ k. ⌜ ((l : ℕ) → l < 4 → getD k l Spoilt ≡ status (problemOf m n s (now (off .entry)) (now (cols .entry)) (now (vals .entry))) standard (laneData (callOf m n s (now (off .entry)) (now (cols .entry)) (now (vals .entry)) (now (b .entry)) (now (c .entry)) (now (tol .entry))) l) (numbersAt m n s (now (work .entry)) l)) ⌝ }
 {
     let y = 5 * n;
     let w = y + m + m + m;
-    let nx = vector_norm(work, 0, n);
-    let ny = vector_norm(work, y, m);
     let r = primal_feasibility(off, cols, vals, b, work, 0, w, m, n, s, nx);
     let q = dual_feasibility(toff, rows, places, vals, c, work, n, y, n, m, ny);
-    let g = gamma(work, m, n, s);
-    let mu = mu_in(g, n, s);
     judge4(r, q, gap_in(g, nx, ny), mu, tol)
 }
