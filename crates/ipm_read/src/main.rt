@@ -7,6 +7,6 @@ fn main() {
     let mut bytes = io::buffer();
     let n = io::read_full(STDIN_FILENO, &mut bytes);
     let mut out = io::buffer();
-    let k = record::respond(&bytes[..n], &mut out);
+    let k = reading::respond(&bytes[..n], &mut out);
     io::write_all(STDOUT_FILENO, &out[..k]);
 }

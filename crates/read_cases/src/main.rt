@@ -75,7 +75,7 @@ fn run_case(file: i32) -> Case {
         return Case::Broken;
     }
     let mut out = io::buffer();
-    let k = record::respond(&bytes[..given], &mut out);
+    let k = reading::respond(&bytes[..given], &mut out);
     if check::same(&out[..k], &answer[..wanted]) {
         Case::Right
     } else {

@@ -1,15 +1,13 @@
--- A list filled from the front, and a text copied byte by byte. Assumes nothing.
+-- A list filled from the front. Assumes nothing.
 use mathlib.Core.Path.{_≡_, refl, sym, ap, _∙_}
 use mathlib.Core.List.{List, [], _∷_, _++_, append-nil}
 use Prim.Native.Nat.{ℕ, suc, _+_, _≤_, _<_}
 use native.Mathlib.Numerals.{add-one}
 use native.Mathlib.Omega.{arith}
-use lib.ListN.{length, getD, set, take, drop, length-append, length-drop, drop-of-length-le}
-use lib.Seq.{take-suc, drop-cons, set-at, append-snoc}
+use lib.ListN.{length, getD, set, drop, length-append, length-drop, drop-of-length-le}
+use lib.Seq.{drop-cons, set-at, append-snoc}
 use Rattle.lanes.specs.Lists.{grow}
 use Rattle.lanes.proofs.Lists.{grow-length}
-use Rattle.lists.specs.Cat.{Wrote}
-use Rattle.lists.proofs.Write.{wrote-join, wrote-as}
 
 -- the first k elements of `old` are now those that f makes
 pub record Filled {A : Type 0} (f : ℕ → A) (old new : List A) (k : ℕ) : Type 0 where
@@ -44,12 +42,3 @@ module _ {A : Type 0} (f : ℕ → A) (old : List A) where
       let e : k ≡ length old = omega (arith, filled-length new k w, w .within) in
       w .is ∙ ap (λ (l : List A). grow k (λ _ j. f j) ++ l) (drop-of-length-le old {i = k} (omega arith))
       ∙ append-nil (grow k (λ _ j. f j)) ∙ ap (λ (j : ℕ). grow j (λ _ i. f i)) e
-
--- one byte more of a text
-pub copied : (a b : List ℕ) (at i : ℕ) (s : List ℕ) → i < length s → Wrote a b at (take i s) (at + i)
-    → Wrote a (set b (at + i) (getD s i 0)) at (take (i + 1) s) (at + (i + 1))
-copied a b at i s h w =
-    wrote-as a (set b (at + i) (getD s i 0)) at (at + (i + 1)) (take i s ++ (getD s i 0 ∷ [])) (take (i + 1) s)
-    (sym (ap (λ (k : ℕ). take k s) (add-one i) ∙ take-suc s i 0 h))
-    (wrote-join a b (set b (at + i) (getD s i 0)) at (at + i) (at + (i + 1)) (take i s) (getD s i 0 ∷ []) w
-    (record { is = refl; next = omega arith }))

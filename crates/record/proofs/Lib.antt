@@ -1,6 +1,2 @@
-pub mod Answers
 pub mod Copies
 pub mod Headers
-pub mod Lengths
-pub mod Parts
-pub mod Texts

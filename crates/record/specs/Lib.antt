@@ -1,6 +1,2 @@
 pub mod Little
 pub mod Record
-pub mod Text
-pub mod Answer
-pub mod Parts
-pub mod Examples

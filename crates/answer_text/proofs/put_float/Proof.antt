@@ -1,0 +1,58 @@
+use borrow.Author.Needs.{needs}
+use mathlib.Core.Path.{_∙_, ap}
+use native.Mathlib.Omega.{arith}
+use Rattle.answer_text.specs.Text.{hexText, floatText}
+use Rattle.answer_text.proofs.Texts.{hex-places, hex-is, then-byte}
+use Rattle.answer_text.proofs.put_float.Statement.{statement}
+use Rattle.answer_text.proofs.put_float.Tie as tie
+
+bits-of-requires : tie.Need-bits-of-requires
+bits-of-requires c κs = search needs
+
+hex-requires : tie.Need-hex-requires
+hex-requires c κs = search needs
+
+array-share-prefix-digits : tie.Need-array-share-prefix-digits
+array-share-prefix-digits c = search needs
+
+slice-aggregate-put : tie.Need-slice-aggregate-put
+slice-aggregate-put c = search needs
+
+put-requires : tie.Need-put-requires
+put-requires c κs =
+    let made = c .before .before .hex .ensures in
+    omega (arith, made .0 .1, hex-places _ _ (c .before .before .before .before .bits-of .ok) (made .1 .0))
+
+put-byte-requires : tie.Need-put-byte-requires
+put-byte-requires c κs =
+    let made = c .before .before .before .before .before .before .hex .ensures in
+    let put = c .before .before .before .put in
+    omega (arith, put .ensures .next, put .kept .0, made .0 .1, hex-places _ _ (c .before .before .before .before .before .before .before .before .bits-of .ok) (made .1 .0))
+
+same-length : tie.Need-same-length
+same-length c = search needs
+
+returns : tie.Need-returns
+unfolding floatText
+returns c =
+    let made = c .before .before .before .before .before .before .before .before .before .hex .ensures in
+    let pattern = c .before .before .before .before .before .before .before .before .before .before .before .bits-of in
+    let few = hex-places _ _ (pattern .ok) (made .1 .0) in
+    let put = c .before .before .before .before .before .before .put .ensures in
+    let last = c .before .before .put-byte .ensures in (
+      then-byte (made .1 .1 ∙ hex-is _ _ few (made .1 .0) ∙ ap hexText (pattern .ensures)) put last,
+      omega (arith, last .next, put .next, made .0 .1, few, made .1 .0 .0),
+    )
+
+pub put-float-spec : {M : Type 1} → statement M
+put-float-spec =
+    tie.close
+    (tie.spec
+    bits-of-requires
+    hex-requires
+    array-share-prefix-digits
+    slice-aggregate-put
+    put-requires
+    put-byte-requires
+    same-length
+    returns)

@@ -1,0 +1,51 @@
+use borrow.Author.Needs.{needs}
+use mathlib.Core.Path.{_∙_}
+use native.Mathlib.Omega.{arith}
+use Rattle.answer_text.specs.Text.{decimalText, wholeText}
+use Rattle.answer_text.proofs.Texts.{decimal-places, decimal-is, then-byte}
+use Rattle.answer_text.proofs.put_whole.Statement.{statement}
+use Rattle.answer_text.proofs.put_whole.Tie as tie
+
+decimal-requires : tie.Need-decimal-requires
+decimal-requires c κs = search needs
+
+array-share-prefix-digits : tie.Need-array-share-prefix-digits
+array-share-prefix-digits c = search needs
+
+slice-aggregate-put : tie.Need-slice-aggregate-put
+slice-aggregate-put c = search needs
+
+put-requires : tie.Need-put-requires
+put-requires c κs =
+    let made = c .before .before .decimal .ensures in
+    omega (arith, made .0 .1, decimal-places _ _ (c .before .before .before .before .before .fits .x .fits) (made .1 .0))
+
+put-byte-requires : tie.Need-put-byte-requires
+put-byte-requires c κs =
+    let made = c .before .before .before .before .before .before .decimal .ensures in
+    let put = c .before .before .before .put in
+    omega (arith, put .ensures .next, put .kept .0, made .0 .1, decimal-places _ _ (c .before .before .before .before .before .before .before .before .before .fits .x .fits) (made .1 .0))
+
+same-length : tie.Need-same-length
+same-length c = search needs
+
+returns : tie.Need-returns
+unfolding wholeText decimalText
+returns c =
+    let made = c .before .before .before .before .before .before .before .before .before .decimal .ensures in
+    let few = decimal-places _ _ (c .before .before .before .before .before .before .before .before .before .before .before .before .fits .x .fits) (made .1 .0) in
+    let put = c .before .before .before .before .before .before .put .ensures in
+    let last = c .before .before .put-byte .ensures in
+    (then-byte (made .1 .1 ∙ decimal-is 20 _ _ few (made .1 .0)) put last, omega (arith, last .next, put .next, made .0 .1, few))
+
+pub put-whole-spec : {M : Type 1} → statement M
+put-whole-spec =
+    tie.close
+    (tie.spec
+    decimal-requires
+    array-share-prefix-digits
+    slice-aggregate-put
+    put-requires
+    put-byte-requires
+    same-length
+    returns)

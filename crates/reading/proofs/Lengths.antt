@@ -1,0 +1,22 @@
+-- No answer is longer than its stated most. Assumes nothing.
+use mathlib.Core.List.{List}
+use Prim.Native.Nat.{ℕ, _≤_}
+use native.Mathlib.Omega.{arith}
+use lib.ListN.{length}
+use lib.Ieee.{Float}
+use Rattle.csr.specs.Verdict.{Verdict, passed, planned, accepted, refused}
+use Rattle.machine.specs.Demand3.{Buffers}
+use Rattle.ipm_simd.specs.Solve.{Given, solveVerdict, solveBuffers}
+use Rattle.record.specs.Record.{mostColumns}
+use Rattle.answer_text.proofs.Lengths.{accepted-length, refused-length}
+use Rattle.reading.specs.Answer.{answerBytes, verdictText, solveText}
+
+verdict-length : (v : Verdict) (x : List Float) (n : ℕ) → n ≤ mostColumns → length (verdictText v x n) ≤ answerBytes
+verdict-length passed x n h = omega arith
+verdict-length (planned w) x n h = omega arith
+verdict-length (accepted k) x n h = omega (arith, accepted-length k n x, h)
+verdict-length (refused q p l) x n h = omega (arith, refused-length q p l)
+
+pub solve-length : (a : Given) (B : Buffers) → a .n ≤ mostColumns → length (solveText a B) ≤ answerBytes
+unfolding solveText
+solve-length a B h = verdict-length (solveVerdict a B) (solveBuffers a B .output) (a .n) h

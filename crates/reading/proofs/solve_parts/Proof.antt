@@ -1,0 +1,139 @@
+use borrow.Author.Needs.{needs}
+use mathlib.Core.Path.{sym}
+use native.Mathlib.Omega.{arith}
+use lib.Seq.{length-take-le}
+use Rattle.reading.proofs.Parts.{cut-text}
+use Rattle.answer_text.proofs.Texts.{same-text}
+use Rattle.reading.proofs.solve_parts.Statement.{statement}
+use Rattle.reading.proofs.solve_parts.Tie as tie
+
+add-columns : tie.Need-add-columns
+add-columns c = search needs
+
+add-shorts-end : tie.Need-add-shorts-end
+add-shorts-end c = search needs
+
+add-b : tie.Need-add-b
+add-b c = search needs
+
+mul-c : tie.Need-mul-c
+mul-c c = search needs
+
+add-c : tie.Need-add-c
+add-c c = search needs
+
+mul-floats-end : tie.Need-mul-floats-end
+mul-floats-end c = search needs
+
+add-floats-end : tie.Need-add-floats-end
+add-floats-end c = search needs
+
+slice-aggregate-solve-text : tie.Need-slice-aggregate-solve-text
+slice-aggregate-solve-text c = sym (length-take-le _ _ (omega (arith, c .before .before .before .before .before .before .before .pre .shorts-all)))
+
+mul-solve-text : tie.Need-mul-solve-text
+mul-solve-text c = search needs
+
+sub-solve-text : tie.Need-sub-solve-text
+sub-solve-text c = search needs
+
+part-solve-text-start : tie.Need-part-solve-text-start
+part-solve-text-start c = search needs
+
+part-solve-text-end : tie.Need-part-solve-text-end
+part-solve-text-end c = search needs
+
+slice-aggregate-solve-text-2 : tie.Need-slice-aggregate-solve-text-2
+slice-aggregate-solve-text-2 c = sym (length-take-le _ _ (omega (arith, c .before .before .before .before .before .before .before .before .before .pre .floats-all)))
+
+mul-solve-text-2 : tie.Need-mul-solve-text-2
+mul-solve-text-2 c = search needs
+
+sub-solve-text-2 : tie.Need-sub-solve-text-2
+sub-solve-text-2 c = search needs
+
+part-solve-text-start-2 : tie.Need-part-solve-text-start-2
+part-solve-text-start-2 c = search needs
+
+part-solve-text-end-2 : tie.Need-part-solve-text-end-2
+part-solve-text-end-2 c = search needs
+
+mul-solve-text-3 : tie.Need-mul-solve-text-3
+mul-solve-text-3 c = search needs
+
+sub-solve-text-3 : tie.Need-sub-solve-text-3
+sub-solve-text-3 c = search needs
+
+part-solve-text-start-3 : tie.Need-part-solve-text-start-3
+part-solve-text-start-3 c = search needs
+
+part-solve-text-end-3 : tie.Need-part-solve-text-end-3
+part-solve-text-end-3 c = search needs
+
+mul-solve-text-4 : tie.Need-mul-solve-text-4
+mul-solve-text-4 c = search needs
+
+sub-solve-text-4 : tie.Need-sub-solve-text-4
+sub-solve-text-4 c = search needs
+
+part-solve-text-start-4 : tie.Need-part-solve-text-start-4
+part-solve-text-start-4 c = search needs
+
+part-solve-text-end-4 : tie.Need-part-solve-text-end-4
+part-solve-text-end-4 c = search needs
+
+solve-text-requires : tie.Need-solve-text-requires
+solve-text-requires c κs = search needs
+
+same-length : tie.Need-same-length
+same-length c = search needs
+
+same-length-2 : tie.Need-same-length-2
+same-length-2 c = search needs
+
+same-length-3 : tie.Need-same-length-3
+same-length-3 c = search needs
+
+same-length-4 : tie.Need-same-length-4
+same-length-4 c = search needs
+
+returns : tie.Need-returns
+returns c =
+    let given = c .before .before .before .before .before .before .before .before .before .before .before .before .before .before .before .before .before .before .before .before .before .before .before .before .before .args in
+    same-text (cut-text (given .sizes) (given .shorts .now) (given .floats .now) _) (c .before .before .before .before .before .before .before .before .solve-text .ensures)
+
+pub solve-parts-spec : {M : Type 1} → statement M
+solve-parts-spec =
+    tie.close
+    (tie.spec
+    add-columns
+    add-shorts-end
+    add-b
+    mul-c
+    add-c
+    mul-floats-end
+    add-floats-end
+    slice-aggregate-solve-text
+    mul-solve-text
+    sub-solve-text
+    part-solve-text-start
+    part-solve-text-end
+    slice-aggregate-solve-text-2
+    mul-solve-text-2
+    sub-solve-text-2
+    part-solve-text-start-2
+    part-solve-text-end-2
+    mul-solve-text-3
+    sub-solve-text-3
+    part-solve-text-start-3
+    part-solve-text-end-3
+    mul-solve-text-4
+    sub-solve-text-4
+    part-solve-text-start-4
+    part-solve-text-end-4
+    solve-text-requires
+    same-length
+    same-length-2
+    same-length-3
+    same-length-4
+    returns)
