@@ -1,6 +1,6 @@
 // The roots of four lanes at once. An estimate comes from Newton's steps on floats, and nothing is promised of it. An exact test on its digits says
 // whether it is the root, or doubts it; where a lane is doubted, `root` works the roots out digit by digit.
-// A doubt is a number and not a branch, so that the four lanes can be worked on together: 0 says that nothing speaks against the estimate.
+// Doubts are a number and not a branch, so that the four lanes can be worked on together: 0 says that nothing speaks against the estimate.
 // What is returned is the estimate itself, so that nothing waits for the test.
 use std::num::wrapping_sub_u64;
 ghost use mathlib.Core.Path.{_≡_};
@@ -41,8 +41,8 @@ const LOW: u64 = 0x0800_0000;
 // 7 / 4, and a little more that balances the error of what follows about 0.
 const THIRD_FACTOR: f64 = 1.7500000000006;
 
-// A number nearer to √x than s = 2 * x * y, where y is near 1 / (2 * √x). No promise rests on it. With high for the upper half of s,
-// √x is high + (x - high * high) / (√x + high), and the slope is near 1 / (√x + high).
+// A number nearer to √x than s = 2 * x * y, where y is near 1 / (2 * √x). With high for the upper half of s, √x is
+// high + (x - high * high) / (√x + high), and the slope is near 1 / (√x + high). No promise rests on it; all but some one in 2,000 are the root.
 fn refined(x: f64, y: f64, s: f64) -> f64
     requires { ⌜ T (not (isNan s)) ⌝ }
 {
@@ -99,7 +99,7 @@ fn residual(d: u64, q: u64) -> Difference
     }
 }
 
-// Whether q is the nearest whole number to the root of d * 2 ^ 52. With z = d * 2 ^ 52 - q * q: it is where -q < z <= q, and is doubted elsewhere.
+// The doubts that q is the nearest whole number to the root of d * 2 ^ 52. With z = d * 2 ^ 52 - q * q: it is where -q < z <= q.
 fn nearest(d: u64, q: u64) -> u64
     requires { ⌜ (2 ^ 52 ≤ d) × (d < 2 ^ 54) × (2 ^ 52 ≤ q) × (q < 2 ^ 53) ⌝ }
     ensures { λ r. ⌜ Nearest d q r ⌝ }
@@ -111,13 +111,13 @@ fn nearest(d: u64, q: u64) -> u64
     r.doubts | (up | down) / SIGN
 }
 
-// The exponent's field of a root is half of x's, counted from 1, and ROOT_FIELD: 512 times LEAD.
+// 512 times LEAD: half of x's pattern, counted from LEAD, and this have the exponent's field of the root.
 const ROOT_FIELD: u64 = 0x2000_0000_0000_0000;
 
-// The highest bit of half of x's pattern and this, where the pattern is counted from LEAD, is set but for the positive normal numbers: 2 ^ 62 + 2 ^ 52.
+// 2 ^ 62 + 2 ^ 52: half of x's pattern, counted from LEAD, and this are below SIGN for the positive normal numbers alone.
 const NORMAL: u64 = 0x4010_0000_0000_0000;
 
-// Whether c is the pattern of the root of the number with the pattern b.
+// The doubts that c is the pattern of the root of the number with the pattern b.
 fn verify_bits(b: u64, c: u64) -> u64
     ensures { λ r. ⌜ VerifiedBits b c r ⌝ }
 {
@@ -128,7 +128,7 @@ fn verify_bits(b: u64, c: u64) -> u64
     digits | (c ^ (half + ROOT_FIELD)) / LEAD | (half + NORMAL) / SIGN
 }
 
-// Whether `near` is the root of x.
+// The doubts that `near` is the root of x.
 fn verify(x: f64, near: f64) -> u64
     requires { ⌜ T (not (isNan x)) × T (not (isNan near)) ⌝ }
     ensures { λ r. ⌜ VerifiedRoot x near r ⌝ }
