@@ -1,4 +1,5 @@
-// Times three ways to the sum of four roots on the same operands and prints the best time of each in nanoseconds for four roots.
+// Times three ways to the sum of four roots and prints the best time of each in nanoseconds: on operands that do not wait for each other,
+// and in a chain where each operand waits for the roots before it, as on the diagonal of a factor.
 #include <emmintrin.h>
 #include <stdint.h>
 #include <stdio.h>
@@ -56,20 +57,36 @@ static double timed(Sum *sum, double *total) {
     return (seconds() - start) * 1e9 / ((double)ROUNDS * ENTRIES);
 }
 
+// The time of one link of a chain in nanoseconds: four roots, their sum, a division, a square and a difference. The last operand goes to `total`.
+static double chained(Sum *sum, double *total) {
+    double start = seconds();
+    double v = 3.0;
+    for (int i = 0; i < ROUNDS * ENTRIES; i++) {
+        double t = 3.0 / sum(v, v + 0.25, v + 0.5, v + 0.75);
+        v = 3.0 + (double)i / ENTRIES - t * t;
+    }
+    *total = v;
+    return (seconds() - start) * 1e9 / ((double)ROUNDS * ENTRIES);
+}
+
+enum { WAYS = 3 };
+
 int main(void) {
-    static const char *const names[3] = {"together", "one after the other", "hardware"};
-    Sum *const ways[3] = {root_sum_together, root_sum_one_by_one, root_sum_hardware};
-    double best[3] = {1e9, 1e9, 1e9};
-    double total[3];
+    static const char *const names[WAYS] = {"together", "one after the other", "hardware"};
+    Sum *const ways[WAYS] = {root_sum_together, root_sum_one_by_one, root_sum_hardware};
+    double best[WAYS] = {1e9, 1e9, 1e9}, link[WAYS] = {1e9, 1e9, 1e9};
+    double total[WAYS], last[WAYS];
     fill();
     for (int run = 0; run < RUNS; run++) {
-        for (int way = 0; way < 3; way++) {
+        for (int way = 0; way < WAYS; way++) {
             double t = timed(ways[way], &total[way]);
             if (t < best[way]) best[way] = t;
+            t = chained(ways[way], &last[way]);
+            if (t < link[way]) link[way] = t;
         }
     }
-    for (int way = 0; way < 3; way++) printf("%-20s %7.1f ns for four roots\n", names[way], best[way]);
-    int same = total[0] == total[1] && total[1] == total[2];
+    for (int way = 0; way < WAYS; way++) printf("%-20s %7.1f ns for four roots, %7.1f ns a link of a chain\n", names[way], best[way], link[way]);
+    int same = total[0] == total[1] && total[1] == total[2] && last[0] == last[1] && last[1] == last[2];
     printf("%s\n", same ? "the three sums are the same" : "THE SUMS DIFFER");
     return same ? 0 : 1;
 }

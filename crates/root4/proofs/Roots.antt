@@ -5,6 +5,7 @@ use native.Mathlib.Nat.{mod-eq-of-lt}
 use native.Mathlib.Numerals.{add-one}
 use native.Mathlib.Decide.{decLe}
 use native.Mathlib.Omega.{arith}
+use lib.Bits.{bitOr, bitXor, or-lt, xor-lt, xor-shr, xor-add-and, and-le-l, and-le-r}
 use lib.Ieee.{nearest}
 use Rattle.root.specs.Root.{rootBits}
 use Rattle.root.specs.Steps.{Unpacks, Halved}
@@ -12,7 +13,8 @@ use Rattle.root.proofs.Squares.{sq-next}
 use Rattle.root.proofs.Compares.{below-middle, above-middle}
 use Rattle.root.proofs.Core.{rounded-bits}
 use Rattle.root.proofs.Patterns.{normal, even-place, odd-place}
-use Rattle.root4.specs.Verified.{Radicand, NearestWhole, Corrected, VerifiedBits}
+use Rattle.root4.specs.Verified.{Radicand, NearestWhole, Nearest, VerifiedBits}
+use Rattle.root4.proofs.Exact.{or-none}
 
 -- ---- d * 2 ^ 52 under the root
 
@@ -73,31 +75,42 @@ field-of b r e h =
     under : (r : ℕ) → r / 2 ^ 52 ≤ 2045 → r + 2 ^ 52 < 2 ^ 64
     under r h = omega arith
 
-module _ (b r d v n : ℕ) (re : (r + 2 ^ 52) % 2 ^ 64 ≡ b) (rl : r < 2 ^ 64) (s : Radicand b (r / 2 ^ 52) d) (m : Corrected d v n) where
-  low-field : (f n : ℕ) → n + (f + 2) / 2048 ≡ 0 → f ≤ 2045
-  low-field f n e = omega arith
+-- equal numbers alone differ in no digit
+alike : (a b : ℕ) → bitXor a b ≡ 0 → a ≡ b
+alike a b e = omega (arith, xor-add-and a b, and-le-l a b, and-le-r a b)
 
-  none : (f n : ℕ) → n + (f + 2) / 2048 ≡ 0 → n ≡ 0
-  none f n e = omega arith
+-- c has the field of half of r and 2 ^ 61
+module _ (r c : ℕ) where
+  same-field : bitXor c (r / 2 + 2 ^ 61) / 2 ^ 52 ≡ 0 → c ≡ 2 ^ 52 + c % 2 ^ 52 + (r / 2 ^ 52 + 1022) / 2 * 2 ^ 52
+  same-field e =
+      let s : c / 2 ^ 52 ≡ (r / 2 + 2 ^ 61) / 2 ^ 52 = alike (c / 2 ^ 52) ((r / 2 + 2 ^ 61) / 2 ^ 52) (sym (xor-shr c (r / 2 + 2 ^ 61) 52) ∙ e) in
+      omega arith
 
-  bits-are : n + (r / 2 ^ 52 + 2) / 2048 ≡ 0 → (r / 2 ^ 52 + 1022) / 2 * 2 ^ 52 + v ≡ rootBits b
+  low-field : (r / 2 + (2 ^ 62 + 2 ^ 52)) / 2 ^ 63 ≡ 0 → r / 2 ^ 52 ≤ 2045
+  low-field e = omega arith
+
+module _ (b r d c n : ℕ) (re : (r + 2 ^ 52) % 2 ^ 64 ≡ b) (rl : r < 2 ^ 64) (cl : c < 2 ^ 64) (s : Radicand b (r / 2 ^ 52) d) (m : Nearest d (2 ^ 52 + c % 2 ^ 52) n) where
+  bits-are : bitOr (bitOr n (bitXor c (r / 2 + 2 ^ 61) / 2 ^ 52)) ((r / 2 + (2 ^ 62 + 2 ^ 52)) / 2 ^ 63) ≡ 0 → c ≡ rootBits b
   bits-are e =
-      let hi = low-field (r / 2 ^ 52) n e in
-      turned ((r / 2 ^ 52 + 1022) / 2 * 2 ^ 52) v
-      ∙ root-bits b d ((r / 2 ^ 52 + 1022) / 2) v (s .normal (field-of b r re hi) hi) (m .near (none (r / 2 ^ 52) n e))
-    where
-      turned : (x y : ℕ) → x + y ≡ y + x
-      turned x y = omega arith
+      let w = or-none (bitOr n (bitXor c (r / 2 + 2 ^ 61) / 2 ^ 52)) ((r / 2 + (2 ^ 62 + 2 ^ 52)) / 2 ^ 63) e in
+      let v = or-none n (bitXor c (r / 2 + 2 ^ 61) / 2 ^ 52) (w .0) in
+      let f = low-field r c (w .1) in
+      same-field r c (v .1) ∙ root-bits b d ((r / 2 ^ 52 + 1022) / 2) (2 ^ 52 + c % 2 ^ 52) (s .normal (field-of b r re f) f) (m .near (v .0))
 
-  pub verified-law : VerifiedBits b ((r / 2 ^ 52 + 1022) / 2 * 2 ^ 52 + v) (n + (r / 2 ^ 52 + 2) / 2048)
+  pub verified-law : VerifiedBits b c (bitOr (bitOr n (bitXor c (r / 2 + 2 ^ 61) / 2 ^ 52)) ((r / 2 + (2 ^ 62 + 2 ^ 52)) / 2 ^ 63))
   verified-law = record {
     right = bits-are;
-    number = λ e. in-range (r / 2 ^ 52) v (low-field (r / 2 ^ 52) n e) (m .most);
-    bound = bound-of r n rl (m .bound);
+    bound =
+        or-lt 28 (bitOr n (bitXor c (r / 2 + 2 ^ 61) / 2 ^ 52)) ((r / 2 + (2 ^ 62 + 2 ^ 52)) / 2 ^ 63)
+        (or-lt 28 n (bitXor c (r / 2 + 2 ^ 61) / 2 ^ 52) (m .bound) (bound-of (bitXor c (r / 2 + 2 ^ 61)) (xor-lt 64 c (r / 2 + 2 ^ 61) cl (half-of r rl))))
+        (bit-of r rl);
   }
     where
-      in-range : (f v : ℕ) → f ≤ 2045 → v ≤ 2 ^ 53 → (f + 1022) / 2 * 2 ^ 52 + v < 0x7FF0_0000_0000_0000
-      in-range f v h k = omega arith
+      half-of : (r : ℕ) → r < 2 ^ 64 → r / 2 + 2 ^ 61 < 2 ^ 64
+      half-of r h = omega arith
 
-      bound-of : (r n : ℕ) → r < 2 ^ 64 → n < 2 ^ 31 → n + (r / 2 ^ 52 + 2) / 2048 < 2 ^ 32
-      bound-of r n h k = omega arith
+      bound-of : (a : ℕ) → a < 2 ^ 64 → a / 2 ^ 52 < 2 ^ 28
+      bound-of a h = omega arith
+
+      bit-of : (r : ℕ) → r < 2 ^ 64 → (r / 2 + (2 ^ 62 + 2 ^ 52)) / 2 ^ 63 < 2 ^ 28
+      bit-of r h = omega arith

@@ -1,7 +1,7 @@
 -- What the steps of a lane's exact test promise. Definitions only.
 use mathlib.Core.Path.{_≡_}
 use Prim.Native.Nat.{ℕ, _+_, _*_, _/_, _^_, _≤_, _<_}
-use lib.Ieee.{Float, binary64, ofBits}
+use lib.Ieee.{Float, binary64}
 use Rattle.root.specs.Root.{root, rootBits}
 use Rattle.root.specs.Steps.{Halved}
 
@@ -14,27 +14,24 @@ pub record Radicand (b field d : ℕ) : Type 0 where
 -- z is d * 2 ^ 52 - q * q + 2 ^ 55, where nothing is doubted and it does not wrap
 pub record Residual (d q z doubts : ℕ) : Type 0 where
   pub is : doubts ≡ 0 → z < 2 ^ 63 → z + q * q ≡ d * 2 ^ 52 + 2 ^ 55
-  pub bound : doubts < 2 ^ 30
+  pub bound : doubts < 2 ^ 28
 
 -- v is the nearest whole number to √n: n lies between the squares of v - 1/2 and v + 1/2
 pub record NearestWhole (n v : ℕ) : Type 0 where
   pub low : v * v < n + v
   pub high : n ≤ v * v + v
 
--- v is the nearest whole number to √(d * 2 ^ 52), where nothing is doubted
-pub record Corrected (d v doubts : ℕ) : Type 0 where
-  pub near : doubts ≡ 0 → NearestWhole (d * 2 ^ 52) v
-  pub most : v ≤ 2 ^ 53
-  pub bound : doubts < 2 ^ 31
+-- q is the nearest whole number to √(d * 2 ^ 52), where nothing is doubted
+pub record Nearest (d q doubts : ℕ) : Type 0 where
+  pub near : doubts ≡ 0 → NearestWhole (d * 2 ^ 52) q
+  pub bound : doubts < 2 ^ 28
 
--- `bits` is the root's pattern, and no NaN's, where nothing is doubted
-pub record VerifiedBits (b bits doubts : ℕ) : Type 0 where
-  pub right : doubts ≡ 0 → bits ≡ rootBits b
-  pub number : doubts ≡ 0 → bits < 0x7FF0_0000_0000_0000
-  pub bound : doubts < 2 ^ 32
+-- c is the root's pattern, where nothing is doubted
+pub record VerifiedBits (b c doubts : ℕ) : Type 0 where
+  pub right : doubts ≡ 0 → c ≡ rootBits b
+  pub bound : doubts < 2 ^ 28
 
--- the same of a value x
-pub record VerifiedRoot (x : Float) (bits doubts : ℕ) : Type 0 where
-  pub right : doubts ≡ 0 → ofBits binary64 bits ≡ root binary64 x
-  pub number : doubts ≡ 0 → bits < 0x7FF0_0000_0000_0000
-  pub bound : doubts < 2 ^ 32
+-- near is the root of x, where nothing is doubted
+pub record VerifiedRoot (x near : Float) (doubts : ℕ) : Type 0 where
+  pub right : doubts ≡ 0 → near ≡ root binary64 x
+  pub bound : doubts < 2 ^ 28

@@ -5,6 +5,7 @@ use Rattle.root4.proofs.Exact.{Halves, halves, residual-law}
 use borrow.Author.Needs.{needs}
 use Rattle.root4.proofs.residual.Statement.{statement}
 use Rattle.root4.proofs.residual.Tie as tie
+use Rattle.std.proofs.num.wrapping_sub_u64.Reads as wrapping-sub-u64-reads
 
 facts : (c : tie.Start) → let q = c .args .q in Halves q (q / 2 ^ 26) (q % 2 ^ 26)
 facts c = halves _ (c .pre .3)
@@ -21,20 +22,14 @@ wrapping-sub-u64-requires c κs = search needs
 mul-wrapping-sub-u64-2 : tie.Need-mul-wrapping-sub-u64-2
 mul-wrapping-sub-u64-2 c = omega (arith, facts (c .before))
 
-mul-wrapping-sub-u64-3 : tie.Need-mul-wrapping-sub-u64-3
-mul-wrapping-sub-u64-3 c = omega (arith, facts (c .before))
-
 wrapping-sub-u64-requires-2 : tie.Need-wrapping-sub-u64-requires-2
 wrapping-sub-u64-requires-2 c κs = search needs
 
-mul-wrapping-sub-u64-4 : tie.Need-mul-wrapping-sub-u64-4
-mul-wrapping-sub-u64-4 c = omega (arith, facts (c .before .before))
+mul-wrapping-sub-u64-3 : tie.Need-mul-wrapping-sub-u64-3
+mul-wrapping-sub-u64-3 c = omega (arith, facts (c .before .before))
 
 wrapping-sub-u64-requires-3 : tie.Need-wrapping-sub-u64-requires-3
 wrapping-sub-u64-requires-3 c κs = search needs
-
-add-t8 : tie.Need-add-t8
-add-t8 c = search needs
 
 returns : tie.Need-returns
 returns c =
@@ -49,9 +44,7 @@ residual-spec =
     mul-wrapping-sub-u64
     wrapping-sub-u64-requires
     mul-wrapping-sub-u64-2
-    mul-wrapping-sub-u64-3
     wrapping-sub-u64-requires-2
-    mul-wrapping-sub-u64-4
+    mul-wrapping-sub-u64-3
     wrapping-sub-u64-requires-3
-    add-t8
     returns)

@@ -1,23 +1,22 @@
 -- `root4::root4` meets its contract. Assumes nothing.
+use mathlib.Core.Path.{_≡_}
 use lib.ListN.{getD}
 use lib.Ieee.{nan, binary64}
 use borrow.Kind.Array.{good-length, eFloat}
 use Rattle.root.specs.Root.{root}
-use Rattle.root.proofs.Floats.{no-nan}
-use Rattle.root4.proofs.Numbers.{low-pattern, four-of, NoNan4, summed, Zero4, zeros}
+use Rattle.root4.proofs.Numbers.{same-no-nan, four-of, NoNan4, summed, Zero4, zeros}
 use borrow.Author.Needs.{needs}
 use Rattle.root4.proofs.root4.Statement.{statement}
 use Rattle.root4.proofs.root4.Tie as tie
 
-operands : (c : tie.Else1) → let x = c .before .args .t1 in NoNan4 (getD x 0 nan) (getD x 1 nan) (getD x 2 nan) (getD x 3 nan)
-operands c = summed _ _ _ _ (no-nan _ (c .if1 .left))
+operands : (c : tie.Then1) → let x = c .before .args .t1 in NoNan4 (getD x 0 nan) (getD x 1 nan) (getD x 2 nan) (getD x 3 nan)
+operands c = summed _ _ _ _ (same-no-nan _ (c .if1 .taken))
 
-estimates : (c : tie.Else2) → let n = c .before in NoNan4 (n .before .before .before .estimate .result) (n .before .before .estimate2 .result) (n .before .estimate3 .result) (n .estimate4 .result)
-estimates c = summed _ _ _ _ (no-nan _ (c .if2 .left))
+estimates : (c : tie.Then3) → let n = c .before in NoNan4 (n .before .before .before .refined .result) (n .before .before .refined2 .result) (n .before .refined3 .result) (n .refined4 .result)
+estimates c = summed _ _ _ _ (same-no-nan _ (c .if3 .taken))
 
-undoubted : (c : tie.Else3)
-    → let l = c .before .before .before .before .before in Zero4 (l .before .before .before .verify .result .doubts) (l .before .before .verify2 .result .doubts) (l .before .verify3 .result .doubts) (l .verify4 .result .doubts)
-undoubted c = zeros _ _ _ _ (c .if3 .left)
+undoubted : (c : tie.Then4) → let n = c .before in Zero4 (n .before .before .before .verify .result) (n .before .before .verify2 .result) (n .before .verify3 .result) (n .verify4 .result)
+undoubted c = zeros _ _ _ _ (c .if4 .taken)
 
 array-read-x0 : tie.Need-array-read-x0
 array-read-x0 c = search needs
@@ -31,77 +30,81 @@ array-read-x2 c = search needs
 array-read-x3 : tie.Need-array-read-x3
 array-read-x3 c = search needs
 
-lane-by-lane-requires : tie.Need-lane-by-lane-requires
-lane-by-lane-requires c κs = search needs
+half-reciprocal-requires : tie.Need-half-reciprocal-requires
+half-reciprocal-requires c κs = operands (c) .one
 
-returns : tie.Need-returns
-returns c = search needs
+half-reciprocal-requires-2 : tie.Need-half-reciprocal-requires-2
+half-reciprocal-requires-2 c κs = operands (c .before) .two
 
-estimate-requires : tie.Need-estimate-requires
-estimate-requires c κs = operands (c) .one
+half-reciprocal-requires-3 : tie.Need-half-reciprocal-requires-3
+half-reciprocal-requires-3 c κs = operands (c .before .before) .three
 
-estimate-requires-2 : tie.Need-estimate-requires-2
-estimate-requires-2 c κs = operands (c .before) .two
+half-reciprocal-requires-4 : tie.Need-half-reciprocal-requires-4
+half-reciprocal-requires-4 c κs = operands (c .before .before .before) .four
 
-estimate-requires-3 : tie.Need-estimate-requires-3
-estimate-requires-3 c κs = operands (c .before .before) .three
+refined-requires : tie.Need-refined-requires
+refined-requires c κs = summed _ _ _ _ (same-no-nan _ (c .if2 .taken)) .one
 
-estimate-requires-4 : tie.Need-estimate-requires-4
-estimate-requires-4 c κs = operands (c .before .before .before) .four
+refined-requires-2 : tie.Need-refined-requires-2
+refined-requires-2 c κs = summed _ _ _ _ (same-no-nan _ (c .before .if2 .taken)) .two
 
-lane-by-lane-requires-2 : tie.Need-lane-by-lane-requires-2
-lane-by-lane-requires-2 c κs = search needs
+refined-requires-3 : tie.Need-refined-requires-3
+refined-requires-3 c κs = summed _ _ _ _ (same-no-nan _ (c .before .before .if2 .taken)) .three
 
-returns-2 : tie.Need-returns-2
-returns-2 c = search needs
+refined-requires-4 : tie.Need-refined-requires-4
+refined-requires-4 c κs = summed _ _ _ _ (same-no-nan _ (c .before .before .before .if2 .taken)) .four
 
 verify-requires : tie.Need-verify-requires
-verify-requires c κs = (operands (c .before .before .before .before .before) .one, estimates (c) .one)
+verify-requires c κs = (operands (c .before .before .before .before .before .before .before .before .before .before) .one, estimates (c) .one)
 
 verify-requires-2 : tie.Need-verify-requires-2
-verify-requires-2 c κs = (operands (c .before .before .before .before .before .before) .two, estimates (c .before) .two)
+verify-requires-2 c κs = (operands (c .before .before .before .before .before .before .before .before .before .before .before) .two, estimates (c .before) .two)
 
 verify-requires-3 : tie.Need-verify-requires-3
-verify-requires-3 c κs = (operands (c .before .before .before .before .before .before .before) .three, estimates (c .before .before) .three)
+verify-requires-3 c κs = (operands (c .before .before .before .before .before .before .before .before .before .before .before .before) .three, estimates (c .before .before) .three)
 
 verify-requires-4 : tie.Need-verify-requires-4
-verify-requires-4 c κs = (operands (c .before .before .before .before .before .before .before .before) .four, estimates (c .before .before .before) .four)
+verify-requires-4 c κs = (operands (c .before .before .before .before .before .before .before .before .before .before .before .before .before) .four, estimates (c .before .before .before) .four)
 
-add-if3 : tie.Need-add-if3
-add-if3 c = search needs
+add-if4 : tie.Need-add-if4
+add-if4 c = search needs
 
-add-if3-2 : tie.Need-add-if3-2
-add-if3-2 c = search needs
+add-if4-2 : tie.Need-add-if4-2
+add-if4-2 c = search needs
 
-add-if3-3 : tie.Need-add-if3-3
-add-if3-3 c = search needs
+add-if4-3 : tie.Need-add-if4-3
+add-if4-3 c = search needs
 
-lane-by-lane-requires-3 : tie.Need-lane-by-lane-requires-3
-lane-by-lane-requires-3 c κs = search needs
+returns : tie.Need-returns
+returns c =
+    let x = c .before .before .before .before .before .before .before .before .before .before .before .before .before .before .before .before .args .t1 in
+    let e0 = c .before .before .before .before .verify .ensures .right (undoubted (c) .one) in
+    let e1 = c .before .before .before .verify2 .ensures .right (undoubted (c) .two) in
+    let e2 = c .before .before .verify3 .ensures .right (undoubted (c) .three) in
+    let e3 = c .before .verify4 .ensures .right (undoubted (c) .four) in
+    let k = four-of (root binary64) x nan (good-length (eFloat binary64) 4 x _ (c .before .before .before .before .before .before .before .before .before .before .before .before .before .before .before .before .good .0)) in
+    cc
 
-returns-3 : tie.Need-returns-3
-returns-3 c = search needs
+root-lane-requires : tie.Need-root-lane-requires
+root-lane-requires c κs = search needs
 
-float-from-bits-t26 : tie.Need-float-from-bits-t26
-float-from-bits-t26 c = low-pattern _ (c .before .before .before .before .before .before .before .before .before .verify .ensures .number (undoubted (c .before) .one))
+root-lane-requires-2 : tie.Need-root-lane-requires-2
+root-lane-requires-2 c κs = search needs
 
-float-from-bits-t19 : tie.Need-float-from-bits-t19
-float-from-bits-t19 c = low-pattern _ (c .before .before .before .before .before .before .before .before .before .verify2 .ensures .number (undoubted (c .before .before) .two))
+root-lane-requires-3 : tie.Need-root-lane-requires-3
+root-lane-requires-3 c κs = search needs
 
-float-from-bits-t34 : tie.Need-float-from-bits-t34
-float-from-bits-t34 c = low-pattern _ (c .before .before .before .before .before .before .before .before .before .verify3 .ensures .number (undoubted (c .before .before .before) .three))
+root-lane-requires-4 : tie.Need-root-lane-requires-4
+root-lane-requires-4 c κs = search needs
 
-float-from-bits-t35 : tie.Need-float-from-bits-t35
-float-from-bits-t35 c = low-pattern _ (c .before .before .before .before .before .before .before .before .before .verify4 .ensures .number (undoubted (c .before .before .before .before) .four))
-
-returns-4 : tie.Need-returns-4
-returns-4 c =
-    let x = c .before .before .before .before .before .before .before .before .before .before .before .before .before .before .before .before .before .before .before .args .t1 in
-    let e0 = c .before .before .before .before .before .before .before .before .before .before .before .before .verify .ensures .right (undoubted (c .before .before .before .before) .one) in
-    let e1 = c .before .before .before .before .before .before .before .before .before .before .before .verify2 .ensures .right (undoubted (c .before .before .before .before) .two) in
-    let e2 = c .before .before .before .before .before .before .before .before .before .before .verify3 .ensures .right (undoubted (c .before .before .before .before) .three) in
-    let e3 = c .before .before .before .before .before .before .before .before .before .verify4 .ensures .right (undoubted (c .before .before .before .before) .four) in
-    let k = four-of (root binary64) x nan (good-length (eFloat binary64) 4 x _ (c .before .before .before .before .before .before .before .before .before .before .before .before .before .before .before .before .before .before .before .good .0)) in
+returns-2 : tie.Need-returns-2
+returns-2 c =
+    let x = c .before .before .before .before .before .args .t1 in
+    let e0 : c .before .before .before .root-lane .result ≡ root binary64 (getD x 0 nan) = c .before .before .before .root-lane .ensures in
+    let e1 : c .before .before .root-lane2 .result ≡ root binary64 (getD x 1 nan) = c .before .before .root-lane2 .ensures in
+    let e2 : c .before .root-lane3 .result ≡ root binary64 (getD x 2 nan) = c .before .root-lane3 .ensures in
+    let e3 : c .root-lane4 .result ≡ root binary64 (getD x 3 nan) = c .root-lane4 .ensures in
+    let k = four-of (root binary64) x nan (good-length (eFloat binary64) 4 x _ (c .before .before .before .before .before .good .0)) in
     cc
 
 pub root4-spec : {M : Type 1} → statement M
@@ -112,25 +115,24 @@ root4-spec =
     array-read-x1
     array-read-x2
     array-read-x3
-    lane-by-lane-requires
-    returns
-    estimate-requires
-    estimate-requires-2
-    estimate-requires-3
-    estimate-requires-4
-    lane-by-lane-requires-2
-    returns-2
+    half-reciprocal-requires
+    half-reciprocal-requires-2
+    half-reciprocal-requires-3
+    half-reciprocal-requires-4
+    refined-requires
+    refined-requires-2
+    refined-requires-3
+    refined-requires-4
     verify-requires
     verify-requires-2
     verify-requires-3
     verify-requires-4
-    add-if3
-    add-if3-2
-    add-if3-3
-    lane-by-lane-requires-3
-    returns-3
-    float-from-bits-t26
-    float-from-bits-t19
-    float-from-bits-t34
-    float-from-bits-t35
-    returns-4)
+    add-if4
+    add-if4-2
+    add-if4-3
+    returns
+    root-lane-requires
+    root-lane-requires-2
+    root-lane-requires-3
+    root-lane-requires-4
+    returns-2)

@@ -1,18 +1,24 @@
 -- `root4::root_lane` meets its contract. Assumes nothing.
-use mathlib.Core.Path.{_≡_, sym, subst}
-use lib.Ieee.{Float, binary64}
-use Rattle.root.specs.Root.{root}
-use Rattle.root.proofs.Floats.{only-nan, no-nan, nan-root}
-use Rattle.root4.proofs.Numbers.{low-pattern}
+use Rattle.root4.proofs.Numbers.{same-no-nan}
 use borrow.Author.Needs.{needs}
 use Rattle.root4.proofs.root_lane.Statement.{statement}
 use Rattle.root4.proofs.root_lane.Tie as tie
+use Rattle.root4.proofs.half_reciprocal.Reads as half-reciprocal-reads
+use Rattle.root4.proofs.refined.Reads as refined-reads
+use Rattle.root4.proofs.verify.Reads as verify-reads
+use Rattle.root.proofs.root.Reads as root-reads
+
+half-reciprocal-requires : tie.Need-half-reciprocal-requires
+half-reciprocal-requires c κs = same-no-nan _ (c .if1 .taken)
+
+refined-requires : tie.Need-refined-requires
+refined-requires c κs = same-no-nan _ (c .if2 .taken)
+
+verify-requires : tie.Need-verify-requires
+verify-requires c κs = (same-no-nan _ (c .before .before .before .before .if1 .taken), same-no-nan _ (c .if3 .taken))
 
 returns : tie.Need-returns
-returns c = subst (λ (y : Float). y ≡ root binary64 y) (sym (only-nan _ (c .if1 .taken))) nan-root
-
-estimate-requires : tie.Need-estimate-requires
-estimate-requires c κs = no-nan _ (c .if1 .left)
+returns c = c .before .verify .ensures .right (c .if4 .taken)
 
 root-requires : tie.Need-root-requires
 root-requires c κs = search needs
@@ -20,31 +26,13 @@ root-requires c κs = search needs
 returns-2 : tie.Need-returns-2
 returns-2 c = search needs
 
-verify-requires : tie.Need-verify-requires
-verify-requires c κs = (no-nan _ (c .before .before .if1 .left), no-nan _ (c .if2 .left))
-
-float-from-bits-result : tie.Need-float-from-bits-result
-float-from-bits-result c = low-pattern _ (c .before .before .before .verify .ensures .number (c .before .if3 .taken))
-
-root-requires-2 : tie.Need-root-requires-2
-root-requires-2 c κs = search needs
-
-returns-3 : tie.Need-returns-3
-returns-3 c = c .before .before .before .verify .ensures .right (c .before .if3 .taken)
-
-returns-4 : tie.Need-returns-4
-returns-4 c = search needs
-
 pub root-lane-spec : {M : Type 1} → statement M
 root-lane-spec =
     tie.close
     (tie.spec
-    returns
-    estimate-requires
-    root-requires
-    returns-2
+    half-reciprocal-requires
+    refined-requires
     verify-requires
-    float-from-bits-result
-    root-requires-2
-    returns-3
-    returns-4)
+    returns
+    root-requires
+    returns-2)

@@ -1,6 +1,8 @@
 -- `root4::verify` meets its contract. Assumes nothing.
-use mathlib.Core.Path.{sym, subst}
+use mathlib.Core.Path.{sym, _∙_, subst}
 use lib.Dec.{T}
+use lib.Ieee.{binary64}
+use lib.Ieee.Bits.{ofBits-toBits}
 use Rattle.root.proofs.Floats.{read-back}
 use borrow.Author.Needs.{needs}
 use Rattle.root4.proofs.verify.Statement.{statement}
@@ -18,7 +20,10 @@ verify-bits-requires c κs = search needs
 returns : tie.Need-returns
 returns c =
     let t = c .verify-bits .ensures in
-    record { right = λ e. read-back _ (subst T (sym (c .before .good .0 .1)) tt) _ (t .right e); number = t .number; bound = t .bound }
+    record {
+      right = λ e. sym (ofBits-toBits binary64 _ (subst T (sym (c .before .good .1 .0 .1)) tt)) ∙ read-back _ (subst T (sym (c .before .good .0 .1)) tt) _ (t .right e);
+      bound = t .bound;
+    }
 
 pub verify-spec : {M : Type 1} → statement M
 verify-spec =

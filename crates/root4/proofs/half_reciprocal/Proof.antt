@@ -1,9 +1,9 @@
--- `root4::estimate` meets its contract. Assumes nothing.
+-- `root4::half_reciprocal` meets its contract. Assumes nothing.
 use native.Mathlib.Omega.{arith}
 use Rattle.root4.proofs.Numbers.{low-pattern}
 use borrow.Author.Needs.{needs}
-use Rattle.root4.proofs.estimate.Statement.{statement}
-use Rattle.root4.proofs.estimate.Tie as tie
+use Rattle.root4.proofs.half_reciprocal.Statement.{statement}
+use Rattle.root4.proofs.half_reciprocal.Tie as tie
 
 float-to-bits-y : tie.Need-float-to-bits-y
 float-to-bits-y c = search needs
@@ -17,5 +17,5 @@ float-from-bits-y c = low-pattern _ (omega arith)
 returns : tie.Need-returns
 returns c = search needs
 
-pub estimate-spec : {M : Type 1} → statement M
-estimate-spec = tie.close (tie.spec float-to-bits-y sub-y float-from-bits-y returns)
+pub half-reciprocal-spec : {M : Type 1} → statement M
+half-reciprocal-spec = tie.close (tie.spec float-to-bits-y sub-y float-from-bits-y returns)
