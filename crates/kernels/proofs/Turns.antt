@@ -203,6 +203,10 @@ array-lanes {v} h = lib.Seq.ext-getD lib.Ieee.nan v (lanes (at v)) h (λ i b. sy
 
 -- ---- sums of products
 
+-- lane t of a region's entries
+abbrev pub entryLane : List Float → ℕ → ℕ → ℕ → ℕ → Float
+entryLane ws o k t e = at (reg 4 ws o k t) e
+
 pub sum-turn : (A B : ℕ → ℕ → Float) {acc a b r : List Float} {e : ℕ} → acc ≡ lanes (λ t. Σ e (λ k. A t k ⊗ B t k)) → a ≡ lanes (λ t. A t e) → b ≡ lanes (λ t. B t e)
     → r ≡ lanes (λ t. at acc t ⊕ at a t ⊗ at b t) → r ≡ lanes (λ t. Σ (e + 1) (λ k. A t k ⊗ B t k))
 unfolding Σ

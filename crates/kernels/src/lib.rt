@@ -280,6 +280,31 @@ pub fn dot_product(work: &[f64], p: usize, q: usize, k: usize) -> [f64; 4]
     acc
 }
 
+pub struct Sums {
+    pub squares: [f64; 4],
+    pub products: [f64; 4],
+}
+
+// Σ p·p and Σ q·p, side by side: neither sum waits for the other.
+pub fn squares_and_products(work: &[f64], p: usize, q: usize, k: usize) -> Sums
+    requires { ⌜ (4 * (p + k) ≤ length (now work)) × (4 * (q + k) ≤ length (now work)) ⌝ }
+    ensures { λ r. ⌜ (r .squares ≡ lanes (λ t. Σ k (λ e. at (reg 4 (now (work .entry)) p k t) e ⊗ at (reg 4 (now (work .entry)) p k t) e))) × (r .products ≡ lanes (λ t. Σ k (λ e. at (reg 4 (now (work .entry)) q k t) e ⊗ at (reg 4 (now (work .entry)) p k t) e))) ⌝ }
+{
+    let mut squares = zero4();
+    let mut products = zero4();
+    let mut e = 0;
+    while e < k {
+        let a = get4(work, p + e);
+        let b = get4(work, q + e);
+        let t = product_in(squares, a, a);
+        let u = product_in(products, b, a);
+        squares = t;
+        products = u;
+        e += 1;
+    }
+    Sums { squares, products }
+}
+
 pub fn theta_of(work: &[f64], a: usize, da: usize, b: usize, db: usize, k: usize) -> [f64; 4]
     requires { ⌜ (4 * (a + k) ≤ length (now work)) × (4 * (da + k) ≤ length (now work)) × (4 * (b + k) ≤ length (now work)) × (4 * (db + k) ≤ length (now work)) ⌝ }
     ensures { λ r. ⌜ r ≡ lanes (λ t. largestRatio k (reg 4 (now (work .entry)) a k t) (reg 4 (now (work .entry)) da k t) (reg 4 (now (work .entry)) b k t) (reg 4 (now (work .entry)) db k t)) ⌝ }

@@ -58,17 +58,24 @@ module _ (A : Problem) (d : LaneData) (q : State) where
 
 -- ---- what the test and the step both read
 module _ (m n s : ℕ) (work : List Float) (slack : s ≤ m) where
-  abbrev gFront : ℕ → Float
-  gFront t = Σ n (λ e. at (reg 4 work n n t) e ⊗ at (reg 4 work 0 n t) e) ⊕ Σ s (λ i. at (reg 4 work (wAt n m) s t) i ⊗ at (reg 4 work (yAt n) s t) i)
+  abbrev xxSum : ℕ → Float
+  xxSum t = Σ n (λ e. at (reg 4 work 0 n t) e ⊗ at (reg 4 work 0 n t) e)
 
-  pub measured : {nx ny gs ts : List Float} → nx ≡ lanes (λ t. norm n (reg 4 work 0 n t)) → ny ≡ lanes (λ t. norm m (reg 4 work (yAt n) m t))
-      → gs ≡ lanes gFront → ts ≡ lanes (λ t. centringValue ⊗ at gs t ⊘ whole (n + s)) → Measured m n s work nx ny gs ts
-  measured {nx} {ny} {gs} {ts} ex ey eg et = record {
-    x-norm = lane-of (λ t. norm n (reg 4 work 0 n t)) ex;
+  abbrev zxSum : ℕ → Float
+  zxSum t = Σ n (λ e. at (reg 4 work n n t) e ⊗ at (reg 4 work 0 n t) e)
+
+  abbrev wySum : ℕ → Float
+  wySum t = Σ s (λ i. at (reg 4 work (wAt n m) s t) i ⊗ at (reg 4 work (yAt n) s t) i)
+
+  pub measured : {xx zx nx ny gs ts : List Float} → xx ≡ lanes xxSum → zx ≡ lanes zxSum → nx ≡ lanes (λ t. √ (at xx t)) → ny ≡ lanes (λ t. norm m (reg 4 work (yAt n) m t))
+      → gs ≡ lanes (λ t. at zx t ⊕ wySum t) → ts ≡ lanes (λ t. centringValue ⊗ at gs t ⊘ whole (n + s)) → Measured m n s work nx ny gs ts
+  measured {xx} {zx} {nx} {ny} {gs} {ts} ea eb ex ey eg et = record {
+    x-norm = λ t b. lane-of (λ t. √ (at xx t)) ex t b ∙ ap √ (lane-of xxSum ea t b) ∙ (unfold norm in refl);
     y-norm = lane-of (λ t. norm m (reg 4 work (yAt n) m t)) ey;
     gap = λ t b.
-        lane-of gFront eg t b
-        ∙ ap (λ (v : Float). Σ n (λ e. at (reg 4 work n n t) e ⊗ at (reg 4 work 0 n t) e) ⊕ v)
+        lane-of (λ t. at zx t ⊕ wySum t) eg t b
+        ∙ ap (λ (v : Float). v ⊕ wySum t) (lane-of zxSum eb t b)
+        ∙ ap (λ (v : Float). zxSum t ⊕ v)
         (Σ-same s (λ i. at (reg 4 work (wAt n m) s t) i ⊗ at (reg 4 work (yAt n) s t) i) (λ i. at (reg 4 work (wAt n m) s t) i ⊗ at (reg 4 work (yAt n) m t) i)
         (λ i h. ap (λ (v : Float). at (reg 4 work (wAt n m) s t) i ⊗ v) (reg-front work (yAt n) s m t i h slack)));
     centred = lane-of (λ t. centringValue ⊗ at gs t ⊘ whole (n + s)) et;

@@ -19,6 +19,7 @@ use kernels::dot_product;
 use kernels::dual_squares;
 use kernels::one4;
 use kernels::primal_squares;
+use kernels::squares_and_products;
 use lanes::LaneState;
 use lanes::add4;
 use lanes::div4;
@@ -84,16 +85,15 @@ fn dual_feasibility(
     over_one(squares, ny)
 }
 
-// g: Σ z·x + Σ w·y over the slack rows.
-fn gamma(work: &[f64], m: usize, n: usize, s: usize) -> [f64; 4]
+// g: Σ z·x, given, + Σ w·y over the slack rows.
+fn gamma(work: &[f64], m: usize, n: usize, s: usize, zx: [f64; 4]) -> [f64; 4]
     requires { ⌜ (s ≤ m) × (4 * lAt n m s ≤ length (now work)) ⌝ }
-    ensures { λ r. ⌜ r ≡ lanes (λ t. Σ n (λ e. at (reg 4 (now (work .entry)) n n t) e ⊗ at (reg 4 (now (work .entry)) 0 n t) e) ⊕ Σ s (λ i. at (reg 4 (now (work .entry)) (wAt n m) s t) i ⊗ at (reg 4 (now (work .entry)) (yAt n) s t) i)) ⌝ }
+    ensures { λ r. ⌜ r ≡ lanes (λ t. at zx t ⊕ Σ s (λ i. at (reg 4 (now (work .entry)) (wAt n m) s t) i ⊗ at (reg 4 (now (work .entry)) (yAt n) s t) i)) ⌝ }
 {
     let y = 5 * n;
     let w = y + m + m + m;
-    let a = dot_product(work, n, 0, n);
     let b = dot_product(work, w, y, s);
-    add4(a, b)
+    add4(zx, b)
 }
 
 // G, given g and the norms of x and y.
@@ -128,9 +128,12 @@ pub fn measure(work: &[f64], m: usize, n: usize, s: usize) -> Measures
     ensures { λ r. ⌜ Measured m n s (now (work .entry)) (r .nx) (r .ny) (r .g) (r .mu) ⌝ }
 {
     let y = 5 * n;
-    let nx = vector_norm(work, 0, n);
+    let sums = squares_and_products(work, 0, n, n);
+    let xx = sums.squares;
+    let zx = sums.products;
+    let nx = root4(xx);
     let ny = vector_norm(work, y, m);
-    let g = gamma(work, m, n, s);
+    let g = gamma(work, m, n, s, zx);
     let mu = mu_in(g, n, s);
     Measures { nx, ny, g, mu }
 }

@@ -17,14 +17,12 @@ add-w-3 c = search needs
 dot-product-requires : tie.Need-dot-product-requires
 dot-product-requires c κs = search needs
 
-dot-product-requires-2 : tie.Need-dot-product-requires-2
-dot-product-requires-2 c κs = search needs
-
 add4-requires : tie.Need-add4-requires
 add4-requires c κs = search needs
 
 returns : tie.Need-returns
-returns c = rw (c .add4 .ensures, c .before .dot-product2 .ensures, c .before .before .dot-product .ensures)
+returns c = rw (c .add4 .ensures, c .before .dot-product .ensures)
 
 pub gamma-spec : {M : Type 1} → statement M
-gamma-spec = tie.close (tie.spec mul-y add-w add-w-2 add-w-3 dot-product-requires dot-product-requires-2 add4-requires returns)
+gamma-spec =
+    tie.close (tie.spec mul-y add-w add-w-2 add-w-3 dot-product-requires add4-requires returns)
