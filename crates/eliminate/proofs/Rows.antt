@@ -70,3 +70,122 @@ module _ {m : ℕ} (ptr ind : List ℕ) (L : Low m ptr ind) (u v f : List Float)
       let e′ : (k : ℕ) → k < getD ptr (i + 1) 0 → at u k ≡ at v k = rw (add-one i) e in
       ap₂ (λ (p : List Float) (q : Float). p ++ (q ∷ [])) (entries-same i (omega arith) (λ k b. e′ k (omega arith)))
       (ap (λ (p : List Float). frontAt ptr ind u f p i) (entries-same i (omega arith) (λ k b. e′ k (omega arith))) ∙ entry-same i (omega arith) e′ (grow i (frontAt ptr ind v f)))
+
+-- ---- the loop
+
+-- i rows are done: their entries of the factor are the machine's on the memory's own numbers, and their entries of the forward substitution stand
+pub record Done (off cols : List ℕ) (vals : List Float) (m n s x z y w f d lo : ℕ) (lends lcols : List ℕ) (old : List Float) (i : ℕ) (work : List Float) : Type 0 where
+  pub low : i ≤ m
+  pub kept : KeptTwo lo (length lcols) d m old work
+  pub filled : Factored (problemOf m n s off cols vals) (λ l. stateOf work x z y w m n s l) lo (getD lends i 0) work
+  pub solved : (t : ℕ) → t < 4 → reg 4 work d i t ≡ grow i (frontAt lends lcols (reg 4 work lo (length lcols) t) (reg 4 old f m t))
+
+module _ {off cols : List ℕ} {vals old : List Float} {m n s : ℕ} {aends aleft aright acols dends dleft dright lends ldiag lcols : List ℕ} {x z y w f d lo : ℕ}
+    (G : Given off cols vals old m n s aends aleft aright acols dends dleft dright lends ldiag lcols x z y w lo)
+    (S : Sides x z y w f d lo m n s (length lcols) old) where
+  abbrev A : Problem
+  A = problemOf m n s off cols vals
+
+  abbrev E : ℕ
+  E = length lcols
+
+  abbrev Loop : ℕ → List Float → Type 0
+  Loop i work = Done off cols vals m n s x z y w f d lo lends lcols old i work
+
+  pub low : Low m lends lcols
+  low = rw (G .lists .ends, G .lists .columns) (low-of off cols m n s vals .ranges)
+
+  pub count : E ≡ entries off cols m
+  count = ap length (G .lists .columns) ∙ ind-length off cols m
+
+  -- the numbers stay where nothing but the solution's entries is written, and where the factor's are written too
+  state-still : {k : ℕ} {a b : List Float} → k ≤ m → Kept 4 d k a b → (l : ℕ) → l < 4 → stateOf b x z y w m n s l ≡ stateOf a x z y w m n s l
+  state-still h W l b =
+      rw (kept-apart W (apart-front (S .x-apart) h) l b, kept-apart W (apart-front (S .z-apart) h) l b, kept-apart W (apart-front (S .y-apart) h) l b, kept-apart W (apart-front (S .w-apart) h) l b)
+      refl
+
+  state-two : {new : List Float} → KeptTwo lo E d m old new → (l : ℕ) → l < 4 → stateOf new x z y w m n s l ≡ stateOf old x z y w m n s l
+  state-two {new} W l b = rw (two-apart W (factors (G .regions .x-apart)) (S .x-apart) l b, two-apart W (factors (G .regions .z-apart)) (S .z-apart) l b, two-apart W (factors (G .regions .y-apart)) (S .y-apart) l b, two-apart W (factors (G .regions .w-apart)) (S .w-apart) l b) refl
+    where
+      factors : {p k : ℕ} → Apart p k lo (entries off cols m) → Apart p k lo E
+      factors {p} {k} a = subst (λ (e : ℕ). Apart p k lo e) (sym count) a
+
+  pub done-none : Loop 0 old
+  unfolding grow
+  done-none = record { low = omega arith; kept = two-none; filled = filled-none G; solved = λ t h. reg-none 4 old d t }
+
+  -- THE TURN: row i of the factor, then entry i of the forward substitution
+  pub done-more : {i : ℕ} {a b c v : List Float} → Loop i a → i < m
+      → Kept 4 (lo + getD lends i 0) (getD lends (i + 1) 0 - getD lends i 0) a b
+      → Factored A (λ l. stateOf b x z y w m n s l) lo (getD lends (i + 1) 0) b
+      → v ≡ lanes (λ t. frontAt lends lcols (reg 4 b lo E t) (reg 4 b f m t) (reg 4 b d i t) i)
+      → c ≡ put 4 b (d + i) v
+      → Loop (i + 1) c
+  done-more {i} {a} {b} {c} {v} R h K F ev ep = record {
+    low = omega arith;
+    kept = two-second (two-first (R .kept) wide) (kept-wider (turn .kept) (omega arith));
+    filled = filled-same (λ l z. sym (state-still (omega arith) (turn .kept) l z)) (filled-still (turn .kept) (apart-front (front-of (S .l-apart)) (omega arith)) F);
+    solved = λ t z. turn .within t z ∙ ap₂ (λ (p q : List Float). grow (i + 1) (frontAt lends lcols p q)) (sym (kept-apart (turn .kept) (apart-front (S .l-apart) (omega arith)) t z)) (side t z);
+  }
+    where
+      ends : getD lends (i + 1) 0 ≤ E
+      ends = omega (arith, count, lends-within G {i = i + 1} (omega arith))
+
+      up : getD lends i 0 ≤ getD lends (i + 1) 0
+      up = lends-up G h
+
+      front-of : Apart lo E d m → Apart lo (getD lends (i + 1) 0) d m
+      front-of p = apart-other (apart-front (apart-other p) ends)
+
+      wide : Kept 4 lo E a b
+      wide = kept-part lo (getD lends i 0) (getD lends (i + 1) 0 - getD lends i 0) K (omega (arith, ends, up))
+
+      -- the right-hand side is as it was, and so is the factor before row i
+      side : (t : ℕ) → t < 4 → reg 4 b f m t ≡ reg 4 old f m t
+      side t z = kept-apart wide (S .f-factor) t z ∙ two-apart (R .kept) (S .f-factor) (S .f-apart) t z
+
+      same : (t : ℕ) → t < 4 → (k : ℕ) → k < getD lends i 0 → at (reg 4 a lo E t) k ≡ at (reg 4 b lo E t) k
+      same t z k l =
+          reg-at 4 a lo E t k (omega (arith, ends, up)) ∙ sym (K .outside (4 * (lo + k) + t) (inl (omega arith))) ∙ sym (reg-at 4 b lo E t k (omega (arith, ends, up)))
+
+      sofar : Grows 4 d i (λ t. frontAt lends lcols (reg 4 b lo E t) (reg 4 b f m t)) b b
+      sofar = record {
+        kept = kept-none 4 d i b;
+        within = λ t z.
+            kept-apart wide (apart-other (apart-front (S .l-apart) (omega arith))) t z
+            ∙ R .solved t z
+            ∙ entries-same lends lcols low (reg 4 a lo E t) (reg 4 b lo E t) (reg 4 old f m t) i (omega arith) (same t z)
+            ∙ ap (λ (p : List Float). grow i (frontAt lends lcols (reg 4 b lo E t) p)) (sym (side t z));
+      }
+
+      turn : Grows 4 d (i + 1) (λ t. frontAt lends lcols (reg 4 b lo E t) (reg 4 b f m t)) b c
+      turn =
+          grows-turn sofar (omega (arith, S .d-in, R .kept .size, K .size))
+          (ev
+          ∙ lanes-ext (λ t. frontAt lends lcols (reg 4 b lo E t) (reg 4 b f m t) (reg 4 b d i t) i)
+          (λ t. frontAt lends lcols (reg 4 b lo E t) (reg 4 b f m t) (grow i (frontAt lends lcols (reg 4 b lo E t) (reg 4 b f m t))) i)
+          (λ t z. ap (λ (p : List Float). frontAt lends lcols (reg 4 b lo E t) (reg 4 b f m t) p i) (sofar .within t z)))
+          ep
+
+  -- THE END: all rows are done
+  pub done-all : {i : ℕ} {new : List Float} → Loop i new → i ≡ m
+      → Eliminated A (λ l. stateOf old x z y w m n s l) lo E d (λ t. front lends lcols m (reg 4 new lo E t) (reg 4 old f m t)) old new
+  unfolding front
+  done-all {i} {new} R e =
+      let R′ : Loop m new = subst (λ (k : ℕ). Loop k new) e R in
+      record {
+        kept = R′ .kept;
+        factored = filled-at (count ∙ sym (lends-at G m (omega arith))) (filled-same (state-two (R′ .kept)) (R′ .filled));
+        within = R′ .solved;
+      }
+
+  -- then the backward substitution
+  pub solved-all : (tends trows tplaces : List ℕ) {a b : List Float}
+      → Eliminated A (λ l. stateOf old x z y w m n s l) lo E d (λ t. front lends lcols m (reg 4 a lo E t) (reg 4 old f m t)) old a
+      → Fills 4 d m (λ t. back lends tends trows tplaces (reg 4 a lo E t) m (reg 4 a d m t)) a b
+      → Eliminated A (λ l. stateOf old x z y w m n s l) lo E d (λ t. back lends tends trows tplaces (reg 4 b lo E t) m (front lends lcols m (reg 4 b lo E t) (reg 4 old f m t))) old b
+  solved-all tends trows tplaces {a} {b} F B = record {
+    kept = two-second (F .kept) (B .kept);
+    factored = filled-still (B .kept) (S .l-apart) (F .factored);
+    within = λ t z. B .within t z ∙ rw (F .within t z, kept-apart (B .kept) (S .l-apart) t z) refl;
+  }

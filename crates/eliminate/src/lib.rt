@@ -45,7 +45,29 @@ pub fn factor_forward(
     let mut i = 0;
     while i < m {
         normal_matrix_cholesky_row(
-            work, x, z, y, w, lo, m, n, s, off, cols, values, aends, aleft, aright, acols, dends, dleft, dright, lends, ldiag, lcols, i,
+            work,
+            x,
+            z,
+            y,
+            w,
+            lo,
+            m,
+            n,
+            s,
+            off,
+            cols,
+            values,
+            aends,
+            aleft,
+            aright,
+            acols,
+            dends,
+            dleft,
+            dright,
+            lends,
+            ldiag,
+            lcols,
+            i,
         );
         let v = front_entry(lends, lcols, work, f, d, lo, m, count, i);
         put4(work, d + i, v);
@@ -87,7 +109,30 @@ pub fn factor_solve(
     ensures { λ _. ⌜ Eliminated (problemOf m n s (now (off .entry)) (now (cols .entry)) (now (values .entry))) (λ l. stateOf (now (work .entry)) x z y w m n s l) lo (length (now (lcols .entry))) d (λ t. back (now (lends .entry)) (now (tends .entry)) (now (trows .entry)) (now (tplaces .entry)) (reg 4 (now (work .exit)) lo (length (now (lcols .entry))) t) m (front (now (lends .entry)) (now (lcols .entry)) m (reg 4 (now (work .exit)) lo (length (now (lcols .entry))) t) (reg 4 (now (work .entry)) f m t))) (now (work .entry)) (now (work .exit)) ⌝ }
 {
     factor_forward(
-        work, x, z, y, w, f, d, lo, m, n, s, off, cols, values, aends, aleft, aright, acols, dends, dleft, dright, lends, ldiag, lcols,
+        work,
+        x,
+        z,
+        y,
+        w,
+        f,
+        d,
+        lo,
+        m,
+        n,
+        s,
+        off,
+        cols,
+        values,
+        aends,
+        aleft,
+        aright,
+        acols,
+        dends,
+        dleft,
+        dright,
+        lends,
+        ldiag,
+        lcols,
     );
     backward(lends, tends, trows, tplaces, work, d, lo, m, lcols.len());
 }

@@ -28,7 +28,7 @@ at-requires-2 : tie.Need-at-requires-2 Inv-loop μ-loop
 at-requires-2 c κs = omega (arith, lends-room (c .before .before .before .before .before .before .before .before .before .before .before .before .before .before .before .pre .0) (c .before .before .before .before .before .before .before .before .before .before .before .before .before .before .before .pre .1))
 
 loop-holds : tie.Need-loop-holds Inv-loop μ-loop
-loop-holds c = 
+loop-holds c =
     let s = c .before .before .before .before .before .before .before .before .before .before .before .before .before .before .before .before in
     (omega (arith, c .at2 .ensures), omega (arith, c .at2 .ensures, lends-up (s .pre .0) (s .pre .1)), filled-at (c .at2 .ensures) (s .pre .2), kept-none _ _ _ _)
 
