@@ -13,12 +13,12 @@ use Rattle.lanes.specs.Lanes.{lanes, put}
 use Rattle.lanes.specs.Region.{reg, Kept, Fills, Grows, Apart, before, after}
 use Rattle.lanes.proofs.Regions.{reg-at, reg-none, reg-same, kept-none, kept-wider, kept-apart, apart-front}
 use Rattle.lanes.proofs.Quads.{lanes-ext, grows-turn}
-use Rattle.machine.specs.Machine.{Problem, State}
+use Rattle.machine.specs.Machine.{Problem}
 use Rattle.machine.specs.Work.{problemOf}
 use Rattle.machine.proofs.Factor.{fold-same}
 use Rattle.sparse.specs.Sparse.{cut, lessEach, frontAt, front, back, Low}
 use Rattle.ranks.specs.Factoring.{Given, Factored, stateOf, entries}
-use Rattle.ranks.proofs.Fill.{kept-part, given-still, filled-none, filled-at, filled-same, filled-still, lends-at, lends-up, lends-within}
+use Rattle.ranks.proofs.Fill.{kept-part, filled-none, filled-at, filled-same, filled-still, lends-at, lends-up, lends-within}
 use Rattle.links.proofs.Low.{low-of, ind-length}
 use Rattle.substitution.proofs.Turns.{cut-length}
 use Rattle.eliminate.specs.Elimination.{Sides, KeptTwo, Eliminated}

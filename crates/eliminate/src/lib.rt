@@ -1,5 +1,4 @@
 // The factor of the normal matrix and the two substitutions, in four lanes, by the plan's lists.
-ghost use Prim.Native.Nat.{ℕ};
 ghost use lib.ListN.{length};
 ghost use Rattle.lanes.specs.Region.{reg};
 ghost use Rattle.machine.specs.Work.{problemOf};

@@ -1,4 +1,4 @@
--- The memory while the factor is filled: its first e entries are the machine's on the memory's own numbers, and nothing but the factor has changed. Assumes nothing.
+-- The memory while the factor is filled: its first e entries are the machine's on the memory's own numbers. Assumes nothing.
 use mathlib.Core.Path.{_≡_, refl, sym, ap, _∙_, subst}
 use mathlib.Core.Logic.{inl, inr, ⊎-elim}
 use mathlib.Core.Bool.{true}
@@ -25,9 +25,6 @@ use Rattle.ranks.proofs.Picks.{held-factor, held-stored}
 use Rattle.ranks.proofs.Turn.{entry-room}
 use Rattle.ranks.proofs.Loop.{turn, same-pair, stands, stands-in, row-start, row-end, row-end-in}
 
-pub kept-trans : {K o n : ℕ} {a b c : List Float} → Kept K o n a b → Kept K o n b c → Kept K o n a c
-kept-trans p q = record { size = q .size ∙ p .size; outside = λ j h. q .outside j h ∙ p .outside j h }
-
 -- a part of a region
 pub kept-part : (o a b : ℕ) {n : ℕ} {old new : List Float} → Kept 4 (o + a) b old new → a + b ≤ n → Kept 4 o n old new
 kept-part o a b w h = record { size = w .size; outside = λ j p. w .outside j (⊎-elim (λ q. inl (omega arith)) (λ q. inr (omega arith)) p) }
@@ -36,6 +33,7 @@ kept-part o a b w h = record { size = w .size; outside = λ j p. w .outside j (�
 pub kept-more : (k : ℕ) (v : List Float) {o n : ℕ} {old new new′ : List Float} → Kept 4 o n old new → o ≤ k → k < o + n → new′ ≡ put 4 new k v → Kept 4 o n old new′
 kept-more k v w a b p = rw p (kept-put w k v a b)
 
+-- the same entries, and the same numbers
 pub filled-at : {A : Problem} {q : ℕ → State} {lo e e′ : ℕ} {work : List Float} → e ≡ e′ → Factored A q lo e′ work → Factored A q lo e work
 filled-at {A} {q} {lo} {e} {e′} {work} z f = subst (λ (k : ℕ). Factored A q lo k work) (sym z) f
 
@@ -85,17 +83,17 @@ module _ {off cols : List ℕ} {vals old : List Float} {m n s : ℕ} {aends alef
   pub lends-at : (i : ℕ) → i ≤ m → getD lends i 0 ≡ lplace g i 0
   lends-at i h = rw (G .lists .ends) (row-start off cols m i h)
 
-  -- the next row ends where it starts or behind
+  -- a row starts at its end or before, and ends within the factor
   pub lends-up : {i : ℕ} → i < m → getD lends i 0 ≤ getD lends (i + 1) 0
   lends-up {i} h = omega (arith, lends-at i (omega arith), lends-at (i + 1) (omega arith), lplace-down g i (i + 1) (omega arith))
 
   pub lends-within : {i : ℕ} → i ≤ m → getD lends i 0 ≤ E
   lends-within {i} h = omega (arith, lends-at i h, lplace-down g i m h)
 
-  -- entry e of row i, before the row's end: its column is on the list, and stands there
   next : {i : ℕ} → i < m → lplace g (suc i) 0 ≡ getD lends (i + 1) 0
   next {i} h = rw (G .lists .ends) (sym (row-end off cols m i h))
 
+  -- entry e of row i, before the row's end: its column is on the list, and stands there
   pub lcols-next : {i e : ℕ} → i < m → getD lends i 0 ≤ e → e < getD lends (i + 1) 0 → e < length lcols
   lcols-next {i} {e} h a b = rw (G .lists .columns) (stands-in off cols m i h e (omega (arith, lends-at i (omega arith))) (omega (arith, next h)))
 
@@ -118,7 +116,7 @@ module _ {off cols : List ℕ} {vals old : List Float} {m n s : ℕ} {aends alef
   filled-none = record { within = λ l i j b h c t u. absurd (omega (arith, lends-at 0 (omega arith), lplace-start g 0)) }
 
   -- what the factor is worked out of stays
-  pub state-kept : {new : List Float} → Kept 4 lo E old new → (l : ℕ) → l < 4 → stateOf new x z y w m n s l ≡ stateOf old x z y w m n s l
+  state-kept : {new : List Float} → Kept 4 lo E old new → (l : ℕ) → l < 4 → stateOf new x z y w m n s l ≡ stateOf old x z y w m n s l
   state-kept W l b =
       rw (kept-apart W (G .regions .x-apart) l b, kept-apart W (G .regions .z-apart) l b, kept-apart W (G .regions .y-apart) l b, kept-apart W (G .regions .w-apart) l b)
       refl
