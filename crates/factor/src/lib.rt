@@ -6,6 +6,7 @@ ghost use lib.Dec.{eqb, ltb};
 ghost use lib.ListN.{length, getD};
 ghost use Rattle.lanes.specs.Lists.{at as lane};
 ghost use Rattle.lanes.specs.Lanes.{lanes, cell as here};
+ghost use Rattle.lanes.specs.Region.{Kept};
 ghost use Rattle.lanes.specs.Arithmetic.{_⊕_, _⊖_, _⊗_, _⊘_, √, magnitude, null};
 ghost use Rattle.machine.specs.Work.{problemOf};
 ghost use Rattle.ranks.specs.Factoring.{normalStep, productStep, NormalIn, ProductIn, Summed, Given, Factored, stateOf};
@@ -128,8 +129,8 @@ fn finish(work: &[f64], lo: usize, diag: &[u32], i: usize, j: usize, v: [f64; 4]
     div4(v, b)
 }
 
-// All entries of the factor, rows then columns rising. The lists, each by its ends or by itself: shared columns (a), products (d), the factor's rows (l).
-pub fn normal_matrix_cholesky_decomposition(
+// Row i of the factor, columns rising, where the rows before it stand. The lists, each by its ends or by itself: shared columns (a), products (d), the factor's rows (l).
+pub fn normal_matrix_cholesky_row(
     work: &mut [f64],
     x: usize,
     z: usize,
@@ -152,23 +153,20 @@ pub fn normal_matrix_cholesky_decomposition(
     lends: &[u32],
     ldiag: &[u32],
     lcols: &[u32],
+    i: usize,
 )
-    requires { ⌜ Given (now off) (now cols) (now values) (now work) m n s (now aends) (now aleft) (now aright) (now acols) (now dends) (now dleft) (now dright) (now lends) (now ldiag) (now lcols) x z y w lo ⌝ }
-    ensures { λ _. ⌜ Factored (problemOf m n s (now (off .entry)) (now (cols .entry)) (now (values .entry))) (λ l. stateOf (now (work .entry)) x z y w m n s l) lo (now (work .entry)) (now (work .exit)) ⌝ }
+    requires { ⌜ Given (now off) (now cols) (now values) (now work) m n s (now aends) (now aleft) (now aright) (now acols) (now dends) (now dleft) (now dright) (now lends) (now ldiag) (now lcols) x z y w lo × (i < m) × Factored (problemOf m n s (now off) (now cols) (now values)) (λ l. stateOf (now work) x z y w m n s l) lo (getD (now lends) i 0) (now work) ⌝ }
+    ensures { λ _. ⌜ Kept 4 (lo + getD (now (lends .entry)) i 0) (getD (now (lends .entry)) (i + 1) 0 - getD (now (lends .entry)) i 0) (now (work .entry)) (now (work .exit)) × Factored (problemOf m n s (now (off .entry)) (now (cols .entry)) (now (values .entry))) (λ l. stateOf (now (work .exit)) x z y w m n s l) lo (getD (now (lends .entry)) (i + 1) 0) (now (work .exit)) ⌝ }
 {
-    let mut e: usize = 0;
-    let mut i: usize = 0;
-    while i < m {
-        let end = at(lends, i + 1);
-        while e < end {
-            let j = at(lcols, e);
-            let start = start_of(work, y, w, s, i, j);
-            let sum = normal_sum(work, x, z, values, aends, aleft, aright, acols, e, start);
-            let reduced = less_products(work, lo, dends, dleft, dright, e, sum);
-            let v = finish(work, lo, ldiag, i, j, reduced);
-            put4(work, lo + e, v);
-            e += 1;
-        }
-        i += 1;
+    let end = at(lends, i + 1);
+    let mut e = at(lends, i);
+    while e < end {
+        let j = at(lcols, e);
+        let start = start_of(work, y, w, s, i, j);
+        let sum = normal_sum(work, x, z, values, aends, aleft, aright, acols, e, start);
+        let reduced = less_products(work, lo, dends, dleft, dright, e, sum);
+        let v = finish(work, lo, ldiag, i, j, reduced);
+        put4(work, lo + e, v);
+        e += 1;
     }
 }

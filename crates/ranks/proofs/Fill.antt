@@ -1,6 +1,6 @@
--- The memory while the factor is filled: its first e entries are the machine's on the memory's own numbers, and nothing but the factor has changed. Assumes nothing.
+-- The memory while the factor is filled: its first e entries are the machine's on the memory's own numbers. Assumes nothing.
 use mathlib.Core.Path.{_≡_, refl, sym, ap, _∙_, subst}
-use mathlib.Core.Logic.{inl}
+use mathlib.Core.Logic.{inl, inr, ⊎-elim}
 use mathlib.Core.Bool.{true}
 use mathlib.Core.List.{List}
 use Prim.Native.Nat.{ℕ, suc, _+_, _*_, _<_, _≤_}
@@ -14,22 +14,39 @@ use Rattle.lists.specs.Lists.{Shape, shape, lplace, before, listOf}
 use Rattle.lists.specs.declared.Which.the-variants.{Lindptr, Lindices}
 use Rattle.lanes.specs.Lists.{at}
 use Rattle.lanes.specs.Lanes.{lanes, put, cell as here}
-use Rattle.lanes.specs.Region.{reg, Kept}
-use Rattle.lanes.proofs.Regions.{reg-at, kept-none, kept-put, kept-apart, cell-put-same, getD-put-other}
+use Rattle.lanes.specs.Region.{reg, Kept, Apart}
+use Rattle.lanes.proofs.Regions.{reg-at, other-cell, kept-none, kept-put, kept-apart, cell-put-same, getD-put-other}
 use Rattle.lanes.proofs.Quads.{lane-of}
-use Rattle.machine.specs.Machine.{State, inFactor, factorEntry, factor, cell}
+use Rattle.machine.specs.Machine.{Problem, State, inFactor, factorEntry, factor, cell}
 use Rattle.machine.specs.Work.{problemOf}
 use Rattle.ranks.specs.Factoring.{Given, Stands, Factored, stateOf, entries}
-use Rattle.ranks.proofs.Ranks.{lplace-lt}
+use Rattle.ranks.proofs.Ranks.{lplace-lt, lplace-down, lplace-start}
 use Rattle.ranks.proofs.Picks.{held-factor, held-stored}
 use Rattle.ranks.proofs.Turn.{entry-room}
-use Rattle.ranks.proofs.Loop.{number, number-at, turn, stands, stands-in, row-start, row-end, row-end-in}
+use Rattle.ranks.proofs.Loop.{turn, same-pair, stands, stands-in, row-start, row-end, row-end-in}
 
-pub record Filled (off cols : List ℕ) (vals : List Float) (m n s x z y w lo e : ℕ) (work : List Float) : Type 0 where
-  pub within : (l : ℕ) → l < 4 → (k : ℕ) → k < e → here 4 work (lo + k) l ≡ number m n s off cols vals x z y w work l k
+-- a part of a region
+pub kept-part : (o a b : ℕ) {n : ℕ} {old new : List Float} → Kept 4 (o + a) b old new → a + b ≤ n → Kept 4 o n old new
+kept-part o a b w h = record { size = w .size; outside = λ j p. w .outside j (⊎-elim (λ q. inl (omega arith)) (λ q. inr (omega arith)) p) }
 
-pub kept-trans : {K o n : ℕ} {a b c : List Float} → Kept K o n a b → Kept K o n b c → Kept K o n a c
-kept-trans p q = record { size = q .size ∙ p .size; outside = λ j h. q .outside j h ∙ p .outside j h }
+-- one more entry is put
+pub kept-more : (k : ℕ) (v : List Float) {o n : ℕ} {old new new′ : List Float} → Kept 4 o n old new → o ≤ k → k < o + n → new′ ≡ put 4 new k v → Kept 4 o n old new′
+kept-more k v w a b p = rw p (kept-put w k v a b)
+
+-- the same entries, and the same numbers
+pub filled-at : {A : Problem} {q : ℕ → State} {lo e e′ : ℕ} {work : List Float} → e ≡ e′ → Factored A q lo e′ work → Factored A q lo e work
+filled-at {A} {q} {lo} {e} {e′} {work} z f = subst (λ (k : ℕ). Factored A q lo k work) (sym z) f
+
+pub filled-same : {A : Problem} {p q : ℕ → State} {lo e : ℕ} {work : List Float} → ((l : ℕ) → l < 4 → p l ≡ q l) → Factored A p lo e work → Factored A q lo e work
+filled-same {A} h f = record { within = λ l i j b r c t u. f .within l i j b r c t u ∙ ap (λ (q : State). cell (factor A q) i j) (h l b) }
+
+-- a region elsewhere is written
+pub filled-still : {A : Problem} {q : ℕ → State} {lo e o k : ℕ} {old new : List Float} → Kept 4 o k old new → Apart lo e o k → Factored A q lo e old → Factored A q lo e new
+filled-still {A} {q} {lo} {e} {o} {k} {old} W a f = record {
+  within = λ l i j b r c t u.
+      let p = lplace (shape (A .off) (A .cols)) i j in
+      other-cell W a p u l b ∙ reg-at 4 old lo e l p u ∙ f .within l i j b r c t u;
+}
 
 module _ {off cols : List ℕ} {vals old : List Float} {m n s : ℕ} {aends aleft aright acols dends dleft dright lends ldiag lcols : List ℕ} {x z y w lo : ℕ}
     (G : Given off cols vals old m n s aends aleft aright acols dends dleft dright lends ldiag lcols x z y w lo) where
@@ -40,8 +57,8 @@ module _ {off cols : List ℕ} {vals old : List Float} {m n s : ℕ} {aends alef
   E = entries off cols m
 
   -- what is given of the memory is given of it later too
-  pub given-still : {new : List Float} → Kept 4 lo E old new → Given off cols vals new m n s aends aleft aright acols dends dleft dright lends ldiag lcols x z y w lo
-  given-still S = record {
+  pub given-still : (new : List Float) → length new ≡ length old → Given off cols vals new m n s aends aleft aright acols dends dleft dright lends ldiag lcols x z y w lo
+  given-still new k = record {
     ok = G .ok;
     values = G .values;
     slack = G .slack;
@@ -51,11 +68,11 @@ module _ {off cols : List ℕ} {vals old : List Float} {m n s : ℕ} {aends alef
       z-apart = G .regions .z-apart;
       y-apart = G .regions .y-apart;
       w-apart = G .regions .w-apart;
-      x-in = omega (arith, G .regions .x-in, S .size);
-      z-in = omega (arith, G .regions .z-in, S .size);
-      y-in = omega (arith, G .regions .y-in, S .size);
-      w-in = omega (arith, G .regions .w-in, S .size);
-      l-in = omega (arith, G .regions .l-in, S .size);
+      x-in = omega (arith, G .regions .x-in, k);
+      z-in = omega (arith, G .regions .z-in, k);
+      y-in = omega (arith, G .regions .y-in, k);
+      w-in = omega (arith, G .regions .w-in, k);
+      l-in = omega (arith, G .regions .l-in, k);
     };
   }
 
@@ -63,25 +80,40 @@ module _ {off cols : List ℕ} {vals old : List Float} {m n s : ℕ} {aends alef
   pub lends-room : {i : ℕ} → i < m → i + 1 < length lends
   lends-room {i} h = rw (G .lists .ends) (row-end-in off cols m i h)
 
-  pub lends-at : {i t : ℕ} → i < m → t ≡ getD lends (i + 1) 0 → t ≡ lplace g (suc i) 0
-  lends-at {i} {t} h q = q ∙ rw (G .lists .ends) (row-end off cols m i h)
+  pub lends-at : (i : ℕ) → i ≤ m → getD lends i 0 ≡ lplace g i 0
+  lends-at i h = rw (G .lists .ends) (row-start off cols m i h)
+
+  -- a row starts at its end or before, and ends within the factor
+  pub lends-up : {i : ℕ} → i < m → getD lends i 0 ≤ getD lends (i + 1) 0
+  lends-up {i} h = omega (arith, lends-at i (omega arith), lends-at (i + 1) (omega arith), lplace-down g i (i + 1) (omega arith))
+
+  pub lends-within : {i : ℕ} → i ≤ m → getD lends i 0 ≤ E
+  lends-within {i} h = omega (arith, lends-at i h, lplace-down g i m h)
+
+  next : {i : ℕ} → i < m → lplace g (suc i) 0 ≡ getD lends (i + 1) 0
+  next {i} h = rw (G .lists .ends) (sym (row-end off cols m i h))
 
   -- entry e of row i, before the row's end: its column is on the list, and stands there
-  pub lcols-next : {i e end : ℕ} → i < m → end ≡ getD lends (i + 1) 0 → lplace g i 0 ≤ e → e < end → e < length lcols
-  lcols-next {i} {e} h q a b = rw (G .lists .columns) (stands-in off cols m i h e a (omega (arith, lends-at h q)))
+  pub lcols-next : {i e : ℕ} → i < m → getD lends i 0 ≤ e → e < getD lends (i + 1) 0 → e < length lcols
+  lcols-next {i} {e} h a b = rw (G .lists .columns) (stands-in off cols m i h e (omega (arith, lends-at i (omega arith))) (omega (arith, next h)))
 
-  pub stands-next : {i j e end : ℕ} → i < m → end ≡ getD lends (i + 1) 0 → lplace g i 0 ≤ e → e < end → j ≡ getD lcols e 0 → Stands off cols m i j e
-  stands-next {i} {j} {e} h q a b c =
+  pub stands-next : {i j e : ℕ} → i < m → getD lends i 0 ≤ e → e < getD lends (i + 1) 0 → j ≡ getD lcols e 0 → Stands off cols m i j e
+  stands-next {i} {j} {e} h a b c =
       let d : j ≡ getD (listOf g Lindices m) e 0 = c ∙ ap (λ (t : List ℕ). getD t e 0) (G .lists .columns) in
-      subst (λ (t : ℕ). Stands off cols m i t e) (sym d) (stands off cols m i h e a (omega (arith, lends-at h q)))
+      subst (λ (t : ℕ). Stands off cols m i t e) (sym d) (stands off cols m i h e (omega (arith, lends-at i (omega arith))) (omega (arith, next h)))
 
   pub put-room : {i j e : ℕ} → Stands off cols m i j e → 4 * (lo + e) + 4 ≤ length old
   put-room {i} {j} {e} st = omega (arith, entry-room m n s off cols vals (G .ok) i j e st, G .regions .l-in)
 
-  -- ---- the loop
+  -- ---- the loop: the factor's first e entries are the machine's, on the memory's own numbers
+  abbrev A : Problem
+  A = problemOf m n s off cols vals
 
-  pub filled-none : {e : ℕ} → e ≡ 0 → Filled off cols vals m n s x z y w lo e old
-  filled-none z = record { within = λ l b k h. absurd (omega arith) }
+  abbrev Filled : ℕ → List Float → Type 0
+  Filled e work = Factored A (λ l. stateOf work x z y w m n s l) lo e work
+
+  pub filled-none : Filled (getD lends 0 0) old
+  filled-none = record { within = λ l i j b h c t u. absurd (omega (arith, lends-at 0 (omega arith), lplace-start g 0)) }
 
   -- what the factor is worked out of stays
   state-kept : {new : List Float} → Kept 4 lo E old new → (l : ℕ) → l < 4 → stateOf new x z y w m n s l ≡ stateOf old x z y w m n s l
@@ -89,51 +121,41 @@ module _ {off cols : List ℕ} {vals old : List Float} {m n s : ℕ} {aends alef
       rw (kept-apart W (G .regions .x-apart) l b, kept-apart W (G .regions .z-apart) l b, kept-apart W (G .regions .y-apart) l b, kept-apart W (G .regions .w-apart) l b)
       refl
 
-  number-kept : {new : List Float} → Kept 4 lo E old new → (l : ℕ) → l < 4 → (k : ℕ)
-      → number m n s off cols vals x z y w new l k ≡ number m n s off cols vals x z y w old l k
-  number-kept {new} W l b k = rw (state-kept W l b) refl
-
   -- THE TURN: entry e is put
-  pub filled-more : {i j e : ℕ} {v new : List Float} → Filled off cols vals m n s x z y w lo e old → Stands off cols m i j e
-      → v ≡ lanes (λ l. factorEntry (problemOf m n s off cols vals) (stateOf old x z y w m n s l) (λ a b. here 4 old (lo + lplace g a b) l) i j)
+  pub filled-more : {i j e : ℕ} {v new : List Float} → Filled e old → Stands off cols m i j e
+      → v ≡ lanes (λ l. factorEntry A (stateOf old x z y w m n s l) (λ a b. here 4 old (lo + lplace g a b) l) i j)
       → new ≡ put 4 old (lo + e) v
-      → Filled off cols vals m n s x z y w lo (e + 1) new × Kept 4 lo E old new
-  filled-more {i} {j} {e} {v} {new} f st ev en = (record { within = λ l b k h. entry l b k h (ℕ-discrete k e) ∙ sym (number-kept W l b k) }, W)
+      → Filled (e + 1) new
+  filled-more {i} {j} {e} {v} {new} f st ev en = record {
+    within = λ l a b c h d t u.
+        entry l c a b h d (sym (held-factor off cols a b d) ∙ (unfold inFactor in t)) t u (ℕ-discrete (lplace g a b) e)
+        ∙ ap (λ (q : State). cell (factor A q) a b) (sym (state-kept W l c));
+  }
     where
       W : Kept 4 lo E old new
       W = rw en (kept-put (kept-none 4 lo E old) (lo + e) v (omega arith) (omega (arith, entry-room m n s off cols vals (G .ok) i j e st)))
 
-      is : v ≡ lanes (λ l. number m n s off cols vals x z y w old l e)
-      is = turn m n s off cols vals x z y w old lo i j e st (f .within) v ev
+      is : v ≡ lanes (λ l. cell (factor A (stateOf old x z y w m n s l)) i j)
+      is = turn m n s off cols vals (λ l. stateOf old x z y w m n s l) old lo i j e st f v ev
 
-      entry : (l : ℕ) → l < 4 → (k : ℕ) → k < e + 1 → Dec (k ≡ e) → here 4 new (lo + k) l ≡ number m n s off cols vals x z y w old l k
-      entry l b k h (yes q) =
-          rw (q, en) (cell-put-same 4 old (lo + e) v (put-room st) l b ∙ lane-of (λ l. number m n s off cols vals x z y w old l e) is l b)
-      entry l b k h (no q) =
-          rw en (getD-put-other 4 old (lo + e) v (4 * (lo + k) + l) (inl (omega arith)) ∙ f .within l b k (omega arith))
-
-  -- THE END: all entries are put
-  pub filled-all : {e : ℕ} {new : List Float} → Filled off cols vals m n s x z y w lo e new → e ≡ E → Kept 4 lo E old new
-      → Factored (problemOf m n s off cols vals) (λ l. stateOf old x z y w m n s l) lo old new
-  filled-all {e} {new} f q W = record {
-    kept = W;
-    within = λ l i j b h c t.
-        let u : g .held i j ≡ true = sym (held-factor off cols i j c) ∙ (unfold inFactor in t) in
-        f .within l b (lplace g i j) (omega (arith, lplace-lt g i j m h c u))
-        ∙ number-kept W l b (lplace g i j)
-        ∙ number-at m n s off cols vals x z y w old l i j h c u;
-  }
+      entry : (l : ℕ) → l < 4 → (a b : ℕ) → a < m → b ≤ a → g .held a b ≡ true → inFactor A a b ≡ true → lplace g a b < e + 1 → Dec (lplace g a b ≡ e)
+          → here 4 new (lo + lplace g a b) l ≡ cell (factor A (stateOf old x z y w m n s l)) a b
+      entry l c a b h d k t u (yes r) =
+          let p = same-pair g m a b i j h d k (st .row) (st .low) (st .held) (r ∙ st .at) in
+          rw (r, en, p .0, p .1) (cell-put-same 4 old (lo + e) v (put-room st) l c ∙ lane-of (λ l. cell (factor A (stateOf old x z y w m n s l)) i j) is l c)
+      entry l c a b h d k t u (no r) =
+          rw en (getD-put-other 4 old (lo + e) v (4 * (lo + lplace g a b) + l) (inl (omega arith)) ∙ f .within l a b c h d t (omega arith))
 
 -- ---- what the factor's region holds, by the plan's rows: place k of row i is the entry of the column that the list names there
-pub factor-held : {off cols : List ℕ} {vals old new : List Float} {m n s lo : ℕ} {q : ℕ → State} → Factored (problemOf m n s off cols vals) q lo old new
+pub factor-held : {off cols : List ℕ} {vals work : List Float} {m n s lo : ℕ} {q : ℕ → State} → Factored (problemOf m n s off cols vals) q lo (entries off cols m) work
     → (l : ℕ) → l < 4 → (i : ℕ) → i < m → (k : ℕ)
     → getD (listOf (shape off cols) Lindptr m) i 0 ≤ k
     → k < getD (listOf (shape off cols) Lindptr m) (i + 1) 0
-    → at (reg 4 new lo (entries off cols m) l) k ≡ cell (factor (problemOf m n s off cols vals) (q l)) i (getD (listOf (shape off cols) Lindices m) k 0)
-factor-held {off} {cols} {vals} {old} {new} {m} {n} {s} {lo} {q} F l b i h k from to =
-    reg-at 4 new lo (entries off cols m) l k (omega (arith, st .at, lplace-lt g i j m h (st .low) (st .held)))
-    ∙ ap (λ (e : ℕ). here 4 new (lo + e) l) (st .at)
-    ∙ F .within l i j b h (st .low) (unfold inFactor in held-factor off cols i j (st .low) ∙ st .held)
+    → at (reg 4 work lo (entries off cols m) l) k ≡ cell (factor (problemOf m n s off cols vals) (q l)) i (getD (listOf (shape off cols) Lindices m) k 0)
+factor-held {off} {cols} {vals} {work} {m} {n} {s} {lo} {q} F l b i h k from to =
+    reg-at 4 work lo (entries off cols m) l k (omega (arith, st .at, below))
+    ∙ ap (λ (e : ℕ). here 4 work (lo + e) l) (st .at)
+    ∙ F .within l i j b h (st .low) (unfold inFactor in held-factor off cols i j (st .low) ∙ st .held) below
   where
     g : Shape
     g = shape off cols
@@ -142,7 +164,10 @@ factor-held {off} {cols} {vals} {old} {new} {m} {n} {s} {lo} {q} F l b i h k fro
     j = getD (listOf (shape off cols) Lindices m) k 0
 
     st : Stands off cols m i j k
-    st = stands off cols m i h k (subst (λ (a : ℕ). a ≤ k) (row-start off cols m i h) from) (subst (λ (a : ℕ). k < a) (row-end off cols m i h) to)
+    st = stands off cols m i h k (subst (λ (a : ℕ). a ≤ k) (row-start off cols m i (omega arith)) from) (subst (λ (a : ℕ). k < a) (row-end off cols m i h) to)
+
+    below : lplace g i j < entries off cols m
+    below = lplace-lt g i j m h (st .low) (st .held)
 
 -- the factor has E entries
 pub entries-count : (off cols : List ℕ) (m : ℕ) → entries off cols m ≡ countE off cols m

@@ -1,5 +1,5 @@
 -- The entries in their order: which entry is which, and how an entry follows from those before it. Assumes nothing.
-use mathlib.Core.Path.{_≡_, sym, ap, ap₂, _∙_, subst}
+use mathlib.Core.Path.{_≡_, sym, ap, _∙_, subst}
 use mathlib.Core.Logic.{inl, inr}
 use mathlib.Core.Bool.{true}
 use mathlib.Core.List.{List}
@@ -12,16 +12,16 @@ use Rattle.lists.specs.Lists.{Shape, shape, lplace, piece, listOf}
 use Rattle.lists.specs.declared.Which.the-variants.{Lindptr, Lindices}
 use Rattle.lanes.specs.Lanes.{lanes, cell as here}
 use Rattle.lanes.proofs.Quads.{lanes-ext}
-use Rattle.machine.specs.Machine.{Problem, inFactor, factorEntry, factor, cell}
+use Rattle.machine.specs.Machine.{Problem, State, inFactor, factorEntry, factor, cell}
 use Rattle.machine.specs.Work.{problemOf}
 use Rattle.machine.proofs.Factor.{entry-same, factor-is, Before}
-use Rattle.ranks.specs.Factoring.{Stands, stateOf}
+use Rattle.ranks.specs.Factoring.{Stands, Factored}
 use Rattle.ranks.proofs.Ranks.{ranked, ranked-in, lplace-lt, lplace-lt-row, lplace-along, lplace-start, byEntry, by-row-at, by-row-in, entry-of}
 use Rattle.ranks.proofs.Picks.{held-factor}
 
 -- ---- which entry is which
 
-pub row-start : (off cols : List ℕ) (m i : ℕ) → i < m → getD (listOf (shape off cols) Lindptr m) i 0 ≡ lplace (shape off cols) i 0
+pub row-start : (off cols : List ℕ) (m i : ℕ) → i ≤ m → getD (listOf (shape off cols) Lindptr m) i 0 ≡ lplace (shape off cols) i 0
 unfolding listOf piece
 row-start off cols m zero h = sym (lplace-start (shape off cols) m)
 row-start off cols m (suc i) h = by-row-at m (λ a. lplace (shape off cols) (suc a) 0) i (omega arith)
@@ -50,50 +50,39 @@ module _ (off cols : List ℕ) (m i : ℕ) (h : i < m) where
   unfolding listOf piece
   stands-in e a b = let q = entry-of g i e a b in omega (arith, q .at, ranked-in g m (λ a b. b) i (q .j) h (q .low) (q .held))
 
--- ---- the machine's numbers by entry
-module _ (m n s : ℕ) (off cols : List ℕ) (vals : List Float) (x z y w : ℕ) where
+-- two stored pairs at one place are one pair
+pub same-pair : (g : Shape) (m a b i j : ℕ) → a < m → b ≤ a → g .held a b ≡ true → i < m → j ≤ i → g .held i j ≡ true → lplace g a b ≡ lplace g i j
+    → (a ≡ i) × (b ≡ j)
+same-pair g m a b i j h c t h′ c′ t′ e = (along (λ p q. p), along (λ p q. q))
+  where
+    along : (v : ℕ → ℕ → ℕ) → v a b ≡ v i j
+    along v = sym (ranked g m v a b h c t) ∙ ap (λ (k : ℕ). getD (byEntry g m v) k 0) e ∙ ranked g m v i j h′ c′ t′
+
+-- ---- THE TURN: an entry that is worked out of a memory where those before it are the machine's is the machine's
+module _ (m n s : ℕ) (off cols : List ℕ) (vals : List Float) (q : ℕ → State) (work : List Float) (lo i j e : ℕ) (st : Stands off cols m i j e)
+    (F : Factored (problemOf m n s off cols vals) q lo e work) where
   abbrev h : Shape
   h = shape off cols
 
   abbrev A : Problem
   A = problemOf m n s off cols vals
 
-  -- the machine's number at entry e, on the numbers of the memory `work`
-  abbrev pub number : List Float → ℕ → ℕ → Float
-  number work l e = cell (factor A (stateOf work x z y w m n s l)) (getD (byEntry h m (λ a b. a)) e 0) (getD (byEntry h m (λ a b. b)) e 0)
+  earlier : (l a b : ℕ) → b ≤ a → h .held a b ≡ true → Before A (q l) i j a b → (a < m) × (lplace h a b < e)
+  earlier l a b c t (inl u) = (omega (arith, st .row), omega (arith, lplace-lt h a b i u c t, lplace-along h i 0 j (omega arith), st .at))
+  earlier l a b c t (inr u) =
+      let k : h .held i b ≡ true = subst (λ (r : ℕ). h .held r b ≡ true) (u .0) t in
+      (omega (arith, u .0, st .row), omega (arith, ap (λ (r : ℕ). lplace h r b) (u .0), lplace-lt-row h i b j (u .1) k, st .at))
 
-  pub number-at : (work : List Float) (l i j : ℕ) → i < m → j ≤ i → h .held i j ≡ true → number work l (lplace h i j) ≡ cell (factor A (stateOf work x z y w m n s l)) i j
-  number-at work l i j b c t =
-      ap₂ (λ (a c : ℕ). cell (factor A (stateOf work x z y w m n s l)) a c) (ranked h m (λ a c. a) i j b c t) (ranked h m (λ a c. c) i j b c t)
+  there : (l : ℕ) → l < 4 → (a b : ℕ) → b ≤ a → inFactor A a b ≡ true → Before A (q l) i j a b → here 4 work (lo + lplace h a b) l ≡ cell (factor A (q l)) a b
+  there l c a b d t u =
+      let k : h .held a b ≡ true = sym (held-factor off cols a b d) ∙ (unfold inFactor in t) in
+      let p = earlier l a b d k u in
+      F .within l a b c (p .0) d t (p .1)
 
-  -- THE TURN: an entry that is worked out of a memory where those before it are the machine's is the machine's
-  module _ (work : List Float) (lo i j e : ℕ) (st : Stands off cols m i j e) (F : (l : ℕ) → l < 4 → (k : ℕ) → k < e → here 4 work (lo + k) l ≡ number work l k) where
-    earlier : (l a b : ℕ) → b ≤ a → h .held a b ≡ true → Before A (stateOf work x z y w m n s l) i j a b → (a < m) × (lplace h a b < e)
-    earlier l a b c t (inl u) = (omega (arith, st .row), omega (arith, lplace-lt h a b i u c t, lplace-along h i 0 j (omega arith), st .at))
-    earlier l a b c t (inr u) =
-        let k : h .held i b ≡ true = subst (λ (r : ℕ). h .held r b ≡ true) (u .0) t in
-        (omega (arith, u .0, st .row), omega (arith, ap (λ (r : ℕ). lplace h r b) (u .0), lplace-lt-row h i b j (u .1) k, st .at))
-
-    there : (l : ℕ) → l < 4 → (a b : ℕ) → b ≤ a → inFactor A a b ≡ true → Before A (stateOf work x z y w m n s l) i j a b
-        → here 4 work (lo + lplace h a b) l ≡ cell (factor A (stateOf work x z y w m n s l)) a b
-    unfolding inFactor
-    there l c a b d t u =
-        let k : h .held a b ≡ true = sym (held-factor off cols a b d) ∙ t in
-        let p = earlier l a b d k u in
-        F l c (lplace h a b) (p .1) ∙ number-at work l a b (p .0) d k
-
-    inside : inFactor A i j ≡ true
-    unfolding inFactor
-    inside = held-factor off cols i j (st .low) ∙ st .held
-
-    pub turn : (v : List Float)
-        → v ≡ lanes (λ l. factorEntry A (stateOf work x z y w m n s l) (λ a b. here 4 work (lo + lplace h a b) l) i j)
-        → v ≡ lanes (λ l. number work l e)
-    turn v q =
-        q
-        ∙ lanes-ext (λ l. factorEntry A (stateOf work x z y w m n s l) (λ a b. here 4 work (lo + lplace h a b) l) i j) (λ l. number work l e)
-        (λ l c.
-        entry-same A (stateOf work x z y w m n s l) (λ a b. here 4 work (lo + lplace h a b) l) (cell (factor A (stateOf work x z y w m n s l))) i j (st .low) (there l c)
-        ∙ sym (factor-is A (stateOf work x z y w m n s l) i j (st .row) (st .low) inside)
-        ∙ sym (number-at work l i j (st .row) (st .low) (st .held))
-        ∙ ap (number work l) (sym (st .at)))
+  pub turn : (v : List Float) → v ≡ lanes (λ l. factorEntry A (q l) (λ a b. here 4 work (lo + lplace h a b) l) i j) → v ≡ lanes (λ l. cell (factor A (q l)) i j)
+  turn v z =
+      z
+      ∙ lanes-ext (λ l. factorEntry A (q l) (λ a b. here 4 work (lo + lplace h a b) l) i j) (λ l. cell (factor A (q l)) i j)
+      (λ l c.
+      entry-same A (q l) (λ a b. here 4 work (lo + lplace h a b) l) (cell (factor A (q l))) i j (st .low) (there l c)
+      ∙ sym (factor-is A (q l) i j (st .row) (st .low) (unfold inFactor in held-factor off cols i j (st .low) ∙ st .held)))

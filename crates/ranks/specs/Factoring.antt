@@ -10,7 +10,7 @@ use Rattle.lists.specs.Ready.{Accepted}
 use Rattle.lists.specs.declared.Which.the-variants.{AnormIndptr, AnormIndptrI, AnormIndptrJ, AnormIndices, LdecompIndptr, LdecompIndptrI, LdecompIndptrJ, Lindptr, LdiagIndptr, Lindices}
 use Rattle.lanes.specs.Lists.{at, fold}
 use Rattle.lanes.specs.Lanes.{cell as here}
-use Rattle.lanes.specs.Region.{reg, Kept, Apart}
+use Rattle.lanes.specs.Region.{reg, Apart}
 use Rattle.lanes.specs.Arithmetic.{_⊕_, _⊖_, _⊗_, _⊘_}
 use Rattle.machine.specs.Machine.{Problem, State, inFactor, cell, factor}
 
@@ -98,8 +98,7 @@ pub record Stands (off cols : List ℕ) (m i j e : ℕ) : Type 0 where
   pub held : (shape off cols) .held i j ≡ true
   pub at : e ≡ lplace (shape off cols) i j
 
--- ---- THE PROMISE: in every lane each entry (i, j) of the factor is the machine's, at its place, and nothing but the factor's region has changed
-pub record Factored (A : Problem) (q : ℕ → State) (lo : ℕ) (old new : List Float) : Type 0 where
-  pub kept : Kept 4 lo (entries (A .off) (A .cols) (A .m)) old new
-  pub within : (l i j : ℕ) → l < 4 → i < A .m → j ≤ i → inFactor A i j ≡ true
-      → here 4 new (lo + lplace (shape (A .off) (A .cols)) i j) l ≡ cell (factor A (q l)) i j
+-- ---- THE PROMISE: in every lane each of the factor's first e entries, (i, j), is the machine's, at its place
+pub record Factored (A : Problem) (q : ℕ → State) (lo e : ℕ) (work : List Float) : Type 0 where
+  pub within : (l i j : ℕ) → l < 4 → i < A .m → j ≤ i → inFactor A i j ≡ true → lplace (shape (A .off) (A .cols)) i j < e
+      → here 4 work (lo + lplace (shape (A .off) (A .cols)) i j) l ≡ cell (factor A (q l)) i j

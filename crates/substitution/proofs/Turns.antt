@@ -1,4 +1,4 @@
--- What the loops of the two substitutions keep, and a turn of each. Assumes nothing.
+-- An entry of each substitution; what the loop of the backward one keeps, and a turn of it. Assumes nothing.
 use mathlib.Core.Path.{_≡_, refl, sym, ap, _∙_}
 use mathlib.Core.List.{List}
 use Prim.Native.Nat.{ℕ, suc, _+_, _-_, _*_, _≤_, _<_}
@@ -6,13 +6,12 @@ use native.Mathlib.Omega.{arith}
 use lib.ListN.{length, getD, drop, set, length-drop}
 use lib.Seq.{getD-take, getD-drop, length-take-le}
 use lib.Ieee.{Float, binary64, div}
-use Rattle.lanes.specs.Lists.{at, grow}
+use Rattle.lanes.specs.Lists.{at}
 use Rattle.lanes.specs.Lanes.{lanes, each2, quad, put}
 use Rattle.lanes.specs.Region.{reg, Kept, Fills, Apart}
-use Rattle.lanes.proofs.Regions.{reg-put, grown, kept-apart, kept-put, apart-front, kept-none}
-use Rattle.lanes.proofs.Quads.{lanes-ext, lane-of, reg-quad}
-use Rattle.lanes.specs.Region.{Grows}
-use Rattle.sparse.specs.Sparse.{cut, lessEach, frontAt, front, backAt, back}
+use Rattle.lanes.proofs.Regions.{reg-put, kept-apart, kept-put, kept-none}
+use Rattle.lanes.proofs.Quads.{lane-of, reg-quad}
+use Rattle.sparse.specs.Sparse.{cut, lessEach, frontAt, backAt, back}
 
 -- ---- parts of lists
 
@@ -32,22 +31,6 @@ pub front-value : (ptr ind : List ℕ) (work : List Float) (f d l m count i : �
 unfolding frontAt
 front-value ptr ind work f d l m count i h g eb ev ep er =
     rw (er, ev, eb ∙ reg-quad work f m i h, ep ∙ reg-quad work l count (getD ptr (i + 1) 0 - 1) g)
-
-pub front-turn : (ptr ind : List ℕ) {old new v : List Float} (f l count : ℕ) {d m i : ℕ}
-    → Grows 4 d i (λ t. frontAt ptr ind (reg 4 old l count t) (reg 4 old f m t)) old new → Apart f m d m → Apart l count d m → i < m
-    → v ≡ lanes (λ t. frontAt ptr ind (reg 4 new l count t) (reg 4 new f m t) (reg 4 new d i t) i)
-    → v ≡ lanes (λ t. frontAt ptr ind (reg 4 old l count t) (reg 4 old f m t) (grow i (frontAt ptr ind (reg 4 old l count t) (reg 4 old f m t))) i)
-front-turn ptr ind {old} {new} {v} f l count {d} {m} {i} w a b h e =
-    e
-    ∙ lanes-ext (λ t. frontAt ptr ind (reg 4 new l count t) (reg 4 new f m t) (reg 4 new d i t) i)
-    (λ t. frontAt ptr ind (reg 4 old l count t) (reg 4 old f m t) (grow i (frontAt ptr ind (reg 4 old l count t) (reg 4 old f m t))) i)
-    (λ t z. rw (kept-apart (w .kept) (apart-front b (omega arith)) t z, kept-apart (w .kept) (apart-front a (omega arith)) t z, w .within t z))
-
-pub front-end : (ptr ind : List ℕ) {old new : List Float} (f l count : ℕ) {d m i : ℕ}
-    → Grows 4 d i (λ t. frontAt ptr ind (reg 4 old l count t) (reg 4 old f m t)) old new → i ≡ m
-    → Fills 4 d m (λ t. front ptr ind m (reg 4 old l count t) (reg 4 old f m t)) old new
-unfolding front
-front-end ptr ind f l count w e = grown w e
 
 -- ---- backward
 
@@ -110,15 +93,3 @@ falls-end {ptr} {tptr} {tind} {tmap} {d} {l} {m} {count} {old} {new} {i} w h =
           sym (ap (λ (k : ℕ). back ptr tptr tind tmap (reg 4 old l count t) k (reg 4 new d m t)) e ∙ back-none ptr tptr tind tmap (reg 4 old l count t) (reg 4 new d m t))
           ∙ w .reduced t z;
     }
-
--- ---- both
-
-both-kept : {d m : ℕ} {a b c : List Float} → Kept 4 d m a b → Kept 4 d m b c → Kept 4 d m a c
-both-kept u w = record { size = w .size ∙ u .size; outside = λ j h. w .outside j h ∙ u .outside j h }
-
-pub solve-end : (ptr ind tptr tind tmap : List ℕ) (f : ℕ) {d l m count : ℕ} {a b c : List Float} → Apart l count d m
-    → Fills 4 d m (λ t. front ptr ind m (reg 4 a l count t) (reg 4 a f m t)) a b
-    → Fills 4 d m (λ t. back ptr tptr tind tmap (reg 4 b l count t) m (reg 4 b d m t)) b c
-    → Fills 4 d m (λ t. back ptr tptr tind tmap (reg 4 a l count t) m (front ptr ind m (reg 4 a l count t) (reg 4 a f m t))) a c
-solve-end ptr ind tptr tind tmap f {d} {l} {m} {count} {a} {b} {c} p u w =
-    record { kept = both-kept (u .kept) (w .kept); within = λ t z. w .within t z ∙ rw (kept-apart (u .kept) p t z, u .within t z) }

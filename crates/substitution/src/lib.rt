@@ -1,17 +1,18 @@
-// Forward and backward substitution in four lanes, by the plan's lists of the factor.
+// The substitutions in four lanes, by the plan's lists of the factor: an entry of the forward one, and the backward one.
 ghost use mathlib.Core.Path.{_≡_};
 ghost use Prim.Native.Nat.{ℕ, _+_, _<_, _≤_, _*_};
 ghost use lib.ListN.{length, getD};
 ghost use Rattle.lanes.specs.Lanes.{lanes};
 ghost use Rattle.lanes.specs.Region.{reg, Fills, Apart};
-ghost use Rattle.sparse.specs.Sparse.{frontAt, front, backAt, back, Low, High};
+ghost use Rattle.sparse.specs.Sparse.{frontAt, backAt, back, Low, High};
 use lanes::div4;
 use lanes::get4;
 use lanes::put4;
 use sparse::less_back;
 use sparse::less_front;
 
-fn front_entry(
+// Entry i of the forward substitution, of the entries before it in the region at d.
+pub fn front_entry(
     ptr: &[u32],
     ind: &[u32],
     work: &[f64],
@@ -33,29 +34,6 @@ fn front_entry(
     let v = less_front(&ind[a..g], work, d, i, l, count, a, b);
     let p = get4(work, l + g);
     div4(v, p)
-}
-
-pub fn forward(
-    ptr: &[u32],
-    ind: &[u32],
-    work: &mut [f64],
-    f: usize,
-    d: usize,
-    l: usize,
-    m: usize,
-    count: usize,
-)
-    requires { ⌜ Low m (now ptr) (now ind) × (length (now ind) ≡ count) ⌝ }
-    requires { ⌜ Apart f m d m × Apart l count d m ⌝ }
-    requires { ⌜ (4 * (f + m) ≤ length (now work)) × (4 * (d + m) ≤ length (now work)) × (4 * (l + count) ≤ length (now work)) ⌝ }
-    ensures { λ _. ⌜ Fills 4 d m (λ t. front (now (ptr .entry)) (now (ind .entry)) m (reg 4 (now (work .entry)) l count t) (reg 4 (now (work .entry)) f m t)) (now (work .entry)) (now (work .exit)) ⌝ }
-{
-    let mut i = 0;
-    while i < m {
-        let v = front_entry(ptr, ind, work, f, d, l, m, count, i);
-        put4(work, d + i, v);
-        i += 1;
-    }
 }
 
 fn back_entry(
@@ -84,6 +62,7 @@ fn back_entry(
     div4(v, p)
 }
 
+// The backward substitution, in place.
 pub fn backward(
     ptr: &[u32],
     tptr: &[u32],
@@ -107,27 +86,4 @@ pub fn backward(
         let v = back_entry(ptr, tptr, tind, tmap, work, d, l, m, count, i);
         put4(work, d + i, v);
     }
-}
-
-// Solve for dy: forward into the region at d from the one at f, then backward in place.
-pub fn cholesky_solve(
-    ptr: &[u32],
-    ind: &[u32],
-    tptr: &[u32],
-    tind: &[u32],
-    tmap: &[u32],
-    work: &mut [f64],
-    f: usize,
-    d: usize,
-    l: usize,
-    m: usize,
-    count: usize,
-)
-    requires { ⌜ Low m (now ptr) (now ind) × (length (now ind) ≡ count) × High m count (now tptr) (now tind) (now tmap) ⌝ }
-    requires { ⌜ Apart f m d m × Apart l count d m ⌝ }
-    requires { ⌜ (4 * (f + m) ≤ length (now work)) × (4 * (d + m) ≤ length (now work)) × (4 * (l + count) ≤ length (now work)) ⌝ }
-    ensures { λ _. ⌜ Fills 4 d m (λ t. back (now (ptr .entry)) (now (tptr .entry)) (now (tind .entry)) (now (tmap .entry)) (reg 4 (now (work .entry)) l count t) m (front (now (ptr .entry)) (now (ind .entry)) m (reg 4 (now (work .entry)) l count t) (reg 4 (now (work .entry)) f m t))) (now (work .entry)) (now (work .exit)) ⌝ }
-{
-    forward(ptr, ind, work, f, d, l, m, count);
-    backward(ptr, tptr, tind, tmap, work, d, l, m, count);
 }
