@@ -5,11 +5,11 @@ use Prim.Native.Nat.{ℕ, _+_, _≤_, _<_}
 use lib.ListN.{length, getD}
 use lib.Ieee.{Float}
 use Rattle.lanes.specs.Lists.{at}
-use Rattle.lanes.specs.Region.{reg, Kept}
+use Rattle.lanes.specs.Region.{reg}
 use Rattle.machine.specs.Machine.{State, cell, factor}
 use Rattle.machine.specs.Work.{problemOf}
 use Rattle.ranks.specs.Factoring.{Factored, entries}
-use Rattle.ranks.proofs.Fill.{factor-held}
+use Rattle.ranks.proofs.Fill.{factor-held, filled-at}
 use Rattle.links.specs.Planned.{Holds}
 use Rattle.links.specs.Prepared.{Prepared}
 use Rattle.links.proofs.Follows.{entries-for, entries-count}
@@ -19,14 +19,11 @@ module _ {off cols : List ℕ} {vals : List Float} {m n s : ℕ} {ap ai aj ae dp
   pub count-for : length li ≡ entries off cols m
   count-for = entries-for P ∙ sym (entries-count off cols m)
 
-  module _ {old new : List Float} {q : ℕ → State} {lo : ℕ} (F : Factored (problemOf m n s off cols vals) q lo old new) where
-    pub kept-for : Kept 4 lo (length li) old new
-    kept-for = subst (λ (k : ℕ). Kept 4 lo k old new) (sym count-for) (F .kept)
-
-    pub held-for : (t : ℕ) → t < 4 → Holds (problemOf m n s off cols vals) lp li (reg 4 new lo (length li) t) (cell (factor (problemOf m n s off cols vals) (q t)))
-    held-for t b = record {
-      reads = λ i h k from to.
-          along (λ (e : ℕ). at (reg 4 new lo e t) k) count-for
-          ∙ factor-held F t b i h k (subst (λ (l : List ℕ). getD l i 0 ≤ k) (P .ends) from) (subst (λ (l : List ℕ). k < getD l (i + 1) 0) (P .ends) to)
-          ∙ along (λ (l : List ℕ). cell (factor (problemOf m n s off cols vals) (q t)) i (getD l k 0)) (sym (P .columns));
-    }
+  pub held-for : {work : List Float} {q : ℕ → State} {lo : ℕ} → Factored (problemOf m n s off cols vals) q lo (length li) work
+      → (t : ℕ) → t < 4 → Holds (problemOf m n s off cols vals) lp li (reg 4 work lo (length li) t) (cell (factor (problemOf m n s off cols vals) (q t)))
+  held-for {work} {q} {lo} F t b = record {
+    reads = λ i h k from to.
+        along (λ (e : ℕ). at (reg 4 work lo e t) k) count-for
+        ∙ factor-held (filled-at (sym count-for) F) t b i h k (subst (λ (l : List ℕ). getD l i 0 ≤ k) (P .ends) from) (subst (λ (l : List ℕ). k < getD l (i + 1) 0) (P .ends) to)
+        ∙ along (λ (l : List ℕ). cell (factor (problemOf m n s off cols vals) (q t)) i (getD l k 0)) (sym (P .columns));
+  }

@@ -20,6 +20,8 @@ use Rattle.machine.specs.Work.{stepBy}
 use Rattle.machine.proofs.Factor.{fold-same}
 use Rattle.sparse.specs.Sparse.{front, back}
 use Rattle.kernels.specs.Kernels.{FillsThree, costAt, uAt, dxAt, fAt}
+use Rattle.eliminate.specs.Elimination.{KeptTwo, Eliminated}
+use Rattle.eliminate.proofs.Rows.{two-apart}
 use Rattle.links.specs.Planned.{RowsOf, ColsOf, LowOf, HighOf, Holds}
 use Rattle.tests.specs.Layout.{yAt, dyAt, rhsAt, wAt, dwAt, lAt}
 use Rattle.tests.proofs.ToMachine.{row-plus, col-plus, front-machine, back-machine}
@@ -97,23 +99,25 @@ module _ (A : Problem) where
   still-wider P h = record { frame = untouched-wider (P .frame) h; kept = P .kept }
 
   -- ---- the factor and the substitutions: the numbers stay, and what dx needs
-  factor-still : {E : ℕ} {a b : List Float} → Kept 4 (lAt n m s) E a b → Still A (lAt n m s + E) a b
-  factor-still {E} K = nums-kept (lAt n m s + E) K (omega arith) (before (omega arith)) (before (omega arith)) (before (omega arith)) (before (omega arith))
+  solve-still : {E : ℕ} {a b : List Float} → KeptTwo (lAt n m s) E (dyAt n m) m a b → Still A (lAt n m s + E) a b
+  solve-still {E} K = record {
+    frame = record { size = K .size; beyond = λ j h. K .outside j (inr (omega arith)) (inr (omega arith)) };
+    kept = λ t b i. record {
+      x = two-apart K {r = 0} {e = n} (before (omega arith)) (before (omega arith)) t b i;
+      z = two-apart K {r = n} {e = n} (before (omega arith)) (before (omega arith)) t b i;
+      y = two-apart K {r = yAt n} {e = m} (before (omega arith)) (before (omega arith)) t b i;
+      w = two-apart K {r = wAt n m} {e = s} (before (omega arith)) (after (omega arith)) t b i;
+    };
+  }
 
-  solve-still : (E : ℕ) {a b : List Float} → Kept 4 (dyAt n m) m a b → Still A (lAt n m s + E) a b
-  solve-still E K = nums-kept (lAt n m s + E) K (omega arith) (before (omega arith)) (before (omega arith)) (before (omega arith)) (after (omega arith))
-
-  pub readied : (d : ℕ → LaneData) (mu : List Float) {E : ℕ} {w1 w2 w3 : List Float} → Ready A d mu w1 → Kept 4 (lAt n m s) E w1 w2 → Kept 4 (dyAt n m) m w2 w3 → Ready A d mu w3
-  readied d mu {E} {w1} {w2} {w3} R K S = record {
-    costs = λ t b. region (2 * n) (omega arith) t b ∙ R .costs t b ∙ ap (reducedCosts A (d t)) (sym (stays t b));
-    quotients = λ t b. region (3 * n) (omega arith) t b ∙ R .quotients t b ∙ ap (muOverX A (at mu t)) (sym (stays t b));
+  pub readied : (d : ℕ → LaneData) (mu : List Float) {E : ℕ} {a b : List Float} → Ready A d mu a → KeptTwo (lAt n m s) E (dyAt n m) m a b → Ready A d mu b
+  readied d mu {E} {a} {b} R K = record {
+    costs = λ t h. region (2 * n) (omega arith) t h ∙ R .costs t h ∙ ap (reducedCosts A (d t)) (sym (solve-still K .kept t h));
+    quotients = λ t h. region (3 * n) (omega arith) t h ∙ R .quotients t h ∙ ap (muOverX A (at mu t)) (sym (solve-still K .kept t h));
   }
     where
-      region : (o : ℕ) → o + n ≤ 4 * n → (t : ℕ) → t < 4 → reg 4 w3 o n t ≡ reg 4 w1 o n t
-      region o h t b = same o n S (before (omega arith)) t b ∙ same o n K (before (omega arith)) t b
-
-      stays : (t : ℕ) → t < 4 → numbersIn A w3 t ≡ numbersIn A w1 t
-      stays t b = still-on (factor-still K) (solve-still E S) .kept t b
+      region : (o : ℕ) → o + n ≤ 4 * n → (t : ℕ) → t < 4 → reg 4 b o n t ≡ reg 4 a o n t
+      region o l t h = two-apart K {r = o} {e = n} (before (omega arith)) (before (omega arith)) t h
 
   module _ (H : Settings) (d : ℕ → LaneData) (mu : List Float) where
     -- ---- the right-hand side: u, then f
@@ -213,40 +217,33 @@ module _ (A : Problem) where
 
     -- ---- the step worked out: the right-hand side, the factor, the two substitutions, the changes
     module _ (ptr ind tptr tind tmap : List ℕ) (E : ℕ) (P : LowOf A ptr ind) (T : HighOf A ptr ind tptr tind tmap) where
-      pub directed : {w0 w1 w2 w3 w4 r : List Float}
+      pub directed : {w0 w1 w2 w3 r : List Float}
           → RightSide A H d mu w0 w1
-          → Kept 4 (lAt n m s) E w1 w2
+          → Eliminated A (numbersIn A w1) (lAt n m s) E (dyAt n m) (λ t. back ptr tptr tind tmap (reg 4 w2 (lAt n m s) E t) m (front ptr ind m (reg 4 w2 (lAt n m s) E t) (reg 4 w1 (rhsAt n m) m t))) w1 w2
           → ((t : ℕ) → t < 4 → Holds A ptr ind (reg 4 w2 (lAt n m s) E t) (cell (factor A (numbersIn A w1 t))))
-          → Fills 4 (dyAt n m) m (λ t. back ptr tptr tind tmap (reg 4 w2 (lAt n m s) E t) m (front ptr ind m (reg 4 w2 (lAt n m s) E t) (reg 4 w2 (rhsAt n m) m t))) w2 w3
-          → Changed A H d mu w3 w4 r
-          → Directed A H d (lAt n m s + E) mu w0 w4 r
-      directed {w0} {w1} {w2} {w3} {w4} {r} F K L S X = record {
-        still = still-on (still-on (still-on (still-wider (F .still) (omega arith)) s2) s3) (still-wider (X .still) (omega arith));
+          → Changed A H d mu w2 w3 r
+          → Directed A H d (lAt n m s + E) mu w0 w3 r
+      directed {w0} {w1} {w2} {w3} {r} F S L X = record {
+        still = still-on (still-on (still-wider (F .still) (omega arith)) s2) (still-wider (X .still) (omega arith));
         worked = λ t b. X .worked t b ∙ along t b;
         largest = X .largest;
       }
         where
           s2 : Still A (lAt n m s + E) w1 w2
-          s2 = factor-still K
+          s2 = solve-still (S .kept)
 
-          s3 : Still A (lAt n m s + E) w2 w3
-          s3 = solve-still E (S .kept)
-
-          f : (t : ℕ) → t < 4 → reg 4 w2 (rhsAt n m) m t ≡ fOf A H (d t) (numbersIn A w0 t) (at mu t)
-          f t b = same (rhsAt n m) m K (before (omega arith)) t b ∙ F .rhs t b
-
-          dy : (t : ℕ) → t < 4 → reg 4 w3 (dyAt n m) m t ≡ dyOf A H (d t) (numbersIn A w0 t) (at mu t)
+          dy : (t : ℕ) → t < 4 → reg 4 w2 (dyAt n m) m t ≡ dyOf A H (d t) (numbersIn A w0 t) (at mu t)
           dy t b =
               S .within t b
-              ∙ back-machine A ptr ind P (reg 4 w2 (lAt n m s) E t) (cell (factor A (numbersIn A w1 t))) (L t b) tptr tind tmap T m (omega arith) (front ptr ind m (reg 4 w2 (lAt n m s) E t) (reg 4 w2 (rhsAt n m) m t))
-              ∙ ap (backward A (cell (factor A (numbersIn A w1 t))) m) (front-machine A ptr ind P (reg 4 w2 (lAt n m s) E t) (cell (factor A (numbersIn A w1 t))) (L t b) (reg 4 w2 (rhsAt n m) m t))
-              ∙ ap (λ (q : State). backward A (cell (factor A q)) m (forward A (cell (factor A q)) (reg 4 w2 (rhsAt n m) m t))) (F .still .kept t b)
-              ∙ ap (λ (v : List Float). backward A (cell (factor A (numbersIn A w0 t))) m (forward A (cell (factor A (numbersIn A w0 t))) v)) (f t b)
+              ∙ back-machine A ptr ind P (reg 4 w2 (lAt n m s) E t) (cell (factor A (numbersIn A w1 t))) (L t b) tptr tind tmap T m (omega arith) (front ptr ind m (reg 4 w2 (lAt n m s) E t) (reg 4 w1 (rhsAt n m) m t))
+              ∙ ap (backward A (cell (factor A (numbersIn A w1 t))) m) (front-machine A ptr ind P (reg 4 w2 (lAt n m s) E t) (cell (factor A (numbersIn A w1 t))) (L t b) (reg 4 w1 (rhsAt n m) m t))
+              ∙ ap (λ (q : State). backward A (cell (factor A q)) m (forward A (cell (factor A q)) (reg 4 w1 (rhsAt n m) m t))) (F .still .kept t b)
+              ∙ ap (λ (v : List Float). backward A (cell (factor A (numbersIn A w0 t))) m (forward A (cell (factor A (numbersIn A w0 t))) v)) (F .rhs t b)
               ∙ (unfold dyOf in refl)
 
-          along : (t : ℕ) → t < 4 → changes A H d t (numbersIn A w3 t) (at mu t) (reg 4 w3 (dyAt n m) m t) ≡ direction A H (d t) (numbersIn A w0 t) (at mu t)
+          along : (t : ℕ) → t < 4 → changes A H d t (numbersIn A w2 t) (at mu t) (reg 4 w2 (dyAt n m) m t) ≡ direction A H (d t) (numbersIn A w0 t) (at mu t)
           along t b =
-              ap (λ (q : State). changes A H d t q (at mu t) (reg 4 w3 (dyAt n m) m t)) (s3 .kept t b ∙ s2 .kept t b ∙ F .still .kept t b)
+              ap (λ (q : State). changes A H d t q (at mu t) (reg 4 w2 (dyAt n m) m t)) (s2 .kept t b ∙ F .still .kept t b)
               ∙ ap (changes A H d t (numbersIn A w0 t) (at mu t)) (dy t b)
               ∙ (unfold direction in refl)
 

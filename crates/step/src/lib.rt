@@ -16,7 +16,7 @@ ghost use Rattle.links.specs.Planned.{RowsOf, ColsOf};
 ghost use Rattle.links.specs.Prepared.{Prepared};
 ghost use Rattle.tests.specs.Layout.{lAt, numbersAt, Lent};
 ghost use Rattle.step.specs.Steps.{Ready, RightSide, Changed, Directed, Advanced, Took, Fresh, Centred, LanesStep};
-use factor::normal_matrix_cholesky_decomposition;
+use eliminate::factor_solve;
 use kernels::compute_complement;
 use kernels::compute_dx;
 use kernels::one4;
@@ -31,7 +31,6 @@ use lanes::larger4;
 use lanes::smaller4;
 use lanes::splat;
 use machine::Status;
-use substitution::cholesky_solve;
 
 // The reduced costs and mu/x, in the regions of dx and dz; of them u, and of u f, the right-hand side.
 fn normal_eqn_rhs(
@@ -134,14 +133,15 @@ fn directions(
     let rhs = dy + m;
     let w = rhs + m;
     let l = w + s + s;
-    let count = li.len();
     normal_eqn_rhs(off, cols, vals, cp, ci, cm, b, c, tol, work, m, n, s, mu);
-    normal_matrix_cholesky_decomposition(
+    factor_solve(
         work,
         0,
         n,
         y,
         w,
+        rhs,
+        dy,
         l,
         m,
         n,
@@ -159,8 +159,10 @@ fn directions(
         lp,
         ld,
         li,
+        tp,
+        ti,
+        tm,
     );
-    cholesky_solve(lp, li, tp, ti, tm, work, rhs, dy, l, m, count);
     compute_dx_dz_dw(off, cols, vals, cp, ci, cm, b, c, tol, work, m, n, s, mu)
 }
 
