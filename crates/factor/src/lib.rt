@@ -10,6 +10,7 @@ ghost use Rattle.lanes.specs.Region.{Kept};
 ghost use Rattle.lanes.specs.Arithmetic.{_⊕_, _⊖_, _⊗_, _⊘_, √, magnitude, null};
 ghost use Rattle.machine.specs.Work.{problemOf};
 ghost use Rattle.ranks.specs.Factoring.{normalStep, productStep, NormalIn, ProductIn, Summed, Given, Factored, stateOf};
+use lanes::above_zero;
 use lanes::abs4;
 use lanes::add4;
 use lanes::div4;
@@ -115,12 +116,15 @@ fn start_of(work: &[f64], y: usize, w: usize, s: usize, i: usize, j: usize) -> [
     splat(0.0)
 }
 
-// On the diagonal the root of the absolute value, else over the diagonal's entry of the column's row.
+// On the diagonal the root of the absolute value, which a number above zero is itself; else over the diagonal's entry of the column's row.
 fn finish(work: &[f64], lo: usize, diag: &[u32], i: usize, j: usize, v: [f64; 4]) -> [f64; 4]
     requires { ⌜ (j < length (now diag)) × (4 * (lo + getD (now diag) j 0) + 4 ≤ length (now work)) ⌝ }
     ensures { λ r. ⌜ r ≡ lanes (λ l. cond (eqb i j) (√ (magnitude (lane v l))) (lane v l ⊘ here 4 (now (work .entry)) (lo + getD (now (diag .entry)) j 0) l)) ⌝ }
 {
     if i == j {
+        if above_zero(v) {
+            return root4(v);
+        }
         let size = abs4(v);
         return root4(size);
     }

@@ -60,7 +60,7 @@ fn abs1(x: f64) -> f64
 }
 
 // Whether every lane is above zero.
-fn above_zero(a: [f64; 4]) -> bool
+pub fn above_zero(a: [f64; 4]) -> bool
     ensures { λ r. ⌜ (r ≡ true → (l : ℕ) → l < 4 → Ieee.lt (Ieee.ofBits binary64 0) (at a l) ≡ true) ⌝ }
 {
     if 0.0 < a[0] && 0.0 < a[1] {
@@ -71,13 +71,10 @@ fn above_zero(a: [f64; 4]) -> bool
     false
 }
 
-// The absolute values. Lanes above zero, the common case, are handed back at once.
+// The absolute values.
 pub fn abs4(a: [f64; 4]) -> [f64; 4]
     ensures { λ r. ⌜ r ≡ each1 magnitude a ⌝ }
 {
-    if above_zero(a) {
-        return a;
-    }
     [abs1(a[0]), abs1(a[1]), abs1(a[2]), abs1(a[3])]
 }
 
