@@ -6,6 +6,7 @@
 //! [`Solver`] sizes and owns the memory that the library is lent. Every answer is the library's own, a refusal too:
 //! see [`Refusal`]. A caller with memory of its own calls [`library`].
 
+mod extern_c;
 pub mod library;
 mod refusal;
 mod solver;

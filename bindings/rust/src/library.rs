@@ -1,47 +1,7 @@
 //! The static library's functions over memory that the caller lends, with slices for pointers and lengths. `ipm.h` says
 //! what each part has to hold. This is the only unsafe code of the crate.
 
-mod extern_c {
-    unsafe extern "C" {
-        pub fn ipm_plan(
-            m: usize,
-            n: usize,
-            offsets: *const u32,
-            offsets_len: usize,
-            columns: *const u32,
-            columns_len: usize,
-            index: *mut u32,
-            index_len: usize,
-        ) -> u64;
-
-        pub fn ipm_solve(
-            m: usize,
-            n: usize,
-            s: usize,
-            offsets: *const u32,
-            offsets_len: usize,
-            columns: *const u32,
-            columns_len: usize,
-            values: *const f64,
-            values_len: usize,
-            b: *const f64,
-            b_len: usize,
-            c: *const f64,
-            c_len: usize,
-            tolerances: *const f64,
-            tolerances_len: usize,
-            limit: usize,
-            output: *mut f64,
-            output_len: usize,
-            index: *mut u32,
-            index_len: usize,
-            work: *mut f64,
-            work_len: usize,
-        ) -> u64;
-
-        pub safe fn ipm_root_bits(bits: u64) -> u64;
-    }
-}
+use crate::extern_c;
 
 /// An answer taken apart. Question 0 is a yes, and its place is W or the test.
 #[derive(Clone, Copy, Debug, PartialEq, Eq)]

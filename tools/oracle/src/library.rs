@@ -2,6 +2,7 @@
 //! libipm_c.a. It also looks at every buffer: what a no must leave, and what 11, 12 and acceptance must leave.
 
 use crate::backend::{Backend, Told};
+use crate::extern_c::{ipm_plan, ipm_solve};
 use crate::plan::{plan_words, work_numbers};
 use crate::problem::{Answer, LANES, Matrix, Planned, Problem, Refusal, settled_bits};
 use crate::questions::{Room, ask_plan};
@@ -11,44 +12,6 @@ use crate::reference;
 const WORD: u32 = 0xdead_beef;
 const NUMBER: f64 = -7.25;
 const SPARE: usize = 3;
-
-unsafe extern "C" {
-    fn ipm_plan(
-        m: usize,
-        n: usize,
-        offsets: *const u32,
-        offsets_len: usize,
-        columns: *const u32,
-        columns_len: usize,
-        index: *mut u32,
-        index_len: usize,
-    ) -> u64;
-
-    fn ipm_solve(
-        m: usize,
-        n: usize,
-        s: usize,
-        offsets: *const u32,
-        offsets_len: usize,
-        columns: *const u32,
-        columns_len: usize,
-        values: *const f64,
-        values_len: usize,
-        b: *const f64,
-        b_len: usize,
-        c: *const f64,
-        c_len: usize,
-        tolerances: *const f64,
-        tolerances_len: usize,
-        limit: usize,
-        output: *mut f64,
-        output_len: usize,
-        index: *mut u32,
-        index_len: usize,
-        work: *mut f64,
-        work_len: usize,
-    ) -> u64;
-}
 
 /// A u64 answer is question * 2^40 + place * 2^8 + lane. Question 0 is a yes: the place is the test, or W for a plan.
 fn told(code: u64) -> Refusal {

@@ -3,6 +3,10 @@
 mod backend;
 mod cases;
 mod compare;
+#[cfg(ipm_c)]
+#[path = "../../../bindings/rust/src/extern_c.rs"]
+#[allow(dead_code)]
+mod extern_c;
 mod generate;
 #[cfg(ipm_c)]
 mod library;
