@@ -24,7 +24,7 @@ use lanes::sub4;
 use rows::col_less;
 use rows::col_plus;
 use rows::row_less;
-use rows::row_plus;
+use rows::row_plus_two;
 
 pub fn zero4() -> [f64; 4]
     ensures { λ r. ⌜ r ≡ lanes (λ t. null) ⌝ }
@@ -172,8 +172,9 @@ pub fn rhs_f(
     let mut i = 0;
     while i < m {
         let q = v_start(work, y, m, i, s, mu);
-        let p = row_plus(off, cols, vals, work, x, m, n, i, q);
-        let a = row_plus(off, cols, vals, work, u, m, n, i, zero);
+        let sums = row_plus_two(off, cols, vals, work, x, u, m, n, i, q, zero);
+        let p = sums.first;
+        let a = sums.second;
         let be = get4(b, i);
         let v = f_in(be, p, a);
         put4(work, out + i, v);

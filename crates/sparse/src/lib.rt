@@ -82,32 +82,44 @@ pub fn less_back(
     acc
 }
 
-// The numbers are values, one for each place.
-pub fn plus_row(
+pub struct Sums {
+    pub first: [f64; 4],
+    pub second: [f64; 4],
+}
+
+// The numbers are values, one for each place. Two sums over one walk: of the regions at x and at u.
+pub fn plus_row_two(
     es: &[u32],
     vs: &[f64],
     work: &[f64],
     x: usize,
+    u: usize,
     n: usize,
     start: [f64; 4],
-) -> [f64; 4]
+    other: [f64; 4],
+) -> Sums
     requires { ⌜ (length (now vs) ≡ length (now es)) × ((k : ℕ) → k < length (now es) → getD (now es) k 0 < n) ⌝ }
-    requires { ⌜ 4 * (x + n) ≤ length (now work) ⌝ }
-    ensures { λ r. ⌜ r ≡ lanes (λ t. plusAll (now (es .entry)) (at (now (vs .entry))) (reg 4 (now (work .entry)) x n t) (at start t)) ⌝ }
+    requires { ⌜ (4 * (x + n) ≤ length (now work)) × (4 * (u + n) ≤ length (now work)) ⌝ }
+    ensures { λ r. ⌜ (r .first ≡ lanes (λ t. plusAll (now (es .entry)) (at (now (vs .entry))) (reg 4 (now (work .entry)) x n t) (at start t))) × (r .second ≡ lanes (λ t. plusAll (now (es .entry)) (at (now (vs .entry))) (reg 4 (now (work .entry)) u n t) (at other t))) ⌝ }
 {
-    let mut acc = start;
+    let mut first = start;
+    let mut second = other;
     let mut k = 0;
     while k < es.len() {
         let e = es[k] as usize;
         let a = splat(vs[k]);
-        let u = get4(work, x + e);
-        let t = plus_in(acc, a, u);
-        acc = t;
+        let xe = get4(work, x + e);
+        let ue = get4(work, u + e);
+        let p = plus_in(first, a, xe);
+        let q = plus_in(second, a, ue);
+        first = p;
+        second = q;
         k += 1;
     }
-    acc
+    Sums { first, second }
 }
 
+// The numbers are values, one for each place.
 pub fn less_row(
     es: &[u32],
     vs: &[f64],

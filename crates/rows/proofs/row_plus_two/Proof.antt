@@ -4,8 +4,8 @@ use Prim.Native.Nat.{ℕ, _-_, _+_, _<_}
 use Rattle.rows.proofs.Spans.{span-same, span-all}
 use Rattle.rows.specs.Parts.{plusRow}
 use borrow.Author.Needs.{needs}
-use Rattle.rows.proofs.row_plus.Statement.{statement}
-use Rattle.rows.proofs.row_plus.Tie as tie
+use Rattle.rows.proofs.row_plus_two.Statement.{statement}
+use Rattle.rows.proofs.row_plus_two.Tie as tie
 
 mul-a : tie.Need-mul-a
 mul-a c = search needs
@@ -32,55 +32,57 @@ cast-g c =
     let e = c .before .before .before .before .before .before in
     omega (arith, c .shared-slice-known6 .given (e .args .i + 1))
 
-mul-plus-row : tie.Need-mul-plus-row
-mul-plus-row c =
+mul-plus-row-two : tie.Need-mul-plus-row-two
+mul-plus-row-two c =
     let e = c .before .before .before .before .before .before in
     omega (arith, e .pre .0 .csr .rises (e .args .i) (e .pre .1), e .pre .0 .csr .ends (e .args .i) (e .pre .1), e .pre .0 .sizes)
 
-sub-plus-row : tie.Need-sub-plus-row
-sub-plus-row c =
+sub-plus-row-two : tie.Need-sub-plus-row-two
+sub-plus-row-two c =
     let e = c .before .before .before .before .before .before in
     omega (arith, e .pre .0 .csr .rises (e .args .i) (e .pre .1), e .pre .0 .csr .ends (e .args .i) (e .pre .1), e .pre .0 .sizes)
 
-part-plus-row-start : tie.Need-part-plus-row-start
-part-plus-row-start c =
+part-plus-row-two-start : tie.Need-part-plus-row-two-start
+part-plus-row-two-start c =
     let e = c .before .before .before .before .before .before in
     omega (arith, e .pre .0 .csr .rises (e .args .i) (e .pre .1), e .pre .0 .csr .ends (e .args .i) (e .pre .1), e .pre .0 .sizes)
 
-part-plus-row-end : tie.Need-part-plus-row-end
-part-plus-row-end c =
+part-plus-row-two-end : tie.Need-part-plus-row-two-end
+part-plus-row-two-end c =
     let e = c .before .before .before .before .before .before in
     omega (arith, e .pre .0 .csr .rises (e .args .i) (e .pre .1), e .pre .0 .csr .ends (e .args .i) (e .pre .1), e .pre .0 .sizes)
 
-mul-plus-row-2 : tie.Need-mul-plus-row-2
-mul-plus-row-2 c =
+mul-plus-row-two-2 : tie.Need-mul-plus-row-two-2
+mul-plus-row-two-2 c =
     let e = c .before .before .before .before .before .before .before in
     omega (arith, e .pre .0 .csr .rises (e .args .i) (e .pre .1), e .pre .0 .csr .ends (e .args .i) (e .pre .1), e .pre .0 .sizes)
 
-sub-plus-row-2 : tie.Need-sub-plus-row-2
-sub-plus-row-2 c =
+sub-plus-row-two-2 : tie.Need-sub-plus-row-two-2
+sub-plus-row-two-2 c =
     let e = c .before .before .before .before .before .before .before in
     omega (arith, e .pre .0 .csr .rises (e .args .i) (e .pre .1), e .pre .0 .csr .ends (e .args .i) (e .pre .1), e .pre .0 .sizes)
 
-part-plus-row-start-2 : tie.Need-part-plus-row-start-2
-part-plus-row-start-2 c =
+part-plus-row-two-start-2 : tie.Need-part-plus-row-two-start-2
+part-plus-row-two-start-2 c =
     let e = c .before .before .before .before .before .before .before in
     omega (arith, e .pre .0 .csr .rises (e .args .i) (e .pre .1), e .pre .0 .csr .ends (e .args .i) (e .pre .1), e .pre .0 .sizes)
 
-part-plus-row-end-2 : tie.Need-part-plus-row-end-2
-part-plus-row-end-2 c =
+part-plus-row-two-end-2 : tie.Need-part-plus-row-two-end-2
+part-plus-row-two-end-2 c =
     let e = c .before .before .before .before .before .before .before in
     omega (arith, e .pre .0 .csr .rises (e .args .i) (e .pre .1), e .pre .0 .csr .ends (e .args .i) (e .pre .1), e .pre .0 .sizes)
 
-plus-row-requires : tie.Need-plus-row-requires
-plus-row-requires c κs = ((span-same (c .before .before .before .before .before .before .before .before .pre .0 .csr) (c .before .before .before .before .before .before .before .before .args .i) (c .before .before .before .before .before .before .before .before .pre .1) (c .before .before .before .before .before .before .before .before .args .vals .now) (c .before .before .before .before .before .before .before .before .pre .0 .sizes), span-all (c .before .before .before .before .before .before .before .before .pre .0 .csr) (c .before .before .before .before .before .before .before .before .args .i) (c .before .before .before .before .before .before .before .before .pre .1) (c .before .before .before .before .before .before .before .before .args .cols .now) (λ (e : ℕ). e < c .before .before .before .before .before .before .before .before .args .n) refl (c .before .before .before .before .before .before .before .before .pre .0 .csr .below)), c .before .before .before .before .before .before .before .before .pre .2)
+plus-row-two-requires : tie.Need-plus-row-two-requires
+plus-row-two-requires c κs =
+    let e = c .before .before .before .before .before .before .before .before in
+    ((span-same (e .pre .0 .csr) (e .args .i) (e .pre .1) (e .args .vals .now) (e .pre .0 .sizes), span-all (e .pre .0 .csr) (e .args .i) (e .pre .1) (e .args .cols .now) (λ (k : ℕ). k < e .args .n) refl (e .pre .0 .csr .below)), (e .pre .2, e .pre .3))
 
 returns : tie.Need-returns
 unfolding plusRow
-returns c = c .plus-row .ensures
+returns c = c .plus-row-two .ensures
 
-pub row-plus-spec : {M : Type 1} → statement M
-row-plus-spec =
+pub row-plus-two-spec : {M : Type 1} → statement M
+row-plus-two-spec =
     tie.close
     (tie.spec
     mul-a
@@ -90,13 +92,13 @@ row-plus-spec =
     mul-g
     shared-slice-read-g
     cast-g
-    mul-plus-row
-    sub-plus-row
-    part-plus-row-start
-    part-plus-row-end
-    mul-plus-row-2
-    sub-plus-row-2
-    part-plus-row-start-2
-    part-plus-row-end-2
-    plus-row-requires
+    mul-plus-row-two
+    sub-plus-row-two
+    part-plus-row-two-start
+    part-plus-row-two-end
+    mul-plus-row-two-2
+    sub-plus-row-two-2
+    part-plus-row-two-start-2
+    part-plus-row-two-end-2
+    plus-row-two-requires
     returns)
