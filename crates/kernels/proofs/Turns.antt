@@ -1,5 +1,6 @@
 -- A turn of each loop: the entry that it works out is the definition's, of the memory as it was before the loop. Assumes nothing.
-use mathlib.Core.Path.{_≡_, sym, _∙_}
+use mathlib.Core.Path.{_≡_, refl, sym, ap, _∙_}
+use mathlib.Core.Logic.{_⊎_, inl, inr, ⊎-elim}
 use mathlib.Core.Bool.{cond}
 use mathlib.Core.List.{List}
 use Prim.Native.Nat.{ℕ, _+_, _-_, _*_, _≤_, _<_}
@@ -9,13 +10,14 @@ use lib.ListN.{length}
 use lib.Ieee.{Float, neg}
 use Rattle.lanes.specs.Lists.{at, vec, fold, lane}
 use Rattle.lanes.specs.Arithmetic.{_⊕_, _⊖_, _⊗_, _⊘_, null, one, larger, Σ}
-use Rattle.lanes.proofs.Lists.{lane-at}
+use Rattle.lanes.proofs.Lists.{lane-at, vec-at}
 use Rattle.lanes.specs.Lanes.{lanes, cell, quad, put}
 use Rattle.lanes.specs.Region.{reg, Kept, Fills, Grows, Apart, before, after}
-use Rattle.lanes.proofs.Regions.{grows-none, grown, kept-none, kept-put, kept-apart, apart-front}
+use Rattle.lanes.proofs.Regions.{reg-at, grows-none, grown, kept-none, kept-put, kept-apart, apart-front}
 use Rattle.lanes.proofs.Quads.{lanes-ext, reg-quad, own-quad, other-quad, grows-turn, fold-turn}
+use Rattle.machine.specs.Machine.{complement, largestRatio}
 use Rattle.rows.specs.Parts.{plusRow, lessRow, plusCol, lessCol}
-use Rattle.kernels.specs.Kernels.{FillsThree, costAt, overAt, uAt, dxAt, qAt, fAt, rAt}
+use Rattle.kernels.specs.Kernels.{FillsTwo, FillsThree, costAt, overAt, uAt, dxAt, qAt, fAt, rAt}
 
 -- an entry of a lent list, lane by lane
 pub lane-quad : (ws : List Float) (n k : ℕ) → k < n → quad ws k ≡ lanes (λ t. at (lane 4 n t ws) k)
@@ -121,27 +123,7 @@ module _ (toff rows places : List ℕ) (vals c : List Float) (x z y n m : ℕ) (
     unfolding uAt
     u-turn ax az ex ez ed eq ev = rw (ev, ed, eq, ex ∙ other-quad k ax e h, ez ∙ other-quad k az e h)
 
--- ---- dx, in place
-
-module _ (toff rows places : List ℕ) (vals : List Float) (x z dy over out n m : ℕ) where
-  abbrev pub dxLane : List Float → ℕ → ℕ → Float
-  dxLane ws t = dxAt toff rows places vals (reg 4 ws out n t) (reg 4 ws over n t) (reg 4 ws x n t) (reg 4 ws z n t) (reg 4 ws dy m t)
-
-  pub dx-turn : {old new da d q xe ze v nul : List Float} {e : ℕ} → Grows 4 out e (λ t _. dxLane old t) old new
-      → Apart x n out n → Apart z n out n → Apart dy m out n → Apart over n out n → e < n
-      → nul ≡ lanes (λ t. null) → da ≡ lanes (λ t. plusCol toff rows places vals (reg 4 new dy m t) e (at nul t))
-      → d ≡ quad new (out + e) → q ≡ quad new (over + e) → xe ≡ quad new (x + e) → ze ≡ quad new (z + e)
-      → v ≡ lanes (λ t. (at d t ⊖ at da t ⊕ at q t) ⊗ at xe t ⊘ at ze t)
-      → v ≡ lanes (λ t. dxLane old t e)
-  unfolding dxAt
-  dx-turn {old} {new} {da} {d} {q} {xe} {ze} {v} {nul} {e} w ax az ad ao h e0 ea ed eq ex ez ev =
-      rw (ev, col, ed ∙ own-quad (w .kept) n h, eq ∙ other-quad (w .kept) (apart-front ao (omega arith)) e h, ex ∙ other-quad (w .kept) (apart-front ax (omega arith)) e h, ez ∙ other-quad (w .kept) (apart-front az (omega arith)) e h)
-    where
-      col : da ≡ lanes (λ t. plusCol toff rows places vals (reg 4 old dy m t) e null)
-      col =
-          rw (ea, e0)
-          (lanes-ext (λ t. plusCol toff rows places vals (reg 4 new dy m t) e null) (λ t. plusCol toff rows places vals (reg 4 old dy m t) e null)
-          (λ t b. rw (kept-apart (w .kept) (apart-front ad (omega arith)) t b)))
+-- ---- the residuals and f
 
 module _ (toff rows places : List ℕ) (vals c : List Float) (z y n m : ℕ) where
   abbrev pub qLane : List Float → ℕ → ℕ → Float
@@ -177,17 +159,7 @@ module _ (off cols : List ℕ) (vals b : List Float) (x n m s : ℕ) where
   unfolding rAt
   r-turn work w i ev er = rw (er, ev)
 
--- ---- dz, dw and the updates
-
-abbrev pub otherLane : ℕ → ℕ → ℕ → ℕ → List Float → List Float → ℕ → ℕ → Float
-otherLane p r dr k mu ws t e = (at mu t ⊖ at (reg 4 ws p k t) e ⊗ at (reg 4 ws dr k t) e) ⊘ at (reg 4 ws r k t) e ⊖ at (reg 4 ws p k t) e
-
-pub other-turn : {old new pe de re v : List Float} (p r dr : ℕ) {k : ℕ} (mu : List Float) {out e : ℕ} → Grows 4 out e (λ t _. otherLane p r dr k mu old t) old new
-    → Apart p k out k → Apart r k out k → Apart dr k out k → e < k → pe ≡ quad new (p + e) → de ≡ quad new (dr + e) → re ≡ quad new (r + e)
-    → v ≡ lanes (λ t. (at mu t ⊖ at pe t ⊗ at de t) ⊘ at re t ⊖ at pe t)
-    → v ≡ lanes (λ t. otherLane p r dr k mu old t e)
-other-turn p r dr {k} mu {out} {e} w ap′ ar ad h ep ed er ev =
-    rw (ev, ep ∙ other-quad (w .kept) (apart-front ap′ (omega arith)) e h, ed ∙ other-quad (w .kept) (apart-front ad (omega arith)) e h, er ∙ other-quad (w .kept) (apart-front ar (omega arith)) e h)
+-- ---- the updates
 
 abbrev pub movedLane : ℕ → ℕ → ℕ → List Float → List Float → ℕ → ℕ → Float
 movedLane p dp k h ws t e = one ⊗ at (reg 4 ws p k t) e ⊕ at h t ⊗ at (reg 4 ws dp k t) e
@@ -216,7 +188,215 @@ pub sum-none : (A B : ℕ → ℕ → Float) {acc : List Float} → acc ≡ lane
 unfolding Σ fold
 sum-none A B e = e
 
--- ---- theta
+-- ---- theta: the largest ratio so far
 
-abbrev pub steepLane : ℕ → ℕ → ℕ → ℕ → ℕ → List Float → ℕ → ℕ → Float → Float
-steepLane a da b db k ws t e v = larger (larger v (neg (at (reg 4 ws da k t) e) ⊘ at (reg 4 ws a k t) e)) (neg (at (reg 4 ws db k t) e) ⊘ at (reg 4 ws b k t) e)
+ratio-none : (a da b db : ℕ → List Float) {acc : List Float} → acc ≡ lanes (λ t. null) → acc ≡ lanes (λ t. largestRatio 0 (a t) (da t) (b t) (db t))
+unfolding largestRatio fold
+ratio-none a da b db e = e
+
+ratio-turn : (a da b db : ℕ → List Float) {acc ae dae be dbe r : List Float} (e : ℕ) → acc ≡ lanes (λ t. largestRatio e (a t) (da t) (b t) (db t))
+    → ae ≡ lanes (λ t. at (a t) e) → dae ≡ lanes (λ t. at (da t) e) → be ≡ lanes (λ t. at (b t) e) → dbe ≡ lanes (λ t. at (db t) e)
+    → r ≡ lanes (λ t. larger (larger (at acc t) (neg (at dae t) ⊘ at ae t)) (neg (at dbe t) ⊘ at be t))
+    → r ≡ lanes (λ t. largestRatio (e + 1) (a t) (da t) (b t) (db t))
+unfolding largestRatio
+ratio-turn a da b db e i ea eda eb edb er =
+    fold-turn (λ t k v. larger (larger v (neg (at (da t) k) ⊘ at (a t) k)) (neg (at (db t) k) ⊘ at (b t) k)) (λ t. null) e i (rw (er, ea, eda, eb, edb))
+
+-- read on lists that are the same
+pub ratio-same : (k : ℕ) (a da b db a′ da′ b′ db′ : ℕ → List Float) {acc : List Float} → acc ≡ lanes (λ t. largestRatio k (a t) (da t) (b t) (db t))
+    → ((t : ℕ) → t < 4 → a′ t ≡ a t) → ((t : ℕ) → t < 4 → da′ t ≡ da t) → ((t : ℕ) → t < 4 → b′ t ≡ b t) → ((t : ℕ) → t < 4 → db′ t ≡ db t)
+    → acc ≡ lanes (λ t. largestRatio k (a′ t) (da′ t) (b′ t) (db′ t))
+ratio-same k a da b db a′ da′ b′ db′ e ea eda eb edb =
+    e ∙ lanes-ext (λ t. largestRatio k (a t) (da t) (b t) (db t)) (λ t. largestRatio k (a′ t) (da′ t) (b′ t) (db′ t)) (λ t h. rw (ea t h, eda t h, eb t h, edb t h))
+
+-- an entry that a loop works out is that of the whole list
+whole-lanes : (F : ℕ → ℕ → Float) {v : List Float} {n e : ℕ} → e < n → v ≡ lanes (λ t. F t e) → v ≡ lanes (λ t. at (vec n (F t)) e)
+whole-lanes F {v} {n} {e} h ev = ev ∙ lanes-ext (λ t. F t e) (λ t. at (vec n (F t)) e) (λ t _. sym (vec-at n (F t) e h))
+
+-- ---- dx and dz, in place
+
+-- the first i entries from o and from p are written, and nothing else has changed
+pub record Two (o p i : ℕ) (A B : ℕ → ℕ → Float) (old new : List Float) : Type 0 where
+  pub size : length new ≡ length old
+  pub outside : (j : ℕ) → (j < 4 * o) ⊎ (4 * (o + i) ≤ j) → (j < 4 * p) ⊎ (4 * (p + i) ≤ j) → at new j ≡ at old j
+  pub first : Front o i A new
+  pub second : Front p i B new
+
+two-none : (o p : ℕ) (A B : ℕ → ℕ → Float) (ws : List Float) → Two o p 0 A B ws ws
+two-none o p A B ws = record { size = refl; outside = λ j h g. refl; first = front-none o A ws; second = front-none p B ws }
+
+two-turn : {o p i n : ℕ} {A B : ℕ → ℕ → Float} {old new w1 w2 a b : List Float} → Two o p i A B old new → p ≡ o + n → i < n → 4 * (o + 2 * n) ≤ length old
+    → a ≡ lanes (λ t. A t i) → b ≡ lanes (λ t. B t i) → w1 ≡ put 4 new (o + i) a → w2 ≡ put 4 w1 (p + i) b
+    → Two o p (i + 1) A B old w2
+two-turn {o} {p} {i} {n} {A} {B} {old} {new} {w1} {w2} {a} {b} w ep h room ea eb e1 e2 =
+    record {
+      size = s2 .size ∙ s1 .size ∙ w .size;
+      outside = λ j f g. s2 .outside j (one-more p j g) ∙ s1 .outside j (one-more o j f) ∙ w .outside j (narrower o j f) (narrower p j g);
+      first = front-other (front-own (w .first) (omega (arith, w .size)) ea e1) s2 (before (omega (arith, ep)));
+      second = front-own (front-other (w .second) s1 (after (omega (arith, ep)))) (omega (arith, ep, s1 .size, w .size)) eb e2;
+    }
+  where
+    s1 : Kept 4 (o + i) 1 new w1
+    s1 = stored (o + i) a e1
+
+    s2 : Kept 4 (p + i) 1 w1 w2
+    s2 = stored (p + i) b e2
+
+    one-more : (q j : ℕ) → (j < 4 * q) ⊎ (4 * (q + (i + 1)) ≤ j) → (j < 4 * (q + i)) ⊎ (4 * (q + i + 1) ≤ j)
+    one-more q j f = ⊎-elim (λ a. inl (omega arith)) (λ a. inr (omega arith)) f
+
+    narrower : (q j : ℕ) → (j < 4 * q) ⊎ (4 * (q + (i + 1)) ≤ j) → (j < 4 * q) ⊎ (4 * (q + i) ≤ j)
+    narrower q j f = ⊎-elim (λ a. inl a) (λ a. inr (omega arith)) f
+
+-- both regions lie side by side
+two-kept : {o p i n : ℕ} {A B : ℕ → ℕ → Float} {old new : List Float} → Two o p i A B old new → p ≡ o + n → i ≤ n → Kept 4 o (2 * n) old new
+two-kept {o} {p} {i} {n} w ep h = record {
+  size = w .size;
+  outside = λ j f. w .outside j (⊎-elim (λ a. inl a) (λ a. inr (omega arith)) f) (⊎-elim (λ a. inl (omega (arith, ep))) (λ a. inr (omega (arith, ep))) f);
+}
+
+-- the next entry of each is as it was
+first-quad : {o p i n : ℕ} {A B : ℕ → ℕ → Float} {old new : List Float} → Two o p i A B old new → p ≡ o + n → i < n → quad new (o + i) ≡ lanes (λ t. at (reg 4 old o n t) i)
+first-quad {o} {p} {i} {n} {old = old} {new = new} w ep h =
+    lanes-ext (cell 4 new (o + i)) (λ t. at (reg 4 old o n t) i)
+    (λ t b. w .outside (4 * (o + i) + t) (inr (omega arith)) (inl (omega (arith, ep))) ∙ sym (reg-at 4 old o n t i h))
+
+second-quad : {o p i n : ℕ} {A B : ℕ → ℕ → Float} {old new : List Float} → Two o p i A B old new → p ≡ o + n → i < n → quad new (p + i) ≡ lanes (λ t. at (reg 4 old p n t) i)
+second-quad {o} {p} {i} {n} {old = old} {new = new} w ep h =
+    lanes-ext (cell 4 new (p + i)) (λ t. at (reg 4 old p n t) i)
+    (λ t b. w .outside (4 * (p + i) + t) (inr (omega (arith, ep))) (inr (omega arith)) ∙ sym (reg-at 4 old p n t i h))
+
+module _ (toff rows places : List ℕ) (vals : List Float) (x z dy dx dz n m : ℕ) (mu : List Float) where
+  abbrev dxLane : List Float → ℕ → ℕ → Float
+  dxLane ws t = dxAt toff rows places vals (reg 4 ws dx n t) (reg 4 ws dz n t) (reg 4 ws x n t) (reg 4 ws z n t) (reg 4 ws dy m t)
+
+  abbrev dzLane : List Float → ℕ → ℕ → Float
+  dzLane ws t e = (at mu t ⊖ at (reg 4 ws z n t) e ⊗ at (vec n (dxLane ws t)) e) ⊘ at (reg 4 ws x n t) e ⊖ at (reg 4 ws z n t) e
+
+  -- e columns are worked out
+  pub record Columns (e : ℕ) (old new acc : List Float) : Type 0 where
+    pub written : Two dx dz e (dxLane old) (dzLane old) old new
+    pub ratio : acc ≡ lanes (λ t. largestRatio e (reg 4 old x n t) (vec n (dxLane old t)) (reg 4 old z n t) (vec n (dzLane old t)))
+
+  pub columns-none : {ws acc : List Float} → acc ≡ lanes (λ t. null) → Columns 0 ws ws acc
+  columns-none {ws} e = record {
+    written = two-none dx dz (dxLane ws) (dzLane ws) ws;
+    ratio = ratio-none (λ t. reg 4 ws x n t) (λ t. vec n (dxLane ws t)) (λ t. reg 4 ws z n t) (λ t. vec n (dzLane ws t)) e;
+  }
+
+  module _ (ep : dz ≡ dx + n) (ax : Apart x n dx (2 * n)) (az : Apart z n dx (2 * n)) where
+    dx-turn : {old new da d q xe ze v nul : List Float} {e : ℕ} → Two dx dz e (dxLane old) (dzLane old) old new → Apart dy m dx (2 * n) → e < n
+        → nul ≡ lanes (λ t. null) → da ≡ lanes (λ t. plusCol toff rows places vals (reg 4 new dy m t) e (at nul t))
+        → d ≡ quad new (dx + e) → q ≡ quad new (dz + e) → xe ≡ lanes (λ t. at (reg 4 old x n t) e) → ze ≡ lanes (λ t. at (reg 4 old z n t) e)
+        → v ≡ lanes (λ t. (at d t ⊖ at da t ⊕ at q t) ⊗ at xe t ⊘ at ze t)
+        → v ≡ lanes (λ t. dxLane old t e)
+    unfolding dxAt
+    dx-turn {old} {new} {da} {d} {q} {xe} {ze} {v} {nul} {e} w ad h e0 ea ed eq ex ez ev = rw (ev, col, ed ∙ first-quad w ep h, eq ∙ second-quad w ep h, ex, ez)
+      where
+        col : da ≡ lanes (λ t. plusCol toff rows places vals (reg 4 old dy m t) e null)
+        col =
+            rw (ea, e0)
+            (lanes-ext (λ t. plusCol toff rows places vals (reg 4 new dy m t) e null) (λ t. plusCol toff rows places vals (reg 4 old dy m t) e null)
+            (λ t b. rw (kept-apart (two-kept w ep (omega arith)) ad t b)))
+
+    pub columns-turn : {old new w1 w2 acc da d q xe ze dxe dze r nul : List Float} {e : ℕ} → Columns e old new acc → Apart dy m dx (2 * n) → e < n → 4 * (dx + 2 * n) ≤ length old
+        → nul ≡ lanes (λ t. null) → da ≡ lanes (λ t. plusCol toff rows places vals (reg 4 new dy m t) e (at nul t))
+        → d ≡ quad new (dx + e) → q ≡ quad new (dz + e) → xe ≡ quad new (x + e) → ze ≡ quad new (z + e)
+        → dxe ≡ lanes (λ t. (at d t ⊖ at da t ⊕ at q t) ⊗ at xe t ⊘ at ze t)
+        → dze ≡ lanes (λ t. (at mu t ⊖ at ze t ⊗ at dxe t) ⊘ at xe t ⊖ at ze t)
+        → r ≡ lanes (λ t. larger (larger (at acc t) (neg (at dxe t) ⊘ at xe t)) (neg (at dze t) ⊘ at ze t))
+        → w1 ≡ put 4 new (dx + e) dxe → w2 ≡ put 4 w1 (dz + e) dze
+        → Columns (e + 1) old w2 r
+    columns-turn {old} {new} {w1} {w2} {acc} {da} {d} {q} {xe} {ze} {dxe} {dze} {r} {nul} {e} w ad h room e0 ea ed eq ex ez edx edz er e1 e2 =
+        record {
+          written = two-turn (w .written) ep h room dxs dzs e1 e2;
+          ratio = ratio-turn (λ t. reg 4 old x n t) (λ t. vec n (dxLane old t)) (λ t. reg 4 old z n t) (λ t. vec n (dzLane old t)) e (w .ratio) xs (whole-lanes (dxLane old) h dxs) zs (whole-lanes (dzLane old) h dzs) er;
+        }
+      where
+        K : Kept 4 dx (2 * n) old new
+        K = two-kept (w .written) ep (omega arith)
+
+        xs : xe ≡ lanes (λ t. at (reg 4 old x n t) e)
+        xs = ex ∙ other-quad K ax e h
+
+        zs : ze ≡ lanes (λ t. at (reg 4 old z n t) e)
+        zs = ez ∙ other-quad K az e h
+
+        dxs : dxe ≡ lanes (λ t. dxLane old t e)
+        dxs = dx-turn (w .written) ad h e0 ea ed eq xs zs edx
+
+        dzs : dze ≡ lanes (λ t. dzLane old t e)
+        dzs = rw (edz, zs, whole-lanes (dxLane old) h dxs, xs)
+
+    module _ {e : ℕ} {old new acc : List Float} (w : Columns e old new acc) (end : e ≡ n) where
+      all : Columns n old new acc
+      all = rw end at w
+
+      frame : Kept 4 dx (2 * n) old new
+      frame = two-kept (all .written) ep (omega arith)
+
+      pub columns : FillsTwo dx dz n (λ t. vec n (dxLane old t)) (λ t. complement n (at mu t) (reg 4 old z n t) (reg 4 old x n t) (reg 4 new dx n t)) old new
+      unfolding complement
+      columns = record {
+        kept = frame;
+        first = all .written .first .within;
+        second = λ t b. all .written .second .within t b ∙ ap (complement n (at mu t) (reg 4 old z n t) (reg 4 old x n t)) (sym (all .written .first .within t b));
+      }
+
+      pub columns-ratio : acc ≡ lanes (λ t. largestRatio n (reg 4 new x n t) (reg 4 new dx n t) (reg 4 new z n t) (reg 4 new dz n t))
+      columns-ratio =
+          ratio-same n (λ t. reg 4 old x n t) (λ t. vec n (dxLane old t)) (λ t. reg 4 old z n t) (λ t. vec n (dzLane old t)) (λ t. reg 4 new x n t) (λ t. reg 4 new dx n t) (λ t. reg 4 new z n t) (λ t. reg 4 new dz n t) (all .ratio)
+          (kept-apart frame ax) (all .written .first .within) (kept-apart frame az) (all .written .second .within)
+
+-- ---- dw
+
+module _ (w y dy dw s : ℕ) (mu : List Float) where
+  abbrev dwLane : List Float → ℕ → ℕ → Float
+  dwLane ws t i = (at mu t ⊖ at (reg 4 ws w s t) i ⊗ at (reg 4 ws dy s t) i) ⊘ at (reg 4 ws y s t) i ⊖ at (reg 4 ws w s t) i
+
+  -- i slack rows are worked out
+  pub record Slacks (i : ℕ) (old new acc : List Float) : Type 0 where
+    pub written : Grows 4 dw i (λ t _. dwLane old t) old new
+    pub ratio : acc ≡ lanes (λ t. largestRatio i (reg 4 old w s t) (vec s (dwLane old t)) (reg 4 old y s t) (reg 4 old dy s t))
+
+  pub slacks-none : {ws acc : List Float} → acc ≡ lanes (λ t. null) → Slacks 0 ws ws acc
+  slacks-none {ws} e = record {
+    written = grows-none 4 dw (λ t _. dwLane ws t) ws;
+    ratio = ratio-none (λ t. reg 4 ws w s t) (λ t. vec s (dwLane ws t)) (λ t. reg 4 ws y s t) (λ t. reg 4 ws dy s t) e;
+  }
+
+  module _ (aw : Apart w s dw s) (ay : Apart y s dw s) (ad : Apart dy s dw s) where
+    pub slacks-turn : {old new new′ acc wi di yi v r : List Float} {i : ℕ} → Slacks i old new acc → i < s → 4 * (dw + s) ≤ length old
+        → wi ≡ quad new (w + i) → di ≡ quad new (dy + i) → yi ≡ quad new (y + i)
+        → v ≡ lanes (λ t. (at mu t ⊖ at wi t ⊗ at di t) ⊘ at yi t ⊖ at wi t)
+        → r ≡ lanes (λ t. larger (larger (at acc t) (neg (at v t) ⊘ at wi t)) (neg (at di t) ⊘ at yi t))
+        → new′ ≡ put 4 new (dw + i) v
+        → Slacks (i + 1) old new′ r
+    slacks-turn {old} {new} {new′} {acc} {wi} {di} {yi} {v} {r} {i} g h room ew ed ey ev er ep =
+        record {
+          written = grows-turn (g .written) (omega arith) dws ep;
+          ratio = ratio-turn (λ t. reg 4 old w s t) (λ t. vec s (dwLane old t)) (λ t. reg 4 old y s t) (λ t. reg 4 old dy s t) i (g .ratio) ws (whole-lanes (dwLane old) h dws) ys ds er;
+        }
+      where
+        ws : wi ≡ lanes (λ t. at (reg 4 old w s t) i)
+        ws = ew ∙ other-quad (g .written .kept) (apart-front aw (omega arith)) i h
+
+        ds : di ≡ lanes (λ t. at (reg 4 old dy s t) i)
+        ds = ed ∙ other-quad (g .written .kept) (apart-front ad (omega arith)) i h
+
+        ys : yi ≡ lanes (λ t. at (reg 4 old y s t) i)
+        ys = ey ∙ other-quad (g .written .kept) (apart-front ay (omega arith)) i h
+
+        dws : v ≡ lanes (λ t. dwLane old t i)
+        dws = rw (ev, ws, ds, ys)
+
+    module _ {i : ℕ} {old new acc : List Float} (g : Slacks i old new acc) (end : i ≡ s) where
+      pub slacks : Fills 4 dw s (λ t. complement s (at mu t) (reg 4 old w s t) (reg 4 old y s t) (reg 4 old dy s t)) old new
+      unfolding complement
+      slacks = filled (dwLane old) (g .written) end
+
+      pub slacks-ratio : acc ≡ lanes (λ t. largestRatio s (reg 4 new w s t) (reg 4 new dw s t) (reg 4 new y s t) (reg 4 new dy s t))
+      unfolding complement
+      slacks-ratio =
+          ratio-same s (λ t. reg 4 old w s t) (λ t. vec s (dwLane old t)) (λ t. reg 4 old y s t) (λ t. reg 4 old dy s t) (λ t. reg 4 new w s t) (λ t. reg 4 new dw s t) (λ t. reg 4 new y s t) (λ t. reg 4 new dy s t) (rw end at (g .ratio))
+          (kept-apart (slacks .kept) aw) (slacks .within) (kept-apart (slacks .kept) ay) (kept-apart (slacks .kept) ad)

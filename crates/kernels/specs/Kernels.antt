@@ -10,6 +10,12 @@ use Rattle.lanes.specs.Arithmetic.{_⊕_, _⊖_, _⊗_, _⊘_, null}
 use Rattle.lanes.specs.Region.{reg, Kept}
 use Rattle.rows.specs.Parts.{plusRow, lessRow, plusCol, lessCol}
 
+-- two regions of n entries from o and p, one after the other, are written, lane t of them being the lists `A t` and `B t`, and nothing else has changed
+pub record FillsTwo (o p n : ℕ) (A B : ℕ → List Float) (old new : List Float) : Type 0 where
+  pub kept : Kept 4 o (2 * n) old new
+  pub first : (t : ℕ) → t < 4 → reg 4 new o n t ≡ A t
+  pub second : (t : ℕ) → t < 4 → reg 4 new p n t ≡ B t
+
 -- three regions of n entries from o, p and q, one after the other, are written, lane t of them being the lists `A t`, `B t` and `C t`, and nothing else has changed
 pub record FillsThree (o p q n : ℕ) (A B C : ℕ → List Float) (old new : List Float) : Type 0 where
   pub kept : Kept 4 o (3 * n) old new

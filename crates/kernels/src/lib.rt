@@ -11,7 +11,7 @@ ghost use Rattle.machine.specs.Machine.{complement, largestRatio, moved};
 ghost use Rattle.lanes.specs.Lanes.{lanes};
 ghost use Rattle.lanes.specs.Region.{reg, Fills, Apart};
 ghost use Rattle.rows.specs.Parts.{Rows, Cols};
-ghost use Rattle.kernels.specs.Kernels.{FillsThree, costAt, overAt, uAt, dxAt, qAt, fAt, rAt};
+ghost use Rattle.kernels.specs.Kernels.{FillsTwo, FillsThree, costAt, overAt, uAt, dxAt, qAt, fAt, rAt};
 use lanes::add4;
 use lanes::div4;
 use lanes::get4;
@@ -182,8 +182,8 @@ pub fn rhs_f(
     }
 }
 
-// dx, in place of the reduced costs, given mu/x.
-pub fn compute_dx(
+// dx, in place of the reduced costs, and dz, in place of mu/x; the largest ratio of both.
+pub fn column_changes(
     toff: &[u32],
     rows: &[u32],
     places: &[u32],
@@ -192,50 +192,61 @@ pub fn compute_dx(
     x: usize,
     z: usize,
     dy: usize,
-    over: usize,
-    out: usize,
+    dx: usize,
+    dz: usize,
     n: usize,
     m: usize,
-)
-    requires { ⌜ Cols n m (now toff) (now rows) (now places) (now vals) × Apart x n out n × Apart z n out n × Apart dy m out n × Apart over n out n × (4 * (x + n) ≤ length (now work)) × (4 * (z + n) ≤ length (now work)) × (4 * (dy + m) ≤ length (now work)) × (4 * (over + n) ≤ length (now work)) × (4 * (out + n) ≤ length (now work)) ⌝ }
-    ensures { λ _. ⌜ Fills 4 out n (λ t. vec n (dxAt (now (toff .entry)) (now (rows .entry)) (now (places .entry)) (now (vals .entry)) (reg 4 (now (work .entry)) out n t) (reg 4 (now (work .entry)) over n t) (reg 4 (now (work .entry)) x n t) (reg 4 (now (work .entry)) z n t) (reg 4 (now (work .entry)) dy m t))) (now (work .entry)) (now (work .exit)) ⌝ }
+    mu: [f64; 4],
+) -> [f64; 4]
+    requires { ⌜ Cols n m (now toff) (now rows) (now places) (now vals) × (dz ≡ dx + n) × Apart x n dx (2 * n) × Apart z n dx (2 * n) × Apart dy m dx (2 * n) × (4 * (x + n) ≤ length (now work)) × (4 * (z + n) ≤ length (now work)) × (4 * (dy + m) ≤ length (now work)) × (4 * (dx + 2 * n) ≤ length (now work)) ⌝ }
+    ensures { λ r. ⌜ FillsTwo dx dz n (λ t. vec n (dxAt (now (toff .entry)) (now (rows .entry)) (now (places .entry)) (now (vals .entry)) (reg 4 (now (work .entry)) dx n t) (reg 4 (now (work .entry)) dz n t) (reg 4 (now (work .entry)) x n t) (reg 4 (now (work .entry)) z n t) (reg 4 (now (work .entry)) dy m t))) (λ t. complement n (at mu t) (reg 4 (now (work .entry)) z n t) (reg 4 (now (work .entry)) x n t) (reg 4 (now (work .exit)) dx n t)) (now (work .entry)) (now (work .exit)) × (r ≡ lanes (λ t. largestRatio n (reg 4 (now (work .exit)) x n t) (reg 4 (now (work .exit)) dx n t) (reg 4 (now (work .exit)) z n t) (reg 4 (now (work .exit)) dz n t))) ⌝ }
 {
     let zero = zero4();
+    let mut acc = zero4();
     let mut e = 0;
     while e < n {
         let da = col_plus(toff, rows, places, vals, work, dy, n, m, e, zero);
-        let d = get4(work, out + e);
-        let q = get4(work, over + e);
+        let d = get4(work, dx + e);
+        let q = get4(work, dz + e);
         let xe = get4(work, x + e);
         let ze = get4(work, z + e);
-        let v = dx_in(d, da, q, xe, ze);
-        put4(work, out + e, v);
+        let dxe = dx_in(d, da, q, xe, ze);
+        let dze = complement_in(mu, ze, dxe, xe);
+        let t = ratio_in(acc, dxe, xe, dze, ze);
+        put4(work, dx + e, dxe);
+        put4(work, dz + e, dze);
+        acc = t;
         e += 1;
     }
+    acc
 }
 
-// dz of z, x, dx; dw of w, y, dy.
-pub fn compute_complement(
+// dw of w, y, dy, over the slack rows; the largest ratio of dw and dy.
+pub fn slack_changes(
     work: &mut [f64],
-    p: usize,
-    r: usize,
-    dr: usize,
-    out: usize,
-    k: usize,
+    w: usize,
+    y: usize,
+    dy: usize,
+    dw: usize,
+    s: usize,
     mu: [f64; 4],
-)
-    requires { ⌜ Apart p k out k × Apart r k out k × Apart dr k out k × (4 * (p + k) ≤ length (now work)) × (4 * (r + k) ≤ length (now work)) × (4 * (dr + k) ≤ length (now work)) × (4 * (out + k) ≤ length (now work)) ⌝ }
-    ensures { λ _. ⌜ Fills 4 out k (λ t. complement k (at mu t) (reg 4 (now (work .entry)) p k t) (reg 4 (now (work .entry)) r k t) (reg 4 (now (work .entry)) dr k t)) (now (work .entry)) (now (work .exit)) ⌝ }
+) -> [f64; 4]
+    requires { ⌜ Apart w s dw s × Apart y s dw s × Apart dy s dw s × (4 * (w + s) ≤ length (now work)) × (4 * (y + s) ≤ length (now work)) × (4 * (dy + s) ≤ length (now work)) × (4 * (dw + s) ≤ length (now work)) ⌝ }
+    ensures { λ r. ⌜ Fills 4 dw s (λ t. complement s (at mu t) (reg 4 (now (work .entry)) w s t) (reg 4 (now (work .entry)) y s t) (reg 4 (now (work .entry)) dy s t)) (now (work .entry)) (now (work .exit)) × (r ≡ lanes (λ t. largestRatio s (reg 4 (now (work .exit)) w s t) (reg 4 (now (work .exit)) dw s t) (reg 4 (now (work .exit)) y s t) (reg 4 (now (work .exit)) dy s t))) ⌝ }
 {
-    let mut e = 0;
-    while e < k {
-        let pe = get4(work, p + e);
-        let de = get4(work, dr + e);
-        let re = get4(work, r + e);
-        let v = complement_in(mu, pe, de, re);
-        put4(work, out + e, v);
-        e += 1;
+    let mut acc = zero4();
+    let mut i = 0;
+    while i < s {
+        let wi = get4(work, w + i);
+        let di = get4(work, dy + i);
+        let yi = get4(work, y + i);
+        let v = complement_in(mu, wi, di, yi);
+        let t = ratio_in(acc, v, wi, di, yi);
+        put4(work, dw + i, v);
+        acc = t;
+        i += 1;
     }
+    acc
 }
 
 pub fn vector_update(work: &mut [f64], p: usize, dp: usize, k: usize, h: [f64; 4])
@@ -304,24 +315,6 @@ pub fn squares_and_products(work: &[f64], p: usize, q: usize, k: usize) -> Sums
         e += 1;
     }
     Sums { squares, products }
-}
-
-pub fn theta_of(work: &[f64], a: usize, da: usize, b: usize, db: usize, k: usize) -> [f64; 4]
-    requires { ⌜ (4 * (a + k) ≤ length (now work)) × (4 * (da + k) ≤ length (now work)) × (4 * (b + k) ≤ length (now work)) × (4 * (db + k) ≤ length (now work)) ⌝ }
-    ensures { λ r. ⌜ r ≡ lanes (λ t. largestRatio k (reg 4 (now (work .entry)) a k t) (reg 4 (now (work .entry)) da k t) (reg 4 (now (work .entry)) b k t) (reg 4 (now (work .entry)) db k t)) ⌝ }
-{
-    let mut acc = zero4();
-    let mut e = 0;
-    while e < k {
-        let ae = get4(work, a + e);
-        let dae = get4(work, da + e);
-        let be = get4(work, b + e);
-        let dbe = get4(work, db + e);
-        let t = ratio_in(acc, dae, ae, dbe, be);
-        acc = t;
-        e += 1;
-    }
-    acc
 }
 
 pub fn primal_squares(

@@ -19,7 +19,8 @@ use Rattle.machine.specs.Machine.{Problem, LaneData, Settings, standard, State,
 use Rattle.machine.specs.Work.{stepBy}
 use Rattle.machine.proofs.Factor.{fold-same}
 use Rattle.sparse.specs.Sparse.{front, back}
-use Rattle.kernels.specs.Kernels.{FillsThree, costAt, uAt, dxAt, fAt}
+use Rattle.kernels.specs.Kernels.{FillsTwo, FillsThree, costAt, uAt, dxAt, fAt}
+use Rattle.kernels.proofs.Turns.{ratio-same}
 use Rattle.eliminate.specs.Elimination.{KeptTwo, Eliminated}
 use Rattle.eliminate.proofs.Rows.{two-apart}
 use Rattle.links.specs.Planned.{RowsOf, ColsOf, LowOf, HighOf, Holds}
@@ -157,17 +158,17 @@ module _ (A : Problem) where
 
     -- ---- dx, dz and dw of dy, and theta
     module _ (toff rows places : List ℕ) (C : ColsOf A toff rows places) (slack : s ≤ m) where
-      pub changed : {w0 w1 w2 w3 r1 r2 r : List Float}
+      pub changed : {w0 w1 w2 r1 r2 r : List Float}
           → Ready A d mu w0
-          → Fills 4 (2 * n) n (λ t. vec n (dxAt toff rows places (A .vals) (reg 4 w0 (2 * n) n t) (reg 4 w0 (3 * n) n t) (reg 4 w0 0 n t) (reg 4 w0 n n t) (reg 4 w0 (dyAt n m) m t))) w0 w1
-          → Fills 4 (3 * n) n (λ t. complement n (at mu t) (reg 4 w1 n n t) (reg 4 w1 0 n t) (reg 4 w1 (2 * n) n t)) w1 w2
-          → Fills 4 (dwAt n m s) s (λ t. complement s (at mu t) (reg 4 w2 (wAt n m) s t) (reg 4 w2 (yAt n) s t) (reg 4 w2 (dyAt n m) s t)) w2 w3
-          → r1 ≡ lanes (λ t. largestRatio n (reg 4 w3 0 n t) (reg 4 w3 (2 * n) n t) (reg 4 w3 n n t) (reg 4 w3 (3 * n) n t))
-          → r2 ≡ lanes (λ t. largestRatio s (reg 4 w3 (wAt n m) s t) (reg 4 w3 (dwAt n m s) s t) (reg 4 w3 (yAt n) s t) (reg 4 w3 (dyAt n m) s t))
-          → r ≡ lanes (λ t. larger (at r1 t) (at r2 t)) → Changed A H d mu w0 w3 r
-      changed {w0} {w1} {w2} {w3} {r1} {r2} {r} R F1 F2 F3 e1 e2 e = record {
-        still = still-on (still-on s1 s2) s3;
-        worked = λ t b i. record { dx = dx t b i; dz = dz t b i; dy = dy3 t b i; dw = dw t b i };
+          → FillsTwo (2 * n) (3 * n) n (λ t. vec n (dxAt toff rows places (A .vals) (reg 4 w0 (2 * n) n t) (reg 4 w0 (3 * n) n t) (reg 4 w0 0 n t) (reg 4 w0 n n t) (reg 4 w0 (dyAt n m) m t)))
+          (λ t. complement n (at mu t) (reg 4 w0 n n t) (reg 4 w0 0 n t) (reg 4 w1 (2 * n) n t)) w0 w1
+          → r1 ≡ lanes (λ t. largestRatio n (reg 4 w1 0 n t) (reg 4 w1 (2 * n) n t) (reg 4 w1 n n t) (reg 4 w1 (3 * n) n t))
+          → Fills 4 (dwAt n m s) s (λ t. complement s (at mu t) (reg 4 w1 (wAt n m) s t) (reg 4 w1 (yAt n) s t) (reg 4 w1 (dyAt n m) s t)) w1 w2
+          → r2 ≡ lanes (λ t. largestRatio s (reg 4 w2 (wAt n m) s t) (reg 4 w2 (dwAt n m s) s t) (reg 4 w2 (yAt n) s t) (reg 4 w2 (dyAt n m) s t))
+          → r ≡ lanes (λ t. larger (at r1 t) (at r2 t)) → Changed A H d mu w0 w2 r
+      changed {w0} {w1} {w2} {r1} {r2} {r} R F1 e1 F2 e2 e = record {
+        still = still-on s1 s2;
+        worked = λ t b i. record { dx = dx t b i; dz = dz t b i; dy = dy2 t b i; dw = dw t b i };
         largest = ratio;
       }
         where
@@ -175,44 +176,46 @@ module _ (A : Problem) where
           s1 = nums-kept (lAt n m s) (F1 .kept) (omega arith) (before (omega arith)) (before (omega arith)) (after (omega arith)) (after (omega arith))
 
           s2 : Still A (lAt n m s) w1 w2
-          s2 = nums-kept (lAt n m s) (F2 .kept) (omega arith) (before (omega arith)) (before (omega arith)) (after (omega arith)) (after (omega arith))
+          s2 = nums-kept (lAt n m s) (F2 .kept) (omega arith) (before (omega arith)) (before (omega arith)) (before (omega arith)) (before (omega arith))
 
-          s3 : Still A (lAt n m s) w2 w3
-          s3 = nums-kept (lAt n m s) (F3 .kept) (omega arith) (before (omega arith)) (before (omega arith)) (before (omega arith)) (before (omega arith))
+          dy1 : (t : ℕ) → t < 4 → reg 4 w1 (dyAt n m) m t ≡ reg 4 w0 (dyAt n m) m t
+          dy1 t b = same (dyAt n m) m (F1 .kept) (after (omega arith)) t b
 
           dy2 : (t : ℕ) → t < 4 → reg 4 w2 (dyAt n m) m t ≡ reg 4 w0 (dyAt n m) m t
-          dy2 t b = same (dyAt n m) m (F2 .kept) (after (omega arith)) t b ∙ same (dyAt n m) m (F1 .kept) (after (omega arith)) t b
+          dy2 t b = same (dyAt n m) m (F2 .kept) (before (omega arith)) t b ∙ dy1 t b
 
-          dy3 : (t : ℕ) → t < 4 → reg 4 w3 (dyAt n m) m t ≡ reg 4 w0 (dyAt n m) m t
-          dy3 t b = same (dyAt n m) m (F3 .kept) (before (omega arith)) t b ∙ dy2 t b
+          -- the slack rows leave the columns alone
+          column : (o : ℕ) → o + n ≤ 4 * n → (t : ℕ) → t < 4 → reg 4 w2 o n t ≡ reg 4 w1 o n t
+          column o h t b = same o n (F2 .kept) (before (omega arith)) t b
 
           dx1 : (t : ℕ) → t < 4 → reg 4 w1 (2 * n) n t ≡ dxOf A H (d t) (numbersIn A w0 t) (at mu t) (reg 4 w0 (dyAt n m) m t)
-          dx1 t b = F1 .within t b ∙ rw (R .costs t b, R .quotients t b) (dx-machine A H (d t) (numbersIn A w0 t) toff rows places C (at mu t) (reg 4 w0 (dyAt n m) m t))
+          dx1 t b = F1 .first t b ∙ rw (R .costs t b, R .quotients t b) (dx-machine A H (d t) (numbersIn A w0 t) toff rows places C (at mu t) (reg 4 w0 (dyAt n m) m t))
 
-          dx : (t : ℕ) → t < 4 → reg 4 w3 (2 * n) n t ≡ dxOf A H (d t) (numbersIn A w0 t) (at mu t) (reg 4 w0 (dyAt n m) m t)
-          dx t b = same (2 * n) n (F3 .kept) (before (omega arith)) t b ∙ same (2 * n) n (F2 .kept) (before (omega arith)) t b ∙ dx1 t b
+          dx : (t : ℕ) → t < 4 → reg 4 w2 (2 * n) n t ≡ dxOf A H (d t) (numbersIn A w0 t) (at mu t) (reg 4 w0 (dyAt n m) m t)
+          dx t b = column (2 * n) (omega arith) t b ∙ dx1 t b
 
-          dz : (t : ℕ) → t < 4 → reg 4 w3 (3 * n) n t ≡ complement n (at mu t) (reg 4 w0 n n t) (reg 4 w0 0 n t) (dxOf A H (d t) (numbersIn A w0 t) (at mu t) (reg 4 w0 (dyAt n m) m t))
-          dz t b =
-              same (3 * n) n (F3 .kept) (before (omega arith)) t b
-              ∙ F2 .within t b
-              ∙ ap (λ (q : State). complement n (at mu t) (q .z) (q .x) (reg 4 w1 (2 * n) n t)) (s1 .kept t b)
-              ∙ ap (complement n (at mu t) (reg 4 w0 n n t) (reg 4 w0 0 n t)) (dx1 t b)
+          dz : (t : ℕ) → t < 4 → reg 4 w2 (3 * n) n t ≡ complement n (at mu t) (reg 4 w0 n n t) (reg 4 w0 0 n t) (dxOf A H (d t) (numbersIn A w0 t) (at mu t) (reg 4 w0 (dyAt n m) m t))
+          dz t b = column (3 * n) (omega arith) t b ∙ F1 .second t b ∙ ap (complement n (at mu t) (reg 4 w0 n n t) (reg 4 w0 0 n t)) (dx1 t b)
 
-          dw : (t : ℕ) → t < 4 → reg 4 w3 (dwAt n m s) s t ≡ complement s (at mu t) (reg 4 w0 (wAt n m) s t) (reg 4 w0 (yAt n) m t) (reg 4 w0 (dyAt n m) m t)
+          dw : (t : ℕ) → t < 4 → reg 4 w2 (dwAt n m s) s t ≡ complement s (at mu t) (reg 4 w0 (wAt n m) s t) (reg 4 w0 (yAt n) m t) (reg 4 w0 (dyAt n m) m t)
           dw t b =
-              F3 .within t b
-              ∙ other-front w2 s m t (at mu t) (reg 4 w2 (wAt n m) s t) (yAt n) (dyAt n m) slack
-              ∙ ap (λ (q : State). complement s (at mu t) (q .w) (q .y) (reg 4 w2 (dyAt n m) m t)) (s2 .kept t b ∙ s1 .kept t b)
-              ∙ ap (complement s (at mu t) (reg 4 w0 (wAt n m) s t) (reg 4 w0 (yAt n) m t)) (dy2 t b)
+              F2 .within t b
+              ∙ other-front w1 s m t (at mu t) (reg 4 w1 (wAt n m) s t) (yAt n) (dyAt n m) slack
+              ∙ ap (λ (q : State). complement s (at mu t) (q .w) (q .y) (reg 4 w1 (dyAt n m) m t)) (s1 .kept t b)
+              ∙ ap (complement s (at mu t) (reg 4 w0 (wAt n m) s t) (reg 4 w0 (yAt n) m t)) (dy1 t b)
 
-          ratio : (t : ℕ) → t < 4 → at r t ≡ theta A H (d t) (numbersIn A w3 t) (directionIn A w3 t)
+          columns : r1 ≡ lanes (λ t. largestRatio n (reg 4 w2 0 n t) (reg 4 w2 (2 * n) n t) (reg 4 w2 n n t) (reg 4 w2 (3 * n) n t))
+          columns =
+              ratio-same n (λ t. reg 4 w1 0 n t) (λ t. reg 4 w1 (2 * n) n t) (λ t. reg 4 w1 n n t) (λ t. reg 4 w1 (3 * n) n t) (λ t. reg 4 w2 0 n t) (λ t. reg 4 w2 (2 * n) n t) (λ t. reg 4 w2 n n t) (λ t. reg 4 w2 (3 * n) n t) e1
+              (column 0 (omega arith)) (column (2 * n) (omega arith)) (column n (omega arith)) (column (3 * n) (omega arith))
+
+          ratio : (t : ℕ) → t < 4 → at r t ≡ theta A H (d t) (numbersIn A w2 t) (directionIn A w2 t)
           ratio t b =
               lane-of (λ t. larger (at r1 t) (at r2 t)) e t b
               ∙ rw (
-                lane-of (λ t. largestRatio n (reg 4 w3 0 n t) (reg 4 w3 (2 * n) n t) (reg 4 w3 n n t) (reg 4 w3 (3 * n) n t)) e1 t b,
-                lane-of (λ t. largestRatio s (reg 4 w3 (wAt n m) s t) (reg 4 w3 (dwAt n m s) s t) (reg 4 w3 (yAt n) s t) (reg 4 w3 (dyAt n m) s t)) e2 t b,
-                largestRatio-front w3 s m t (reg 4 w3 (wAt n m) s t) (reg 4 w3 (dwAt n m s) s t) (yAt n) (dyAt n m) slack,
+                lane-of (λ t. largestRatio n (reg 4 w2 0 n t) (reg 4 w2 (2 * n) n t) (reg 4 w2 n n t) (reg 4 w2 (3 * n) n t)) columns t b,
+                lane-of (λ t. largestRatio s (reg 4 w2 (wAt n m) s t) (reg 4 w2 (dwAt n m s) s t) (reg 4 w2 (yAt n) s t) (reg 4 w2 (dyAt n m) s t)) e2 t b,
+                largestRatio-front w2 s m t (reg 4 w2 (wAt n m) s t) (reg 4 w2 (dwAt n m s) s t) (yAt n) (dyAt n m) slack,
               ) (unfold theta in refl)
 
     -- ---- the step worked out: the right-hand side, the factor, the two substitutions, the changes

@@ -17,12 +17,11 @@ ghost use Rattle.links.specs.Prepared.{Prepared};
 ghost use Rattle.tests.specs.Layout.{lAt, numbersAt, Lent};
 ghost use Rattle.step.specs.Steps.{Ready, RightSide, Changed, Directed, Advanced, Took, Fresh, Centred, LanesStep};
 use eliminate::factor_solve;
-use kernels::compute_complement;
-use kernels::compute_dx;
+use kernels::column_changes;
 use kernels::one4;
 use kernels::rhs_f;
 use kernels::rhs_u;
-use kernels::theta_of;
+use kernels::slack_changes;
 use kernels::vector_set;
 use kernels::vector_update;
 use lanes::LaneState;
@@ -87,11 +86,8 @@ fn compute_dx_dz_dw(
     let dy = y + m;
     let w = dy + m + m;
     let dw = w + s;
-    compute_dx(cp, ci, cm, vals, work, 0, n, dy, dz, dx, n, m);
-    compute_complement(work, n, 0, dx, dz, n, mu);
-    compute_complement(work, w, y, dy, dw, s, mu);
-    let p = theta_of(work, 0, dx, n, dz, n);
-    let q = theta_of(work, w, dw, y, dy, s);
+    let p = column_changes(cp, ci, cm, vals, work, 0, n, dy, dx, dz, n, m, mu);
+    let q = slack_changes(work, w, y, dy, dw, s, mu);
     larger4(p, q)
 }
 
