@@ -1,11 +1,10 @@
 -- From the nearest whole number to the root's pattern. Assumes nothing.
 use mathlib.Core.Path.{_≡_, sym, ap, _∙_, subst}
 use Prim.Native.Nat.{ℕ, _+_, _-_, _*_, _/_, _%_, _^_, _≤_, _<_}
-use native.Mathlib.Nat.{mod-eq-of-lt}
 use native.Mathlib.Numerals.{add-one}
 use native.Mathlib.Decide.{decLe}
 use native.Mathlib.Omega.{arith}
-use lib.Bits.{bitOr, bitXor, or-lt, xor-lt, xor-shr, xor-add-and, and-le-l, and-le-r}
+use lib.Bits.{bitOr, or-lt}
 use lib.Ieee.{nearest}
 use Rattle.root.specs.Root.{rootBits}
 use Rattle.root.specs.Steps.{Unpacks, Halved}
@@ -18,23 +17,33 @@ use Rattle.root4.proofs.Exact.{or-none}
 
 -- ---- d * 2 ^ 52 under the root
 
-module _ (b field : ℕ) where
-  raise : b / 2 ^ 52 ≡ field + 1 → field ≤ 2045 → Unpacks b (2 ^ 52 + b % 2 ^ 52) (field + 1 - 1 + 1074)
-  raise e h = subst (λ (x : ℕ). Unpacks b (2 ^ 52 + b % 2 ^ 52) (x - 1 + 1074)) e (normal b (omega arith) (λ (z : b / 2 ^ 52 ≡ 0). omega arith))
+module _ (r b : ℕ) (e : r ≡ b + 1021 * 2 ^ 52) (l : 1 ≤ b / 2 ^ 52) (u : b / 2 ^ 52 ≤ 2046) where
+  same-digits : 2 ^ 52 + b % 2 ^ 52 ≡ 2 ^ 52 + r % 2 ^ 52
+  same-digits = omega arith
 
-  half-is : (field + 1 - 1 + 1074 - 52) / 2 ≡ (field + 1022) / 2
+  half-is : (b / 2 ^ 52 - 1 + 1074 - 52) / 2 ≡ r / 2 ^ 53
   half-is = omega arith
 
-  pub odd-field : field % 2 ≡ 0 → Radicand b field (2 ^ 52 + b % 2 ^ 52)
-  odd-field e = record {
-    normal = λ l h. subst (Halved b (2 ^ 52 + b % 2 ^ 52)) half-is (even-place b (2 ^ 52 + b % 2 ^ 52) (field + 1 - 1 + 1074) (raise l h) (omega arith));
+  unpacks : Unpacks b (2 ^ 52 + r % 2 ^ 52) (b / 2 ^ 52 - 1 + 1074)
+  unpacks = subst (λ (x : ℕ). Unpacks b x (b / 2 ^ 52 - 1 + 1074)) same-digits (normal b (omega arith) (λ (z : b / 2 ^ 52 ≡ 0). omega arith))
+
+  once : r / 2 ^ 52 % 2 ≡ 0 → Halved b (2 ^ 52 + r % 2 ^ 52) (r / 2 ^ 53)
+  once z = subst (Halved b (2 ^ 52 + r % 2 ^ 52)) half-is (even-place b (2 ^ 52 + r % 2 ^ 52) (b / 2 ^ 52 - 1 + 1074) unpacks (omega arith))
+
+  twice : (r / 2 ^ 52 % 2 ≡ 0 → ⊥) → Halved b ((2 ^ 52 + r % 2 ^ 52) * 2) (r / 2 ^ 53)
+  twice n = subst (Halved b ((2 ^ 52 + r % 2 ^ 52) * 2)) half-is (odd-place b (2 ^ 52 + r % 2 ^ 52) (b / 2 ^ 52 - 1 + 1074) unpacks (λ z. omega arith))
+
+module _ (r d : ℕ) where
+  pub even-field : r / 2 ^ 52 % 2 ≡ 0 → d ≡ 2 ^ 52 + r % 2 ^ 52 → Radicand r d
+  even-field z e = record {
+    normal = λ b i l u. subst (λ (x : ℕ). Halved b x (r / 2 ^ 53)) (sym e) (once r b i l u z);
     least = omega arith;
     most = omega arith;
   }
 
-  pub even-field : (field % 2 ≡ 0 → ⊥) → Radicand b field ((2 ^ 52 + b % 2 ^ 52) * 2)
-  even-field e = record {
-    normal = λ l h. subst (Halved b ((2 ^ 52 + b % 2 ^ 52) * 2)) half-is (odd-place b (2 ^ 52 + b % 2 ^ 52) (field + 1 - 1 + 1074) (raise l h) (λ z. omega arith));
+  pub odd-field : (r / 2 ^ 52 % 2 ≡ 0 → ⊥) → d ≡ (2 ^ 52 + r % 2 ^ 52) * 2 → Radicand r d
+  odd-field z e = record {
+    normal = λ b i l u. subst (λ (x : ℕ). Halved b x (r / 2 ^ 53)) (sym e) (twice r b i l u z);
     least = omega arith;
     most = omega arith;
   }
@@ -64,53 +73,33 @@ root-bits b d h v s k = go (decLe (v * v) (d * 2 ^ 52))
         rounded-bits b d h w (d * 2 ^ 52 - w * w) s (record { is = omega (arith, k .low); rest = omega (arith, k .low) }) v
         (o ∙ add-one w ∙ sym (ap (nearest w) (above-middle w (d * 2 ^ 52 - w * w) (omega (arith, k .low)))))
 
--- ---- the pattern of a lane
+-- ---- the pattern of a lane: r is b + 1021 * 2 ^ 52, which may wrap, and t is half of it less 766 * 2 ^ 52
 
--- r is b - 2 ^ 52, which may wrap
-field-of : (b r : ℕ) → (r + 2 ^ 52) % 2 ^ 64 ≡ b → r / 2 ^ 52 ≤ 2045 → b / 2 ^ 52 ≡ r / 2 ^ 52 + 1
-field-of b r e h =
-    let s : r + 2 ^ 52 ≡ b = sym (mod-eq-of-lt (under r h)) ∙ e in
-    omega arith
-  where
-    under : (r : ℕ) → r / 2 ^ 52 ≤ 2045 → r + 2 ^ 52 < 2 ^ 64
-    under r h = omega arith
+record Plain (b r : ℕ) : Type 0 where
+  is : r ≡ b + 1021 * 2 ^ 52
+  least : 1 ≤ b / 2 ^ 52
+  most : b / 2 ^ 52 ≤ 2046
 
--- equal numbers alone differ in no digit
-alike : (a b : ℕ) → bitXor a b ≡ 0 → a ≡ b
-alike a b e = omega (arith, xor-add-and a b, and-le-l a b, and-le-r a b)
+plain : (b r t : ℕ) → b < 2 ^ 64 → r ≡ (b + 1021 * 2 ^ 52) % 2 ^ 64 → (t + 766 * 2 ^ 52) % 2 ^ 64 ≡ r / 2 → t / 2 ^ 61 ≡ 0 → Plain b r
+plain b r t l e k z =
+    let h : 766 * 2 ^ 52 ≤ r / 2 = omega arith in
+    let m : r / 2 < 766 * 2 ^ 52 + 2 ^ 61 = omega arith in
+    let i : r ≡ b + 1021 * 2 ^ 52 = omega arith in
+    record { is = i; least = omega arith; most = omega arith }
 
--- c has the field of half of r and 2 ^ 61
-module _ (r c : ℕ) where
-  same-field : bitXor c (r / 2 + 2 ^ 61) / 2 ^ 52 ≡ 0 → c ≡ 2 ^ 52 + c % 2 ^ 52 + (r / 2 ^ 52 + 1022) / 2 * 2 ^ 52
-  same-field e =
-      let s : c / 2 ^ 52 ≡ (r / 2 + 2 ^ 61) / 2 ^ 52 = alike (c / 2 ^ 52) ((r / 2 + 2 ^ 61) / 2 ^ 52) (sym (xor-shr c (r / 2 + 2 ^ 61) 52) ∙ e) in
-      omega arith
+-- c is q and the field of half of r
+placed : (r c q : ℕ) → r < 2 ^ 64 → (q + (r / 2 - r / 2 % 2 ^ 52)) % 2 ^ 64 ≡ c → q < 2 ^ 58 → c ≡ q + r / 2 ^ 53 * 2 ^ 52
+placed r c q l e u = omega arith
 
-  low-field : (r / 2 + (2 ^ 62 + 2 ^ 52)) / 2 ^ 63 ≡ 0 → r / 2 ^ 52 ≤ 2045
-  low-field e = omega arith
-
-module _ (b r d c n : ℕ) (re : (r + 2 ^ 52) % 2 ^ 64 ≡ b) (rl : r < 2 ^ 64) (cl : c < 2 ^ 64) (s : Radicand b (r / 2 ^ 52) d) (m : Nearest d (2 ^ 52 + c % 2 ^ 52) n) where
-  bits-are : bitOr (bitOr n (bitXor c (r / 2 + 2 ^ 61) / 2 ^ 52)) ((r / 2 + (2 ^ 62 + 2 ^ 52)) / 2 ^ 63) ≡ 0 → c ≡ rootBits b
+module _ (b r d c q t n : ℕ) (bl : b < 2 ^ 64) (rl : r < 2 ^ 64) (tl : t < 2 ^ 64) (re : r ≡ (b + 1021 * 2 ^ 52) % 2 ^ 64) (qe : (q + (r / 2 - r / 2 % 2 ^ 52)) % 2 ^ 64 ≡ c) (te : (t + 766 * 2 ^ 52) % 2 ^ 64 ≡ r / 2) (s : Radicand r d) (m : Nearest d q n) where
+  bits-are : bitOr n (t / 2 ^ 61) ≡ 0 → c ≡ rootBits b
   bits-are e =
-      let w = or-none (bitOr n (bitXor c (r / 2 + 2 ^ 61) / 2 ^ 52)) ((r / 2 + (2 ^ 62 + 2 ^ 52)) / 2 ^ 63) e in
-      let v = or-none n (bitXor c (r / 2 + 2 ^ 61) / 2 ^ 52) (w .0) in
-      let f = low-field r c (w .1) in
-      same-field r c (v .1) ∙ root-bits b d ((r / 2 ^ 52 + 1022) / 2) (2 ^ 52 + c % 2 ^ 52) (s .normal (field-of b r re f) f) (m .near (v .0))
+      let w = or-none n (t / 2 ^ 61) e in
+      let p = plain b r t bl re te (w .1) in
+      placed r c q rl qe (m .most (w .0)) ∙ root-bits b d (r / 2 ^ 53) q (s .normal b (p .is) (p .least) (p .most)) (m .near (w .0))
 
-  pub verified-law : VerifiedBits b c (bitOr (bitOr n (bitXor c (r / 2 + 2 ^ 61) / 2 ^ 52)) ((r / 2 + (2 ^ 62 + 2 ^ 52)) / 2 ^ 63))
-  verified-law = record {
-    right = bits-are;
-    bound =
-        or-lt 28 (bitOr n (bitXor c (r / 2 + 2 ^ 61) / 2 ^ 52)) ((r / 2 + (2 ^ 62 + 2 ^ 52)) / 2 ^ 63)
-        (or-lt 28 n (bitXor c (r / 2 + 2 ^ 61) / 2 ^ 52) (m .bound) (bound-of (bitXor c (r / 2 + 2 ^ 61)) (xor-lt 64 c (r / 2 + 2 ^ 61) cl (half-of r rl))))
-        (bit-of r rl);
-  }
+  pub verified-law : VerifiedBits b c (bitOr n (t / 2 ^ 61))
+  verified-law = record { right = bits-are; bound = or-lt 28 n (t / 2 ^ 61) (m .bound) (bound-of t tl) }
     where
-      half-of : (r : ℕ) → r < 2 ^ 64 → r / 2 + 2 ^ 61 < 2 ^ 64
-      half-of r h = omega arith
-
-      bound-of : (a : ℕ) → a < 2 ^ 64 → a / 2 ^ 52 < 2 ^ 28
+      bound-of : (a : ℕ) → a < 2 ^ 64 → a / 2 ^ 61 < 2 ^ 28
       bound-of a h = omega arith
-
-      bit-of : (r : ℕ) → r < 2 ^ 64 → (r / 2 + (2 ^ 62 + 2 ^ 52)) / 2 ^ 63 < 2 ^ 28
-      bit-of r h = omega arith

@@ -2,10 +2,11 @@
 // whether it is the root, or doubts it; where a lane is doubted, `root` works the roots out digit by digit.
 // Doubts are a number and not a branch, so that the four lanes can be worked on together: 0 says that nothing speaks against the estimate.
 // What is returned is the estimate itself, so that nothing waits for the test.
+use std::num::wrapping_add_u64;
 use std::num::wrapping_sub_u64;
 ghost use mathlib.Core.Path.{_≡_};
 ghost use mathlib.Core.List.{map};
-ghost use Prim.Native.Nat.{_^_, _≤_, _<_};
+ghost use Prim.Native.Nat.{_%_, _^_, _≤_, _<_};
 ghost use mathlib.Core.Bool.{not};
 ghost use lib.Dec.{T};
 ghost use lib.Ieee.{binary64, isNan};
@@ -54,78 +55,84 @@ fn refined(x: f64, y: f64, s: f64) -> f64
     high + rest * slope
 }
 
-// The number under the root, as 53 or 54 digits, so that the exponent is even. The exponent's field is counted from 1.
-fn radicand(b: u64, field: u64) -> u64
-    ensures { λ r. ⌜ Radicand b field r ⌝ }
+// The number under the root, as 53 or 54 digits, so that the exponent is even. `raised` is x's pattern and RAISE: where its field is odd, the digits count twice.
+fn radicand(raised: u64) -> u64
+    ensures { λ r. ⌜ Radicand raised r ⌝ }
 {
-    let digits = LEAD + b % LEAD;
-    if field % 2 == 0 { digits } else { digits * 2 }
+    let digits = LEAD + raised % LEAD;
+    let more = if raised / LEAD % 2 == 0 { 0 } else { digits };
+    digits + more
 }
 
-// A number of 53 digits in halves: the lower half has 26 digits, and the upper one counts 2 ^ 26.
+// A number of 58 digits in two parts: the lower one has 26 digits, and the upper one has 32 and counts 2 ^ 26. Digits above are left out.
 const HALF: u64 = 0x0400_0000;
+
+const HIGH: u64 = 0x0001_0000_0000;
 
 // The second difference counts 2 ^ 27, since the product of the halves is taken twice; it is 25 digits below the first.
 const FIRST_SHIFT: u64 = 25;
 
 const SECOND_SHIFT: u64 = 27;
 
-// 2 ^ 55: it is added to the residual, so that one below zero does not wrap. It is OFFSET_STEPS times 2 ^ 52.
-const OFFSET: u64 = 0x0080_0000_0000_0000;
-
-const OFFSET_STEPS: u64 = 8;
-
-// Below this, the first and the second difference can be shifted: 2 ^ 36.
+// Below this, the first difference can be shifted, and the second with MIDDLE added, since it may be below zero: 2 ^ 36 and 2 ^ 35.
 const LIMIT: u64 = 0x0010_0000_0000;
+
+const MIDDLE: u64 = 0x0008_0000_0000;
 
 struct Difference {
     value: u64,
     doubts: u64,
 }
 
-// d * 2 ^ 52 - q * q + OFFSET, by the squares of q's halves. Each step is exact where the one before left few digits.
+// d * 2 ^ 52 - q * q, which may be below zero, by the squares of q's halves. Each step is exact where the one before left few digits.
 fn residual(d: u64, q: u64) -> Difference
-    requires { ⌜ (2 ^ 52 ≤ d) × (d < 2 ^ 54) × (2 ^ 52 ≤ q) × (q < 2 ^ 53) ⌝ }
-    ensures { λ r. ⌜ Residual d q (r .value) (r .doubts) ⌝ }
+    requires { ⌜ (2 ^ 52 ≤ d) × (d < 2 ^ 54) ⌝ }
+    ensures { λ r. ⌜ Residual d (q % 2 ^ 58) (r .value) (r .doubts) ⌝ }
 {
-    let high = q / HALF;
+    let high = q / HALF % HIGH;
     let low = q % HALF;
-    let first = wrapping_sub_u64(d + OFFSET_STEPS, high * high);
+    let first = wrapping_sub_u64(d, high * high);
     let second = wrapping_sub_u64(first << FIRST_SHIFT, high * low);
     let third = wrapping_sub_u64(second << SECOND_SHIFT, low * low);
     Difference {
         value: third,
-        doubts: (first | second) / LIMIT,
+        doubts: (first | wrapping_add_u64(second, MIDDLE)) / LIMIT,
     }
 }
 
+// 2 ^ 58: where both differences are below it, so is q, and no digit of it was left out.
+const ALL: u64 = 0x0400_0000_0000_0000;
+
 // The doubts that q is the nearest whole number to the root of d * 2 ^ 52. With z = d * 2 ^ 52 - q * q: it is where -q < z <= q.
 fn nearest(d: u64, q: u64) -> u64
-    requires { ⌜ (2 ^ 52 ≤ d) × (d < 2 ^ 54) × (2 ^ 52 ≤ q) × (q < 2 ^ 53) ⌝ }
+    requires { ⌜ (2 ^ 52 ≤ d) × (d < 2 ^ 54) ⌝ }
     ensures { λ r. ⌜ Nearest d q r ⌝ }
 {
     let r = residual(d, q);
     let z = r.value;
-    let up = wrapping_sub_u64(q + OFFSET, z);
-    let down = wrapping_sub_u64(z, OFFSET + 1 - q);
-    r.doubts | (up | down) / SIGN
+    let up = wrapping_sub_u64(q, z);
+    let down = wrapping_sub_u64(z, wrapping_sub_u64(1, q));
+    r.doubts | (up | down) / ALL
 }
 
-// 512 times LEAD: half of x's pattern, counted from LEAD, and this have the exponent's field of the root.
-const ROOT_FIELD: u64 = 0x2000_0000_0000_0000;
+// 1021 times LEAD: half of the field of x's pattern with this added is one below the root's field, and the leading digit is the one.
+const RAISE: u64 = 0x3FD0_0000_0000_0000;
 
-// 2 ^ 62 + 2 ^ 52: half of x's pattern, counted from LEAD, and this are below SIGN for the positive normal numbers alone.
-const NORMAL: u64 = 0x4010_0000_0000_0000;
+// Half of a raised pattern is from LEAST on, and less than RANGE above it, for the numbers from 2 ^ -512 to 2 ^ 512 alone: 766 times LEAD, and 2 ^ 61.
+// The others are doubted.
+const LEAST: u64 = 0x2FE0_0000_0000_0000;
 
-// The doubts that c is the pattern of the root of the number with the pattern b.
+const RANGE: u64 = 0x2000_0000_0000_0000;
+
+// The doubts that c is the pattern of the root of the number with the pattern b. Where c's field is wrong, its difference from the field of half is no root.
 fn verify_bits(b: u64, c: u64) -> u64
     ensures { λ r. ⌜ VerifiedBits b c r ⌝ }
 {
-    let above = wrapping_sub_u64(b, LEAD);
-    let half = above / 2;
-    let d = radicand(b, above / LEAD);
-    let digits = nearest(d, LEAD + c % LEAD);
-    digits | (c ^ (half + ROOT_FIELD)) / LEAD | (half + NORMAL) / SIGN
+    let raised = wrapping_add_u64(b, RAISE);
+    let half = raised / 2;
+    let d = radicand(raised);
+    let digits = nearest(d, wrapping_sub_u64(c, half - half % LEAD));
+    digits | wrapping_sub_u64(half, LEAST) / RANGE
 }
 
 // The doubts that `near` is the root of x.
