@@ -98,8 +98,18 @@ module _ (b r d c q t n : ℕ) (bl : b < 2 ^ 64) (rl : r < 2 ^ 64) (tl : t < 2 ^
       let p = plain b r t bl re te (w .1) in
       placed r c q rl qe (m .most (w .0)) ∙ root-bits b d (r / 2 ^ 53) q (s .normal b (p .is) (p .least) (p .most)) (m .near (w .0))
 
+  bits-small : bitOr n (t / 2 ^ 61) ≡ 0 → c < 2 ^ 62 + 2 ^ 61
+  bits-small e =
+      let w = or-none n (t / 2 ^ 61) e in
+      low-of r c q t (placed r c q rl qe (m .most (w .0))) (m .most (w .0)) te (w .1)
+    where
+      low-of : (r c q t : ℕ) → c ≡ q + r / 2 ^ 53 * 2 ^ 52 → q < 2 ^ 58 → (t + 766 * 2 ^ 52) % 2 ^ 64 ≡ r / 2 → t / 2 ^ 61 ≡ 0 → c < 2 ^ 62 + 2 ^ 61
+      low-of r c q t i u k z =
+          let h : r / 2 < 766 * 2 ^ 52 + 2 ^ 61 = omega arith in
+          omega arith
+
   pub verified-law : VerifiedBits b c (bitOr n (t / 2 ^ 61))
-  verified-law = record { right = bits-are; bound = or-lt 28 n (t / 2 ^ 61) (m .bound) (bound-of t tl) }
+  verified-law = record { right = bits-are; small = bits-small; bound = or-lt 28 n (t / 2 ^ 61) (m .bound) (bound-of t tl) }
     where
       bound-of : (a : ℕ) → a < 2 ^ 64 → a / 2 ^ 61 < 2 ^ 28
       bound-of a h = omega arith

@@ -1,9 +1,17 @@
 -- What the steps of a lane's exact test promise. Definitions only.
 use mathlib.Core.Path.{_≡_}
 use Prim.Native.Nat.{ℕ, _+_, _*_, _/_, _%_, _^_, _≤_, _<_}
-use lib.Ieee.{Float, binary64}
+use mathlib.Core.Bool.{not}
+use mathlib.Core.Logic.{_⊎_}
+use lib.Dec.{T}
+use lib.Ieee.{Float, binary64, isNan, toBits}
 use Rattle.root.specs.Root.{root, rootBits}
 use Rattle.root.specs.Steps.{Halved}
+
+-- r is x, or it is large, and it is no NaN
+pub record Bounded (x r : Float) : Type 0 where
+  pub number : T (not (isNan r))
+  pub is : (r ≡ x) ⊎ (2 ^ 62 + 2 ^ 61 ≤ toBits binary64 r)
 
 -- d is the number under the root: where b is the pattern of a positive normal number, r is b + 1021 * 2 ^ 52 and h is r / 2 ^ 53, b stands for d * 2 ^ 52 * 4 ^ h / 4 ^ 1074.
 pub record Radicand (r d : ℕ) : Type 0 where
@@ -36,6 +44,7 @@ pub record Nearest (d q doubts : ℕ) : Type 0 where
 -- c is the root's pattern, where nothing is doubted
 pub record VerifiedBits (b c doubts : ℕ) : Type 0 where
   pub right : doubts ≡ 0 → c ≡ rootBits b
+  pub small : doubts ≡ 0 → c < 2 ^ 62 + 2 ^ 61
   pub bound : doubts < 2 ^ 28
 
 -- near is the root of x, where nothing is doubted

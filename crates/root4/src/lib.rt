@@ -11,7 +11,7 @@ ghost use mathlib.Core.Bool.{not};
 ghost use lib.Dec.{T};
 ghost use lib.Ieee.{binary64, isNan};
 ghost use Rattle.root.specs.Root.{root as ieeeRoot};
-ghost use Rattle.root4.specs.Verified.{Radicand, Residual, Nearest, VerifiedBits, VerifiedRoot};
+ghost use Rattle.root4.specs.Verified.{Bounded, Radicand, Residual, Nearest, VerifiedBits, VerifiedRoot};
 
 // The weight of the exponent's field in a pattern, and of the leading digit in a significand: 2 ^ 52.
 const LEAD: u64 = 0x0010_0000_0000_0000;
@@ -36,6 +36,16 @@ fn half_reciprocal(x: f64) -> f64
     SECOND_FACTOR * y1 - twice * y1 * (y1 * y1)
 }
 
+// No number below 2 ^ 512 has a root as large as this.
+const LARGE: f64 = 1.0e300;
+
+// x where it is below LARGE, and never a NaN, so that it has a pattern. It is one instruction for two lanes, where a test for NaN would be a branch.
+fn bounded(x: f64) -> f64
+    ensures { λ r. ⌜ Bounded x r ⌝ }
+{
+    if x < LARGE { x } else { LARGE }
+}
+
 // 2 ^ 27: a number whose pattern is a multiple of it has 26 digits at most, and its square is exact.
 const LOW: u64 = 0x0800_0000;
 
@@ -44,10 +54,8 @@ const THIRD_FACTOR: f64 = 1.7500000000006;
 
 // A number nearer to √x than s = 2 * x * y, where y is near 1 / (2 * √x). With high for the upper half of s, √x is
 // high + (x - high * high) / (√x + high), and the slope is near 1 / (√x + high). No promise rests on it; all but some one in 2,000 are the root.
-fn refined(x: f64, y: f64, s: f64) -> f64
-    requires { ⌜ T (not (isNan s)) ⌝ }
-{
-    let bits = f64::to_bits(s);
+fn refined(x: f64, y: f64, s: f64) -> f64 {
+    let bits = f64::to_bits(bounded(s));
     let high = f64::from_bits(bits - bits % LOW);
     let rest = x - high * high;
     let k = y * y;
@@ -137,10 +145,10 @@ fn verify_bits(b: u64, c: u64) -> u64
 
 // The doubts that `near` is the root of x.
 fn verify(x: f64, near: f64) -> u64
-    requires { ⌜ T (not (isNan x)) × T (not (isNan near)) ⌝ }
+    requires { ⌜ T (not (isNan x)) ⌝ }
     ensures { λ r. ⌜ VerifiedRoot x near r ⌝ }
 {
-    verify_bits(f64::to_bits(x), f64::to_bits(near))
+    verify_bits(f64::to_bits(x), f64::to_bits(bounded(near)))
 }
 
 // One lane; where it is doubted, digit by digit.
@@ -149,14 +157,9 @@ fn root_lane(x: f64) -> f64
 {
     if x == x {
         let y = half_reciprocal(x);
-        let s = (x + x) * y;
-        if s == s {
-            let near = refined(x, y, s);
-            if near == near {
-                if verify(x, near) == 0 {
-                    return near;
-                }
-            }
+        let near = refined(x, y, (x + x) * y);
+        if verify(x, near) == 0 {
+            return near;
         }
     }
     root::root(x)
@@ -176,26 +179,16 @@ pub fn root4(x: [f64; 4]) -> [f64; 4]
         let y1 = half_reciprocal(x1);
         let y2 = half_reciprocal(x2);
         let y3 = half_reciprocal(x3);
-        let s0 = (x0 + x0) * y0;
-        let s1 = (x1 + x1) * y1;
-        let s2 = (x2 + x2) * y2;
-        let s3 = (x3 + x3) * y3;
-        let sums = s0 + s2 + (s1 + s3);
-        if sums == sums {
-            let r0 = refined(x0, y0, s0);
-            let r1 = refined(x1, y1, s1);
-            let r2 = refined(x2, y2, s2);
-            let r3 = refined(x3, y3, s3);
-            let all = r0 + r2 + (r1 + r3);
-            if all == all {
-                let v0 = verify(x0, r0);
-                let v1 = verify(x1, r1);
-                let v2 = verify(x2, r2);
-                let v3 = verify(x3, r3);
-                if v0 + v2 + (v1 + v3) == 0 {
-                    return [r0, r1, r2, r3];
-                }
-            }
+        let r0 = refined(x0, y0, (x0 + x0) * y0);
+        let r1 = refined(x1, y1, (x1 + x1) * y1);
+        let r2 = refined(x2, y2, (x2 + x2) * y2);
+        let r3 = refined(x3, y3, (x3 + x3) * y3);
+        let v0 = verify(x0, r0);
+        let v1 = verify(x1, r1);
+        let v2 = verify(x2, r2);
+        let v3 = verify(x3, r3);
+        if v0 + v2 + (v1 + v3) == 0 {
+            return [r0, r1, r2, r3];
         }
     }
     [root_lane(x0), root_lane(x1), root_lane(x2), root_lane(x3)]

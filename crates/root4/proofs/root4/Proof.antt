@@ -12,11 +12,8 @@ use Rattle.root4.proofs.root4.Tie as tie
 operands : (c : tie.Then1) → let x = c .before .args .t1 in NoNan4 (getD x 0 nan) (getD x 1 nan) (getD x 2 nan) (getD x 3 nan)
 operands c = summed _ _ _ _ (same-no-nan _ (c .if1 .taken))
 
-estimates : (c : tie.Then3) → let n = c .before in NoNan4 (n .before .before .before .refined .result) (n .before .before .refined2 .result) (n .before .refined3 .result) (n .refined4 .result)
-estimates c = summed _ _ _ _ (same-no-nan _ (c .if3 .taken))
-
-undoubted : (c : tie.Then4) → let n = c .before in Zero4 (n .before .before .before .verify .result) (n .before .before .verify2 .result) (n .before .verify3 .result) (n .verify4 .result)
-undoubted c = zeros _ _ _ _ (c .if4 .taken)
+undoubted : (c : tie.Then2) → let n = c .before in Zero4 (n .before .before .before .verify .result) (n .before .before .verify2 .result) (n .before .verify3 .result) (n .verify4 .result)
+undoubted c = zeros _ _ _ _ (c .if2 .taken)
 
 array-read-x0 : tie.Need-array-read-x0
 array-read-x0 c = search needs
@@ -43,46 +40,46 @@ half-reciprocal-requires-4 : tie.Need-half-reciprocal-requires-4
 half-reciprocal-requires-4 c κs = operands (c .before .before .before) .four
 
 refined-requires : tie.Need-refined-requires
-refined-requires c κs = summed _ _ _ _ (same-no-nan _ (c .if2 .taken)) .one
+refined-requires c κs = search needs
 
 refined-requires-2 : tie.Need-refined-requires-2
-refined-requires-2 c κs = summed _ _ _ _ (same-no-nan _ (c .before .if2 .taken)) .two
+refined-requires-2 c κs = search needs
 
 refined-requires-3 : tie.Need-refined-requires-3
-refined-requires-3 c κs = summed _ _ _ _ (same-no-nan _ (c .before .before .if2 .taken)) .three
+refined-requires-3 c κs = search needs
 
 refined-requires-4 : tie.Need-refined-requires-4
-refined-requires-4 c κs = summed _ _ _ _ (same-no-nan _ (c .before .before .before .if2 .taken)) .four
+refined-requires-4 c κs = search needs
 
 verify-requires : tie.Need-verify-requires
-verify-requires c κs = (operands (c .before .before .before .before .before .before .before .before .before .before) .one, estimates (c) .one)
+verify-requires c κs = operands (c .before .before .before .before .before .before .before .before) .one
 
 verify-requires-2 : tie.Need-verify-requires-2
-verify-requires-2 c κs = (operands (c .before .before .before .before .before .before .before .before .before .before .before) .two, estimates (c .before) .two)
+verify-requires-2 c κs = operands (c .before .before .before .before .before .before .before .before .before) .two
 
 verify-requires-3 : tie.Need-verify-requires-3
-verify-requires-3 c κs = (operands (c .before .before .before .before .before .before .before .before .before .before .before .before) .three, estimates (c .before .before) .three)
+verify-requires-3 c κs = operands (c .before .before .before .before .before .before .before .before .before .before) .three
 
 verify-requires-4 : tie.Need-verify-requires-4
-verify-requires-4 c κs = (operands (c .before .before .before .before .before .before .before .before .before .before .before .before .before) .four, estimates (c .before .before .before) .four)
+verify-requires-4 c κs = operands (c .before .before .before .before .before .before .before .before .before .before .before) .four
 
-add-if4 : tie.Need-add-if4
-add-if4 c = search needs
+add-if2 : tie.Need-add-if2
+add-if2 c = search needs
 
-add-if4-2 : tie.Need-add-if4-2
-add-if4-2 c = search needs
+add-if2-2 : tie.Need-add-if2-2
+add-if2-2 c = search needs
 
-add-if4-3 : tie.Need-add-if4-3
-add-if4-3 c = search needs
+add-if2-3 : tie.Need-add-if2-3
+add-if2-3 c = search needs
 
 returns : tie.Need-returns
 returns c =
-    let x = c .before .before .before .before .before .before .before .before .before .before .before .before .before .before .before .before .args .t1 in
+    let x = c .before .before .before .before .before .before .before .before .before .before .before .before .before .before .args .t1 in
     let e0 = c .before .before .before .before .verify .ensures .right (undoubted (c) .one) in
     let e1 = c .before .before .before .verify2 .ensures .right (undoubted (c) .two) in
     let e2 = c .before .before .verify3 .ensures .right (undoubted (c) .three) in
     let e3 = c .before .verify4 .ensures .right (undoubted (c) .four) in
-    let k = four-of (root binary64) x nan (good-length (eFloat binary64) 4 x _ (c .before .before .before .before .before .before .before .before .before .before .before .before .before .before .before .before .good .0)) in
+    let k = four-of (root binary64) x nan (good-length (eFloat binary64) 4 x _ (c .before .before .before .before .before .before .before .before .before .before .before .before .before .before .good .0)) in
     cc
 
 root-lane-requires : tie.Need-root-lane-requires
@@ -127,9 +124,9 @@ root4-spec =
     verify-requires-2
     verify-requires-3
     verify-requires-4
-    add-if4
-    add-if4-2
-    add-if4-3
+    add-if2
+    add-if2-2
+    add-if2-3
     returns
     root-lane-requires
     root-lane-requires-2

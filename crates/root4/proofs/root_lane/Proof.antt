@@ -12,13 +12,13 @@ half-reciprocal-requires : tie.Need-half-reciprocal-requires
 half-reciprocal-requires c κs = same-no-nan _ (c .if1 .taken)
 
 refined-requires : tie.Need-refined-requires
-refined-requires c κs = same-no-nan _ (c .if2 .taken)
+refined-requires c κs = search needs
 
 verify-requires : tie.Need-verify-requires
-verify-requires c κs = (same-no-nan _ (c .before .before .before .before .if1 .taken), same-no-nan _ (c .if3 .taken))
+verify-requires c κs = same-no-nan _ (c .before .before .if1 .taken)
 
 returns : tie.Need-returns
-returns c = c .before .verify .ensures .right (c .if4 .taken)
+returns c = c .before .verify .ensures .right (c .if2 .taken)
 
 root-requires : tie.Need-root-requires
 root-requires c κs = search needs
