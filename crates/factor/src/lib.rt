@@ -6,9 +6,10 @@ ghost use lib.Dec.{eqb, ltb};
 ghost use lib.ListN.{length, getD};
 ghost use Rattle.lanes.specs.Lists.{at as lane};
 ghost use Rattle.lanes.specs.Lanes.{lanes, cell as here};
-ghost use Rattle.lanes.specs.Region.{Kept};
+ghost use Rattle.lanes.specs.Region.{reg, Kept, Apart};
 ghost use Rattle.lanes.specs.Arithmetic.{_⊕_, _⊖_, _⊗_, _⊘_, √, magnitude, null};
 ghost use Rattle.machine.specs.Work.{problemOf};
+ghost use Rattle.sparse.specs.Sparse.{frontAt};
 ghost use Rattle.ranks.specs.Factoring.{normalStep, productStep, NormalIn, ProductIn, Summed, Given, Factored, stateOf};
 use lanes::above_zero;
 use lanes::abs4;
@@ -133,13 +134,15 @@ fn finish(work: &[f64], lo: usize, diag: &[u32], i: usize, j: usize, v: [f64; 4]
     div4(v, b)
 }
 
-// Row i of the factor, columns rising, where the rows before it stand. The lists, each by its ends or by itself: shared columns (a), products (d), the factor's rows (l).
+// Row i of the factor, columns rising, where the rows before it stand; and entry i of the forward substitution of the right-hand side at f, where the entries before it stand at d. The diagonal's sum and the entry's go along with the row. The lists, each by its ends or by itself: shared columns (a), products (d), the factor's rows (l).
 pub fn normal_matrix_cholesky_row(
     work: &mut [f64],
     x: usize,
     z: usize,
     y: usize,
     w: usize,
+    f: usize,
+    d: usize,
     lo: usize,
     m: usize,
     n: usize,
@@ -158,19 +161,30 @@ pub fn normal_matrix_cholesky_row(
     ldiag: &[u32],
     lcols: &[u32],
     i: usize,
-)
-    requires { ⌜ Given (now off) (now cols) (now values) (now work) m n s (now aends) (now aleft) (now aright) (now acols) (now dends) (now dleft) (now dright) (now lends) (now ldiag) (now lcols) x z y w lo × (i < m) × Factored (problemOf m n s (now off) (now cols) (now values)) (λ l. stateOf (now work) x z y w m n s l) lo (getD (now lends) i 0) (now work) ⌝ }
-    ensures { λ _. ⌜ Kept 4 (lo + getD (now (lends .entry)) i 0) (getD (now (lends .entry)) (i + 1) 0 - getD (now (lends .entry)) i 0) (now (work .entry)) (now (work .exit)) × Factored (problemOf m n s (now (off .entry)) (now (cols .entry)) (now (values .entry))) (λ l. stateOf (now (work .exit)) x z y w m n s l) lo (getD (now (lends .entry)) (i + 1) 0) (now (work .exit)) ⌝ }
+) -> [f64; 4]
+    requires { ⌜ Given (now off) (now cols) (now values) (now work) m n s (now aends) (now aleft) (now aright) (now acols) (now dends) (now dleft) (now dright) (now lends) (now ldiag) (now lcols) x z y w lo × (i < m) × Factored (problemOf m n s (now off) (now cols) (now values)) (λ l. stateOf (now work) x z y w m n s l) lo (getD (now lends) i 0) (now work) × Apart lo (length (now lcols)) d m × (4 * (f + m) ≤ length (now work)) × (4 * (d + m) ≤ length (now work)) × Apart f m lo (length (now lcols)) ⌝ }
+    ensures { λ r. ⌜ Kept 4 (lo + getD (now (lends .entry)) i 0) (getD (now (lends .entry)) (i + 1) 0 - getD (now (lends .entry)) i 0) (now (work .entry)) (now (work .exit)) × Factored (problemOf m n s (now (off .entry)) (now (cols .entry)) (now (values .entry))) (λ l. stateOf (now (work .exit)) x z y w m n s l) lo (getD (now (lends .entry)) (i + 1) 0) (now (work .exit)) × (r ≡ lanes (λ t. frontAt (now (lends .entry)) (now (lcols .entry)) (reg 4 (now (work .exit)) lo (length (now (lcols .entry))) t) (reg 4 (now (work .exit)) f m t) (reg 4 (now (work .exit)) d i t) i)) ⌝ }
 {
-    let end = at(lends, i + 1);
+    let g = at(lends, i + 1) - 1;
+    let none = start_of(work, y, w, s, i, i);
+    let mut diag = normal_sum(work, x, z, values, aends, aleft, aright, acols, g, none);
+    let mut side = get4(work, f + i);
     let mut e = at(lends, i);
-    while e < end {
+    while e < g {
         let j = at(lcols, e);
         let start = start_of(work, y, w, s, i, j);
         let sum = normal_sum(work, x, z, values, aends, aleft, aright, acols, e, start);
         let reduced = less_products(work, lo, dends, dleft, dright, e, sum);
         let v = finish(work, lo, ldiag, i, j, reduced);
         put4(work, lo + e, v);
+        let u = get4(work, d + j);
+        let p = product_in(diag, v, v);
+        let q = product_in(side, u, v);
+        diag = p;
+        side = q;
         e += 1;
     }
+    let root = finish(work, lo, ldiag, i, i, diag);
+    put4(work, lo + g, root);
+    div4(side, root)
 }
