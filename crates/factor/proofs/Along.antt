@@ -5,15 +5,15 @@ use mathlib.Core.Bool.{Bool, true, false, cond, _&&_}
 use mathlib.Core.List.{List}
 use Prim.Native.Nat.{ℕ, _+_, _-_, _*_, _≤_, _<_}
 use native.Mathlib.Omega.{arith}
-use lib.Dec.{eqb, ltb}
+use lib.Dec.{ltb}
 use lib.ListN.{length, getD}
-use lib.Ieee.{Float, binary64, div}
+use lib.Ieee.{Float, binary64, div, ofBits}
 use Rattle.lanes.specs.Lists.{at, fold}
 use Rattle.lanes.specs.Arithmetic.{_⊖_, _⊗_, _⊘_, √, magnitude, null}
 use Rattle.lanes.specs.Lanes.{lanes, each2, quad, put, cell as here}
 use Rattle.lanes.specs.Region.{reg, Kept, Apart, before, after}
 use Rattle.lanes.proofs.Regions.{reg-at, kept-none, kept-apart, cell-put-same, getD-put-other}
-use Rattle.lanes.proofs.Quads.{lane-of, lanes-at, lanes-ext}
+use Rattle.lanes.proofs.Quads.{lane-of, lanes-ext}
 use Rattle.lists.specs.Lists.{Shape, shape, lplace}
 use Rattle.machine.specs.Machine.{Problem, State, inFactor, reduced, factorEntry}
 use Rattle.machine.specs.Work.{problemOf}
@@ -21,13 +21,13 @@ use Rattle.machine.proofs.Factor.{fold-same}
 use Rattle.machine.proofs.Entries.{through, each-pick}
 use Rattle.sparse.specs.Sparse.{cut, lessEach, frontAt}
 use Rattle.rows.proofs.Spans.{cut-length, cut-at}
-use Rattle.ranks.specs.Factoring.{Given, Stands, Summed, Factored, normalStep, stateOf, entries}
+use Rattle.ranks.specs.Factoring.{Given, Stands, Summed, Factored, normalStep, productStep, stateOf, entries}
 use Rattle.ranks.proofs.Turn.{sharedSum}
-use Rattle.ranks.proofs.Entry.{sum-shared, entry-value}
-use Rattle.ranks.proofs.Fill.{kept-part, kept-more, filled-at, filled-more, given-still, stands-next, put-room, state-kept, lends-within}
+use Rattle.ranks.proofs.Entry.{sum-shared, entry-value, value}
+use Rattle.ranks.proofs.Fill.{kept-part, kept-more, filled-at, filled-more, given-still, stands-next, put-room, state-kept}
 use Rattle.links.specs.Planned.{LowOf}
 use Rattle.links.proofs.Low.{low-of, ind-length}
-use Rattle.factor.proofs.Sums.{summed-none, summed-more}
+use Rattle.factor.proofs.Sums.{summed-none, summed-more, start-diagonal, start-below, finish-on, finish-off}
 
 -- the row's number k, which stands at entry a + k, times what stands at entry p k, subtracted
 abbrev pub alongStep : (ℕ → ℕ) → List Float → ℕ → ℕ → ℕ → ℕ → Float → Float
@@ -63,6 +63,27 @@ elsewhere : {lo E d m : ℕ} → Apart lo E d m → (e : ℕ) → e < E → (v o
 elsewhere {lo} {E} {d} {m} (before a) e h v old j l b c = getD-put-other 4 old (lo + e) v (4 * (d + j) + l) (inr (omega arith))
 elsewhere {lo} {E} {d} {m} (after a) e h v old j l b c = getD-put-other 4 old (lo + e) v (4 * (d + j) + l) (inl (omega arith))
 
+-- ---- the factor's rows, and how many entries they have
+module _ {off cols : List ℕ} {vals work : List Float} {m n s : ℕ} {aends aleft aright acols dends dleft dright lends ldiag lcols : List ℕ} {x z y w lo : ℕ}
+    (G : Given off cols vals work m n s aends aleft aright acols dends dleft dright lends ldiag lcols x z y w lo) where
+  pub low : LowOf (problemOf m n s off cols vals) lends lcols
+  low = rw (G .lists .ends, G .lists .columns) (low-of off cols m n s vals)
+
+  pub count : length lcols ≡ entries off cols m
+  count = ap length (G .lists .columns) ∙ ind-length off cols m
+
+-- ---- an entry left of the diagonal, which starts at 0, is the machine's
+module _ {off cols : List ℕ} {vals work : List Float} {m n s : ℕ} {aends aleft aright acols dends dleft dright lends ldiag lcols : List ℕ} {x z y w lo : ℕ}
+    (G : Given off cols vals work m n s aends aleft aright acols dends dleft dright lends ldiag lcols x z y w lo) {i j e : ℕ} (st : Stands off cols m i j e) (ne : i ≡ j → ⊥) where
+  pub value-below : {start r : List Float} (sum left : List Float) → start ≡ lanes (λ l. ofBits binary64 0)
+      → Summed (normalStep vals aleft aright acols work x z (getD aends e 0)) start (getD aends e 0) (getD aends (e + 1) 0) sum
+      → Summed (productStep dleft dright work lo (getD dends e 0)) sum (getD dends e 0) (getD dends (e + 1) 0) left
+      → r ≡ lanes (λ l. div binary64 (at left l) (here 4 work (lo + getD ldiag j 0) l))
+      → r ≡ lanes (λ l. factorEntry (problemOf m n s off cols vals) (stateOf work x z y w m n s l) (λ a b. here 4 work (lo + lplace (shape off cols) a b) l) i j)
+  value-below sum left es en ed er =
+      value G st sum left (es ∙ start-below i j s (λ l. div binary64 (here 4 work (w + i) l) (here 4 work (y + i) l)) ne) en ed
+      (er ∙ finish-off i j (λ l. √ (magnitude (at left l))) (λ l. div binary64 (at left l) (here 4 work (lo + getD ldiag j 0) l)) ne)
+
 -- the row's entries before e stand, and the two sums have gone so far
 pub record Along (off cols : List ℕ) (vals : List Float) (m n s x z y w d lo : ℕ) (lends lcols : List ℕ) (i : ℕ) (old first right : List Float) (e : ℕ) (work diag side : List Float) : Type 0 where
   pub from : getD lends i 0 ≤ e
@@ -87,18 +108,15 @@ module _ {off cols : List ℕ} {vals old : List Float} {m n s : ℕ} {aends alef
   abbrev Row : List Float → List Float → ℕ → List Float → List Float → List Float → Type 0
   Row first right e work diag side = Along off cols vals m n s x z y w d lo lends lcols i old first right e work diag side
 
-  low : LowOf A lends lcols
-  low = rw (G .lists .ends, G .lists .columns) (low-of off cols m n s vals)
-
-  count : length lcols ≡ entries off cols m
-  count = ap length (G .lists .columns) ∙ ind-length off cols m
-
   -- the row is not empty, and ends within the list
   pub row-some : (a < getD lends (i + 1) 0) × (getD lends (i + 1) 0 ≤ length lcols)
-  row-some = (low .ranges .rises i h, low .ranges .ends i h)
+  row-some = (low G .ranges .rises i h, low G .ranges .ends i h)
 
   pub stands-last : Stands off cols m i i (getD lends (i + 1) 0 - 1)
-  stands-last = stands-next G h (omega (arith, row-some .0)) (omega (arith, row-some .0)) (sym (low .last i h))
+  stands-last = stands-next G h (omega (arith, row-some .0)) (omega (arith, row-some .0)) (sym (low G .last i h))
+
+  pub off-diagonal : {e j : ℕ} → a ≤ e → e < getD lends (i + 1) 0 - 1 → j ≡ getD lcols e 0 → i ≡ j → ⊥
+  off-diagonal {e} b c ej z = omega (arith, low G .ranges .below i h e b c)
 
   pub along-none : (first right : List Float) {e : ℕ} → e ≡ a → Factored A (λ l. stateOf old x z y w m n s l) lo a old → Row first right e old first right
   along-none first right z F = record {
@@ -123,7 +141,7 @@ module _ {off cols : List ℕ} {vals old : List Float} {m n s : ℕ} {aends alef
     kept = kept-more (lo + e) v (R .kept) (omega (arith, R .from)) (omega (arith, R .from)) en;
     diagonal = along-turn lo a e v work new (R .from) room en (λ k. lo + (a + k)) first diag v (R .diagonal) (row-before lo a e v work new (R .from) room en) (λ l c. sym (row-last lo a e v work new (R .from) room en l c)) ep;
     entry = along-turn lo a e v work new (R .from) room en (λ k. d + getD lcols (a + k) 0) right side u (R .entry)
-        (λ k c l t. rw en (elsewhere D e (omega (arith, row-some .1)) v work (getD lcols (a + k) 0) l (omega (arith, low .ranges .below i h (a + k) (omega arith) (omega arith))) t))
+        (λ k c l t. rw en (elsewhere D e (omega (arith, row-some .1)) v work (getD lcols (a + k) 0) l (omega (arith, low G .ranges .below i h (a + k) (omega arith) (omega arith))) t))
         (λ l c. lane-of (here 4 new (d + j)) eu l c ∙ ap (λ (k : ℕ). here 4 new (d + k) l) (ej ∙ ap (λ (k : ℕ). getD lcols k 0) at-e)) eq;
   }
     where
@@ -150,15 +168,15 @@ module _ {off cols : List ℕ} {vals old : List Float} {m n s : ℕ} {aends alef
       ap (λ (c : ℕ). fold c (alongStep (λ k. lo + (a + k)) work lo a l) (sharedSum A q i i)) (sym size)
       ∙ fold-same (length es) (alongStep (λ k. lo + (a + k)) work lo a l) (λ k r. F (getD es k 0) r) (sharedSum A q i i)
       (λ k c r. ap (λ (t : ℕ). r ⊖ here 4 work (lo + t) l ⊗ here 4 work (lo + t) l) (stands-next G h (omega arith) (omega (arith, size)) (cut-at a (getD lends (i + 1) 0 - 1) lcols k 0 (omega (arith, size))) .at))
-      ∙ sym (through i (λ k. inFactor A i k) es F (sharedSum A q i i) (low .rising i h) (low .holding i h))
+      ∙ sym (through i (λ k. inFactor A i k) es F (sharedSum A q i i) (low G .rising i h) (low G .holding i h))
       ∙ each-pick i (λ k. inFactor A i k) (λ k. inFactor A i k && inFactor A i k) F (sharedSum A q i i) (λ k b. and-same (inFactor A i k))
 
   -- THE END: the diagonal's entry, then the entry of the forward substitution
   module _ {f : ℕ} (S : Apart f m lo (length lcols)) {none first right work diag side root new : List Float} {e o : ℕ} (R₀ : Row first right e work diag side) (eo : e ≡ o)
       (last : o ≡ getD lends (i + 1) 0 - 1)
-      (en : none ≡ lanes (λ l. cond (eqb i i && ltb i s) (div binary64 (here 4 old (w + i) l) (here 4 old (y + i) l)) null))
+      (en : none ≡ lanes (λ l. cond (ltb i s) (div binary64 (here 4 old (w + i) l) (here 4 old (y + i) l)) null))
       (ef : Summed (normalStep vals aleft aright acols old x z (getD aends o 0)) none (getD aends o 0) (getD aends (o + 1) 0) first)
-      (er : root ≡ lanes (λ l. cond (eqb i i) (√ (magnitude (at diag l))) (div binary64 (at diag l) (here 4 work (lo + getD ldiag i 0) l))))
+      (er : root ≡ lanes (λ l. √ (magnitude (at diag l))))
       (ep : new ≡ put 4 work (lo + o) root) where
     R : Row first right o work diag side
     R = subst (λ (k : ℕ). Row first right k work diag side) eo R₀
@@ -170,20 +188,20 @@ module _ {off cols : List ℕ} {vals old : List Float} {m n s : ℕ} {aends alef
     now = given-still G work (R .kept .size)
 
     wide : Kept 4 lo (entries off cols m) old work
-    wide = kept-part lo a (getD lends (i + 1) 0 - a) (R .kept) (omega (arith, row-some .0, row-some .1, count))
+    wide = kept-part lo a (getD lends (i + 1) 0 - a) (R .kept) (omega (arith, row-some .0, row-some .1, count G))
 
     diag-is : (l : ℕ) → l < 4 → at diag l ≡ reduced A (stateOf work x z y w m n s l) (λ b c. here 4 work (lo + lplace g b c) l) i i
     diag-is l b =
         R .diagonal l b
         ∙ ap₂ (λ (k : ℕ) (v : Float). fold (k - a) (alongStep (λ k. lo + (a + k)) work lo a l) v) last
-        (sum-shared G st first en ef l b ∙ ap (λ (q : State). sharedSum A q i i) (sym (state-kept G wide l b)))
+        (sum-shared G st first (en ∙ start-diagonal i s (λ l. div binary64 (here 4 old (w + i) l) (here 4 old (y + i) l))) ef l b ∙ ap (λ (q : State). sharedSum A q i i) (sym (state-kept G wide l b)))
         ∙ diag-reduced work (stateOf work x z y w m n s l) l
 
     pub row-kept : Kept 4 (lo + a) (getD lends (i + 1) 0 - a) old new
     row-kept = kept-more (lo + o) root (R .kept) (omega (arith, R .from)) (omega (arith, row-some .0)) ep
 
     pub row-filled : Factored A (λ l. stateOf new x z y w m n s l) lo (getD lends (i + 1) 0) new
-    row-filled = filled-at (omega (arith, row-some .0)) (filled-more now (R .filled) st (entry-value now st diag diag-is er) ep)
+    row-filled = filled-at (omega (arith, row-some .0)) (filled-more now (R .filled) st (entry-value now st diag diag-is (er ∙ finish-on i i (λ l. √ (magnitude (at diag l))) (λ l. div binary64 (at diag l) (here 4 work (lo + getD ldiag i 0) l)) refl)) ep)
 
     -- the entry of the forward substitution
     side-is : right ≡ quad old (f + i) → (l : ℕ) → l < 4
@@ -206,8 +224,8 @@ module _ {off cols : List ℕ} {vals old : List Float} {m n s : ℕ} {aends alef
             → here 4 work (d + getD lcols (a + k) 0) l ≡ at (reg 4 new d i l) (getD (cut a (getD lends (i + 1) 0 - 1) lcols) k 0)
         solved-is k c l b =
             rw (cut-at a (getD lends (i + 1) 0 - 1) lcols k 0 c)
-            (sym (reg-at 4 new d i l (getD lcols (a + k) 0) (low .ranges .below i h (a + k) (omega arith) (omega arith))
-            ∙ rw ep (elsewhere D o (omega (arith, row-some .0, row-some .1)) root work (getD lcols (a + k) 0) l (omega (arith, low .ranges .below i h (a + k) (omega arith) (omega arith))) b)))
+            (sym (reg-at 4 new d i l (getD lcols (a + k) 0) (low G .ranges .below i h (a + k) (omega arith) (omega arith))
+            ∙ rw ep (elsewhere D o (omega (arith, row-some .0, row-some .1)) root work (getD lcols (a + k) 0) l (omega (arith, low G .ranges .below i h (a + k) (omega arith) (omega arith))) b)))
 
         row-at : (k : ℕ) → k < getD lends (i + 1) 0 - 1 - a → (l : ℕ) → l < 4 → here 4 work (lo + (a + k)) l ≡ at (reg 4 new lo (length lcols) l) (a + k)
         row-at k c l b =

@@ -3,9 +3,9 @@ use Prim.Native.Nat.{ℕ, _+_, _-_}
 use native.Mathlib.Omega.{arith}
 use lib.ListN.{length}
 use Rattle.lanes.proofs.Regions.{length-put}
-use Rattle.ranks.proofs.Entry.{start-needs, normal-needs, product-needs, finish-needs, value}
+use Rattle.ranks.proofs.Entry.{start-needs, normal-needs, product-needs, finish-needs}
 use Rattle.ranks.proofs.Fill.{given-still, lends-room, lcols-next, stands-next, put-room}
-use Rattle.factor.proofs.Along.{Along, row-some, stands-last, along-none, along-more, row-kept, row-filled, row-entry}
+use Rattle.factor.proofs.Along.{Along, value-below, off-diagonal, row-some, stands-last, along-none, along-more, row-kept, row-filled, row-entry}
 use Rattle.factor.proofs.normal_matrix_cholesky_row.Statement.{statement}
 use Rattle.factor.proofs.normal_matrix_cholesky_row.Tie as tie
 
@@ -50,61 +50,57 @@ loop-holds c =
 at-requires-3 : tie.Need-at-requires-3 Inv-loop μ-loop
 at-requires-3 c κs = let s = c .before .before .before .before .before .before .before .before .before .before .before .before .before .before .before .before .before .before .before .before .before .before .before .before in lcols-next (s .pre .0) (s .pre .1) (c .before .loop .inv .from) (omega (arith, c .loop-test .taken, c .before .before .before .before .before .before .before .before .before .at .ensures))
 
-start-of-requires-2 : tie.Need-start-of-requires-2 Inv-loop μ-loop
-start-of-requires-2 c κs =
-    let s = c .before .before .before .before .before .before .before .before .before .before .before .before .before .before .before .before .before .before .before .before .before .before .before .before .before .before in
-    let l = c .before .before .before .loop in
-    let st = stands-next (s .pre .0) (s .pre .1) (l .inv .from) (omega (arith, c .before .before .loop-test .taken, c .before .before .before .before .before .before .before .before .before .before .before .at .ensures)) (c .before .at3 .ensures) in
-    start-needs (given-still (s .pre .0) (l .work) (l .inv .kept .size)) st
+splat-requires : tie.Need-splat-requires Inv-loop μ-loop
+splat-requires c κs = tt
 
 normal-sum-requires-2 : tie.Need-normal-sum-requires-2 Inv-loop μ-loop
 normal-sum-requires-2 c κs =
-    let s = c .before .before .before .before .before .before .before .before .before .before .before .before .before .before .before .before .before .before .before .before .before .before .before .before .before .before .before .before in
-    let l = c .before .before .before .before .before .loop in
-    let st = stands-next (s .pre .0) (s .pre .1) (l .inv .from) (omega (arith, c .before .before .before .before .loop-test .taken, c .before .before .before .before .before .before .before .before .before .before .before .before .before .at .ensures)) (c .before .before .before .at3 .ensures) in
+    let s = c .before .before .before .before .before .before .before .before .before .before .before .before .before .before .before .before .before .before .before .before .before .before .before .before .before .before .before in
+    let l = c .before .before .before .before .loop in
+    let st = stands-next (s .pre .0) (s .pre .1) (l .inv .from) (omega (arith, c .before .before .before .loop-test .taken, c .before .before .before .before .before .before .before .before .before .before .before .before .at .ensures)) (c .before .before .at3 .ensures) in
     normal-needs (given-still (s .pre .0) (l .work) (l .inv .kept .size)) st
 
 less-products-requires : tie.Need-less-products-requires Inv-loop μ-loop
 less-products-requires c κs =
-    let s = c .before .before .before .before .before .before .before .before .before .before .before .before .before .before .before .before .before .before .before .before .before .before .before .before .before .before .before .before .before .before in
-    let l = c .before .before .before .before .before .before .before .loop in
-    let st = stands-next (s .pre .0) (s .pre .1) (l .inv .from) (omega (arith, c .before .before .before .before .before .before .loop-test .taken, c .before .before .before .before .before .before .before .before .before .before .before .before .before .before .before .at .ensures)) (c .before .before .before .before .before .at3 .ensures) in
+    let s = c .before .before .before .before .before .before .before .before .before .before .before .before .before .before .before .before .before .before .before .before .before .before .before .before .before .before .before .before .before in
+    let l = c .before .before .before .before .before .before .loop in
+    let st = stands-next (s .pre .0) (s .pre .1) (l .inv .from) (omega (arith, c .before .before .before .before .before .loop-test .taken, c .before .before .before .before .before .before .before .before .before .before .before .before .before .before .at .ensures)) (c .before .before .before .before .at3 .ensures) in
     product-needs (given-still (s .pre .0) (l .work) (l .inv .kept .size)) st
 
-finish-requires : tie.Need-finish-requires Inv-loop μ-loop
-finish-requires c κs =
-    let s = c .before .before .before .before .before .before .before .before .before .before .before .before .before .before .before .before .before .before .before .before .before .before .before .before .before .before .before .before .before .before .before .before in
-    let l = c .before .before .before .before .before .before .before .before .before .loop in
-    let st = stands-next (s .pre .0) (s .pre .1) (l .inv .from) (omega (arith, c .before .before .before .before .before .before .before .before .loop-test .taken, c .before .before .before .before .before .before .before .before .before .before .before .before .before .before .before .before .before .at .ensures)) (c .before .before .before .before .before .before .before .at3 .ensures) in
+over-diagonal-requires : tie.Need-over-diagonal-requires Inv-loop μ-loop
+over-diagonal-requires c κs =
+    let s = c .before .before .before .before .before .before .before .before .before .before .before .before .before .before .before .before .before .before .before .before .before .before .before .before .before .before .before .before .before .before .before in
+    let l = c .before .before .before .before .before .before .before .before .loop in
+    let st = stands-next (s .pre .0) (s .pre .1) (l .inv .from) (omega (arith, c .before .before .before .before .before .before .before .loop-test .taken, c .before .before .before .before .before .before .before .before .before .before .before .before .before .before .before .before .at .ensures)) (c .before .before .before .before .before .before .at3 .ensures) in
     finish-needs (given-still (s .pre .0) (l .work) (l .inv .kept .size)) st
 
 add-put4 : tie.Need-add-put4 Inv-loop μ-loop
 add-put4 c =
-    let s = c .before .before .before .before .before .before .before .before .before .before .before .before .before .before .before .before .before .before .before .before .before .before .before .before .before .before .before .before .before .before .before .before .before .before in
-    let l = c .before .before .before .before .before .before .before .before .before .before .before .loop in
-    let st = stands-next (s .pre .0) (s .pre .1) (l .inv .from) (omega (arith, c .before .before .before .before .before .before .before .before .before .before .loop-test .taken, c .before .before .before .before .before .before .before .before .before .before .before .before .before .before .before .before .before .before .before .at .ensures)) (c .before .before .before .before .before .before .before .before .before .at3 .ensures) in
+    let s = c .before .before .before .before .before .before .before .before .before .before .before .before .before .before .before .before .before .before .before .before .before .before .before .before .before .before .before .before .before .before .before .before .before in
+    let l = c .before .before .before .before .before .before .before .before .before .before .loop in
+    let st = stands-next (s .pre .0) (s .pre .1) (l .inv .from) (omega (arith, c .before .before .before .before .before .before .before .before .before .loop-test .taken, c .before .before .before .before .before .before .before .before .before .before .before .before .before .before .before .before .before .before .at .ensures)) (c .before .before .before .before .before .before .before .before .at3 .ensures) in
     omega (arith, put-room (s .pre .0) st, s .good .0)
 
 put4-requires : tie.Need-put4-requires Inv-loop μ-loop
 put4-requires c κs =
-    let s = c .before .before .before .before .before .before .before .before .before .before .before .before .before .before .before .before .before .before .before .before .before .before .before .before .before .before .before .before .before .before .before .before .before .before in
-    let l = c .before .before .before .before .before .before .before .before .before .before .before .loop in
-    let st = stands-next (s .pre .0) (s .pre .1) (l .inv .from) (omega (arith, c .before .before .before .before .before .before .before .before .before .before .loop-test .taken, c .before .before .before .before .before .before .before .before .before .before .before .before .before .before .before .before .before .before .before .at .ensures)) (c .before .before .before .before .before .before .before .before .before .at3 .ensures) in
+    let s = c .before .before .before .before .before .before .before .before .before .before .before .before .before .before .before .before .before .before .before .before .before .before .before .before .before .before .before .before .before .before .before .before .before in
+    let l = c .before .before .before .before .before .before .before .before .before .before .loop in
+    let st = stands-next (s .pre .0) (s .pre .1) (l .inv .from) (omega (arith, c .before .before .before .before .before .before .before .before .before .loop-test .taken, c .before .before .before .before .before .before .before .before .before .before .before .before .before .before .before .before .before .before .at .ensures)) (c .before .before .before .before .before .before .before .before .at3 .ensures) in
     omega (arith, put-room (s .pre .0) st, l .inv .kept .size)
 
 add-get4-2 : tie.Need-add-get4-2 Inv-loop μ-loop
 add-get4-2 c =
-    let s = c .before .before .before .before .before .before .before .before .before .before .before .before .before .before .before .before .before .before .before .before .before .before .before .before .before .before .before .before .before .before .before .before .before .before .before .before .before .before in
-    let l = c .before .before .before .before .before .before .before .before .before .before .before .before .before .before .before .loop in
-    let st = stands-next (s .pre .0) (s .pre .1) (l .inv .from) (omega (arith, c .before .before .before .before .before .before .before .before .before .before .before .before .before .before .loop-test .taken, c .before .before .before .before .before .before .before .before .before .before .before .before .before .before .before .before .before .before .before .before .before .before .before .at .ensures)) (c .before .before .before .before .before .before .before .before .before .before .before .before .before .at3 .ensures) in
+    let s = c .before .before .before .before .before .before .before .before .before .before .before .before .before .before .before .before .before .before .before .before .before .before .before .before .before .before .before .before .before .before .before .before .before .before .before .before .before in
+    let l = c .before .before .before .before .before .before .before .before .before .before .before .before .before .before .loop in
+    let st = stands-next (s .pre .0) (s .pre .1) (l .inv .from) (omega (arith, c .before .before .before .before .before .before .before .before .before .before .before .before .before .loop-test .taken, c .before .before .before .before .before .before .before .before .before .before .before .before .before .before .before .before .before .before .before .before .before .before .at .ensures)) (c .before .before .before .before .before .before .before .before .before .before .before .before .at3 .ensures) in
     omega (arith, st .row, st .low, s .pre .5, s .good .0)
 
 get4-requires-2 : tie.Need-get4-requires-2 Inv-loop μ-loop
 get4-requires-2 c κs =
-    let s = c .before .before .before .before .before .before .before .before .before .before .before .before .before .before .before .before .before .before .before .before .before .before .before .before .before .before .before .before .before .before .before .before .before .before .before .before .before .before in
-    let l = c .before .before .before .before .before .before .before .before .before .before .before .before .before .before .before .loop in
-    let st = stands-next (s .pre .0) (s .pre .1) (l .inv .from) (omega (arith, c .before .before .before .before .before .before .before .before .before .before .before .before .before .before .loop-test .taken, c .before .before .before .before .before .before .before .before .before .before .before .before .before .before .before .before .before .before .before .before .before .before .before .at .ensures)) (c .before .before .before .before .before .before .before .before .before .before .before .before .before .at3 .ensures) in
-    omega (arith, st .row, st .low, s .pre .5, l .inv .kept .size, length-put 4 (l .work) (s .args .lo + l .e) (c .before .before .before .before .before .finish .result), ap length (c .before .before .before .put4 .ensures))
+    let s = c .before .before .before .before .before .before .before .before .before .before .before .before .before .before .before .before .before .before .before .before .before .before .before .before .before .before .before .before .before .before .before .before .before .before .before .before .before in
+    let l = c .before .before .before .before .before .before .before .before .before .before .before .before .before .before .loop in
+    let st = stands-next (s .pre .0) (s .pre .1) (l .inv .from) (omega (arith, c .before .before .before .before .before .before .before .before .before .before .before .before .before .loop-test .taken, c .before .before .before .before .before .before .before .before .before .before .before .before .before .before .before .before .before .before .before .before .before .before .at .ensures)) (c .before .before .before .before .before .before .before .before .before .before .before .before .at3 .ensures) in
+    omega (arith, st .row, st .low, s .pre .5, l .inv .kept .size, length-put 4 (l .work) (s .args .lo + l .e) (c .before .before .before .before .before .over-diagonal .result), ap length (c .before .before .before .put4 .ensures))
 
 product-in-requires : tie.Need-product-in-requires Inv-loop μ-loop
 product-in-requires c κs = tt
@@ -114,58 +110,56 @@ product-in-requires-2 c κs = tt
 
 add-e : tie.Need-add-e Inv-loop μ-loop
 add-e c =
-    let s = c .before .before .before .before .before .before .before .before .before .before .before .before .before .before .before .before .before .before .before .before .before .before .before .before .before .before .before .before .before .before .before .before .before .before .before .before .before .before .before .before .before in
-    let l = c .before .before .before .before .before .before .before .before .before .before .before .before .before .before .before .before .before .before .loop in
-    let st = stands-next (s .pre .0) (s .pre .1) (l .inv .from) (omega (arith, c .before .before .before .before .before .before .before .before .before .before .before .before .before .before .before .before .before .loop-test .taken, c .before .before .before .before .before .before .before .before .before .before .before .before .before .before .before .before .before .before .before .before .before .before .before .before .before .before .at .ensures)) (c .before .before .before .before .before .before .before .before .before .before .before .before .before .before .before .before .at3 .ensures) in
+    let s = c .before .before .before .before .before .before .before .before .before .before .before .before .before .before .before .before .before .before .before .before .before .before .before .before .before .before .before .before .before .before .before .before .before .before .before .before .before .before .before .before in
+    let l = c .before .before .before .before .before .before .before .before .before .before .before .before .before .before .before .before .before .loop in
+    let st = stands-next (s .pre .0) (s .pre .1) (l .inv .from) (omega (arith, c .before .before .before .before .before .before .before .before .before .before .before .before .before .before .before .before .loop-test .taken, c .before .before .before .before .before .before .before .before .before .before .before .before .before .before .before .before .before .before .before .before .before .before .before .before .before .at .ensures)) (c .before .before .before .before .before .before .before .before .before .before .before .before .before .before .before .at3 .ensures) in
     omega (arith, put-room (s .pre .0) st, s .good .0)
 
 loop-less : tie.Need-loop-less Inv-loop μ-loop
-loop-less c = omega (arith, c .before .before .before .before .before .before .before .before .before .before .before .before .before .before .before .before .before .loop-test .taken)
+loop-less c = omega (arith, c .before .before .before .before .before .before .before .before .before .before .before .before .before .before .before .before .loop-test .taken)
 
 loop-again : tie.Need-loop-again Inv-loop μ-loop
 loop-again c =
-    let s = c .before .before .before .before .before .before .before .before .before .before .before .before .before .before .before .before .before .before .before .before .before .before .before .before .before .before .before .before .before .before .before .before .before .before .before .before .before .before .before .before .before in
-    let l = c .before .before .before .before .before .before .before .before .before .before .before .before .before .before .before .before .before .before .loop in
-    let b = c .before .before .before .before .before .before .before .before .before .before .before .before .before .before .before .before .before .loop-test .taken in
-    let st = stands-next (s .pre .0) (s .pre .1) (l .inv .from) (omega (arith, b, c .before .before .before .before .before .before .before .before .before .before .before .before .before .before .before .before .before .before .before .before .before .before .before .before .before .before .at .ensures)) (c .before .before .before .before .before .before .before .before .before .before .before .before .before .before .before .before .at3 .ensures) in
-    let v = value (given-still (s .pre .0) (l .work) (l .inv .kept .size)) st (c .before .before .before .before .before .before .before .before .before .before .before .before .normal-sum2 .result) (c .before .before .before .before .before .before .before .before .before .before .less-products .result) (c .before .before .before .before .before .before .before .before .before .before .before .before .before .before .start-of2 .ensures) (c .before .before .before .before .before .before .before .before .before .before .before .before .normal-sum2 .ensures) (c .before .before .before .before .before .before .before .before .before .before .less-products .ensures) (c .before .before .before .before .before .before .before .before .finish .ensures) in
-    along-more (s .pre .0) (s .pre .3) (s .pre .1) (l .inv) (omega (arith, b, c .before .before .before .before .before .before .before .before .before .before .before .before .before .before .before .before .before .before .before .before .before .before .before .before .before .before .at .ensures)) (c .before .before .before .before .before .before .before .before .before .before .before .before .before .before .before .before .at3 .ensures) v (c .before .before .before .before .before .before .put4 .ensures) (c .before .before .get42 .ensures) (c .before .product-in .ensures) (c .product-in2 .ensures)
+    let s = c .before .before .before .before .before .before .before .before .before .before .before .before .before .before .before .before .before .before .before .before .before .before .before .before .before .before .before .before .before .before .before .before .before .before .before .before .before .before .before .before in
+    let l = c .before .before .before .before .before .before .before .before .before .before .before .before .before .before .before .before .before .loop in
+    let b = c .before .before .before .before .before .before .before .before .before .before .before .before .before .before .before .before .loop-test .taken in
+    let st = stands-next (s .pre .0) (s .pre .1) (l .inv .from) (omega (arith, b, c .before .before .before .before .before .before .before .before .before .before .before .before .before .before .before .before .before .before .before .before .before .before .before .before .before .at .ensures)) (c .before .before .before .before .before .before .before .before .before .before .before .before .before .before .before .at3 .ensures) in
+    let o = off-diagonal (s .pre .0) (s .pre .3) (s .pre .1) (l .inv .from) (omega (arith, b, c .before .before .before .before .before .before .before .before .before .before .before .before .before .before .before .before .before .before .before .before .before .before .before .before .before .at .ensures)) (c .before .before .before .before .before .before .before .before .before .before .before .before .before .before .before .at3 .ensures) in
+    let v = value-below (given-still (s .pre .0) (l .work) (l .inv .kept .size)) st o (c .before .before .before .before .before .before .before .before .before .before .before .before .normal-sum2 .result) (c .before .before .before .before .before .before .before .before .before .before .less-products .result) (c .before .before .before .before .before .before .before .before .before .before .before .before .before .before .splat .ensures) (c .before .before .before .before .before .before .before .before .before .before .before .before .normal-sum2 .ensures) (c .before .before .before .before .before .before .before .before .before .before .less-products .ensures) (c .before .before .before .before .before .before .before .before .over-diagonal .ensures) in
+    along-more (s .pre .0) (s .pre .3) (s .pre .1) (l .inv) (omega (arith, b, c .before .before .before .before .before .before .before .before .before .before .before .before .before .before .before .before .before .before .before .before .before .before .before .before .before .at .ensures)) (c .before .before .before .before .before .before .before .before .before .before .before .before .before .before .before .at3 .ensures) v (c .before .before .before .before .before .before .put4 .ensures) (c .before .before .get42 .ensures) (c .before .product-in .ensures) (c .product-in2 .ensures)
 
-finish-requires-2 : tie.Need-finish-requires-2 Inv-loop μ-loop
-finish-requires-2 c κs =
-    let s = c .before .before .before .before .before .before .before .before .before .before .before .before .before .before .before .before .before .before .before .before .before .before .before .before .before in
-    let l = c .before .before .loop in
-    finish-needs (given-still (s .pre .0) (l .work) (l .inv .kept .size)) (stands-last (s .pre .0) (s .pre .3) (s .pre .1))
+root-of-requires : tie.Need-root-of-requires Inv-loop μ-loop
+root-of-requires c κs = tt
 
 add-put4-2 : tie.Need-add-put4-2 Inv-loop μ-loop
 add-put4-2 c =
-    let s = c .before .before .before .before .before .before .before .before .before .before .before .before .before .before .before .before .before .before .before .before .before .before .before .before .before .before .before in
-    omega (arith, put-room (s .pre .0) (stands-last (s .pre .0) (s .pre .3) (s .pre .1)), s .good .0, c .before .before .before .before .before .before .before .before .before .before .before .before .at .ensures)
+    let s = c .before .before .before .before .before .before .before .before .before .before .before .before .before .before .before .before .before .before .before .before .before .before .before .before .before .before in
+    omega (arith, put-room (s .pre .0) (stands-last (s .pre .0) (s .pre .3) (s .pre .1)), s .good .0, c .before .before .before .before .before .before .before .before .before .before .before .at .ensures)
 
 put4-requires-2 : tie.Need-put4-requires-2 Inv-loop μ-loop
 put4-requires-2 c κs =
-    let s = c .before .before .before .before .before .before .before .before .before .before .before .before .before .before .before .before .before .before .before .before .before .before .before .before .before .before .before in
-    let l = c .before .before .before .before .loop in
-    omega (arith, put-room (s .pre .0) (stands-last (s .pre .0) (s .pre .3) (s .pre .1)), l .inv .kept .size, c .before .before .before .before .before .before .before .before .before .before .before .before .at .ensures)
+    let s = c .before .before .before .before .before .before .before .before .before .before .before .before .before .before .before .before .before .before .before .before .before .before .before .before .before .before in
+    let l = c .before .before .before .loop in
+    omega (arith, put-room (s .pre .0) (stands-last (s .pre .0) (s .pre .3) (s .pre .1)), l .inv .kept .size, c .before .before .before .before .before .before .before .before .before .before .before .at .ensures)
 
 div4-requires : tie.Need-div4-requires Inv-loop μ-loop
 div4-requires c κs = tt
 
 same-length : tie.Need-same-length Inv-loop μ-loop
 same-length c =
-    let s = c .before .before .before .before .before .before .before .before .before .before .before .before .before .before .before .before .before .before .before .before .before .before .before .before .before .before .before .before .before .before .before in
-    let l = c .before .before .before .before .before .before .before .before .loop in
-    let z : l .e ≡ c .before .before .before .before .before .before .before .before .before .before .before .before .before .before .before .before .at .result - 1 = omega (arith, l .inv .to, c .before .before .before .before .before .before .before .loop-test .left, c .before .before .before .before .before .before .before .before .before .before .before .before .before .before .before .before .at .ensures) in
-    row-kept (s .pre .0) (s .pre .3) (s .pre .1) (s .pre .6) (l .inv) z (ap (λ (k : ℕ). k - 1) (c .before .before .before .before .before .before .before .before .before .before .before .before .before .before .before .before .at .ensures)) (c .before .before .before .before .before .before .before .before .before .before .before .before .before .before .start-of .ensures) (c .before .before .before .before .before .before .before .before .before .before .before .before .normal-sum .ensures) (c .before .before .before .before .before .finish2 .ensures) (c .before .before .before .put42 .ensures) .size
+    let s = c .before .before .before .before .before .before .before .before .before .before .before .before .before .before .before .before .before .before .before .before .before .before .before .before .before .before .before .before .before .before in
+    let l = c .before .before .before .before .before .before .before .loop in
+    let z : l .e ≡ c .before .before .before .before .before .before .before .before .before .before .before .before .before .before .before .at .result - 1 = omega (arith, l .inv .to, c .before .before .before .before .before .before .loop-test .left, c .before .before .before .before .before .before .before .before .before .before .before .before .before .before .before .at .ensures) in
+    row-kept (s .pre .0) (s .pre .3) (s .pre .1) (s .pre .6) (l .inv) z (ap (λ (k : ℕ). k - 1) (c .before .before .before .before .before .before .before .before .before .before .before .before .before .before .before .at .ensures)) (c .before .before .before .before .before .before .before .before .before .before .before .before .before .start-of .ensures) (c .before .before .before .before .before .before .before .before .before .before .before .normal-sum .ensures) (c .before .before .before .before .before .root-of .ensures) (c .before .before .before .put42 .ensures) .size
 
 returns : tie.Need-returns Inv-loop μ-loop
 returns c =
-    let s = c .before .before .before .before .before .before .before .before .before .before .before .before .before .before .before .before .before .before .before .before .before .before .before .before .before .before .before .before .before .before .before in
-    let l = c .before .before .before .before .before .before .before .before .loop in
-    let z : l .e ≡ c .before .before .before .before .before .before .before .before .before .before .before .before .before .before .before .before .at .result - 1 = omega (arith, l .inv .to, c .before .before .before .before .before .before .before .loop-test .left, c .before .before .before .before .before .before .before .before .before .before .before .before .before .before .before .before .at .ensures) in (
-      row-kept (s .pre .0) (s .pre .3) (s .pre .1) (s .pre .6) (l .inv) z (ap (λ (k : ℕ). k - 1) (c .before .before .before .before .before .before .before .before .before .before .before .before .before .before .before .before .at .ensures)) (c .before .before .before .before .before .before .before .before .before .before .before .before .before .before .start-of .ensures) (c .before .before .before .before .before .before .before .before .before .before .before .before .normal-sum .ensures) (c .before .before .before .before .before .finish2 .ensures) (c .before .before .before .put42 .ensures),
-      row-filled (s .pre .0) (s .pre .3) (s .pre .1) (s .pre .6) (l .inv) z (ap (λ (k : ℕ). k - 1) (c .before .before .before .before .before .before .before .before .before .before .before .before .before .before .before .before .at .ensures)) (c .before .before .before .before .before .before .before .before .before .before .before .before .before .before .start-of .ensures) (c .before .before .before .before .before .before .before .before .before .before .before .before .normal-sum .ensures) (c .before .before .before .before .before .finish2 .ensures) (c .before .before .before .put42 .ensures),
-      row-entry (s .pre .0) (s .pre .3) (s .pre .1) (s .pre .6) (l .inv) z (ap (λ (k : ℕ). k - 1) (c .before .before .before .before .before .before .before .before .before .before .before .before .before .before .before .before .at .ensures)) (c .before .before .before .before .before .before .before .before .before .before .before .before .before .before .start-of .ensures) (c .before .before .before .before .before .before .before .before .before .before .before .before .normal-sum .ensures) (c .before .before .before .before .before .finish2 .ensures) (c .before .before .before .put42 .ensures) (c .before .before .before .before .before .before .before .before .before .before .get4 .ensures) (c .div4 .ensures),
+    let s = c .before .before .before .before .before .before .before .before .before .before .before .before .before .before .before .before .before .before .before .before .before .before .before .before .before .before .before .before .before .before in
+    let l = c .before .before .before .before .before .before .before .loop in
+    let z : l .e ≡ c .before .before .before .before .before .before .before .before .before .before .before .before .before .before .before .at .result - 1 = omega (arith, l .inv .to, c .before .before .before .before .before .before .loop-test .left, c .before .before .before .before .before .before .before .before .before .before .before .before .before .before .before .at .ensures) in (
+      row-kept (s .pre .0) (s .pre .3) (s .pre .1) (s .pre .6) (l .inv) z (ap (λ (k : ℕ). k - 1) (c .before .before .before .before .before .before .before .before .before .before .before .before .before .before .before .at .ensures)) (c .before .before .before .before .before .before .before .before .before .before .before .before .before .start-of .ensures) (c .before .before .before .before .before .before .before .before .before .before .before .normal-sum .ensures) (c .before .before .before .before .before .root-of .ensures) (c .before .before .before .put42 .ensures),
+      row-filled (s .pre .0) (s .pre .3) (s .pre .1) (s .pre .6) (l .inv) z (ap (λ (k : ℕ). k - 1) (c .before .before .before .before .before .before .before .before .before .before .before .before .before .before .before .at .ensures)) (c .before .before .before .before .before .before .before .before .before .before .before .before .before .start-of .ensures) (c .before .before .before .before .before .before .before .before .before .before .before .normal-sum .ensures) (c .before .before .before .before .before .root-of .ensures) (c .before .before .before .put42 .ensures),
+      row-entry (s .pre .0) (s .pre .3) (s .pre .1) (s .pre .6) (l .inv) z (ap (λ (k : ℕ). k - 1) (c .before .before .before .before .before .before .before .before .before .before .before .before .before .before .before .at .ensures)) (c .before .before .before .before .before .before .before .before .before .before .before .before .before .start-of .ensures) (c .before .before .before .before .before .before .before .before .before .before .before .normal-sum .ensures) (c .before .before .before .before .before .root-of .ensures) (c .before .before .before .put42 .ensures) (c .before .before .before .before .before .before .before .before .before .get4 .ensures) (c .div4 .ensures),
     )
 
 pub normal-matrix-cholesky-row-spec : {M : Type 1} → statement M
@@ -184,10 +178,10 @@ normal-matrix-cholesky-row-spec =
     at-requires-2
     loop-holds
     at-requires-3
-    start-of-requires-2
+    splat-requires
     normal-sum-requires-2
     less-products-requires
-    finish-requires
+    over-diagonal-requires
     add-put4
     put4-requires
     add-get4-2
@@ -197,7 +191,7 @@ normal-matrix-cholesky-row-spec =
     add-e
     loop-less
     loop-again
-    finish-requires-2
+    root-of-requires
     add-put4-2
     put4-requires-2
     div4-requires
