@@ -19,8 +19,8 @@ use Rattle.machine.proofs.Factor.{fold-same}
 use Rattle.sparse.specs.Sparse.{cut, lessEach, frontAt, front, back, Low}
 use Rattle.ranks.specs.Factoring.{Given, Factored, stateOf, entries}
 use Rattle.ranks.proofs.Fill.{kept-part, filled-none, filled-at, filled-same, filled-still, lends-at, lends-up, lends-within}
-use Rattle.links.proofs.Low.{low-of, ind-length}
 use Rattle.substitution.proofs.Turns.{cut-length}
+use Rattle.factor.proofs.Along.{low, count}
 use Rattle.eliminate.specs.Elimination.{Sides, KeptTwo, Eliminated}
 
 -- ---- two regions
@@ -92,12 +92,6 @@ module _ {off cols : List ℕ} {vals old : List Float} {m n s : ℕ} {aends alef
   abbrev Loop : ℕ → List Float → Type 0
   Loop i work = Done off cols vals m n s x z y w f d lo lends lcols old i work
 
-  pub low : Low m lends lcols
-  low = rw (G .lists .ends, G .lists .columns) (low-of off cols m n s vals .ranges)
-
-  pub count : E ≡ entries off cols m
-  count = ap length (G .lists .columns) ∙ ind-length off cols m
-
   -- the numbers stay where nothing but the solution's entries is written, and where the factor's are written too
   state-still : {k : ℕ} {a b : List Float} → k ≤ m → Kept 4 d k a b → (l : ℕ) → l < 4 → stateOf b x z y w m n s l ≡ stateOf a x z y w m n s l
   state-still h W l b =
@@ -108,7 +102,7 @@ module _ {off cols : List ℕ} {vals old : List Float} {m n s : ℕ} {aends alef
   state-two {new} W l b = rw (two-apart W (factors (G .regions .x-apart)) (S .x-apart) l b, two-apart W (factors (G .regions .z-apart)) (S .z-apart) l b, two-apart W (factors (G .regions .y-apart)) (S .y-apart) l b, two-apart W (factors (G .regions .w-apart)) (S .w-apart) l b) refl
     where
       factors : {p k : ℕ} → Apart p k lo (entries off cols m) → Apart p k lo E
-      factors {p} {k} a = subst (λ (e : ℕ). Apart p k lo e) (sym count) a
+      factors {p} {k} a = subst (λ (e : ℕ). Apart p k lo e) (sym (count G)) a
 
   pub done-none : Loop 0 old
   unfolding grow
@@ -129,7 +123,7 @@ module _ {off cols : List ℕ} {vals old : List Float} {m n s : ℕ} {aends alef
   }
     where
       ends : getD lends (i + 1) 0 ≤ E
-      ends = omega (arith, count, lends-within G {i = i + 1} (omega arith))
+      ends = omega (arith, count G, lends-within G {i = i + 1} (omega arith))
 
       up : getD lends i 0 ≤ getD lends (i + 1) 0
       up = lends-up G h
@@ -154,7 +148,7 @@ module _ {off cols : List ℕ} {vals old : List Float} {m n s : ℕ} {aends alef
         within = λ t z.
             kept-apart wide (apart-other (apart-front (S .l-apart) (omega arith))) t z
             ∙ R .solved t z
-            ∙ entries-same lends lcols low (reg 4 a lo E t) (reg 4 b lo E t) (reg 4 old f m t) i (omega arith) (same t z)
+            ∙ entries-same lends lcols (low G .ranges) (reg 4 a lo E t) (reg 4 b lo E t) (reg 4 old f m t) i (omega arith) (same t z)
             ∙ ap (λ (p : List Float). grow i (frontAt lends lcols (reg 4 b lo E t) p)) (sym (side t z));
       }
 
@@ -175,7 +169,7 @@ module _ {off cols : List ℕ} {vals old : List Float} {m n s : ℕ} {aends alef
       let R′ : Loop m new = subst (λ (k : ℕ). Loop k new) e R in
       record {
         kept = R′ .kept;
-        factored = filled-at (count ∙ sym (lends-at G m (omega arith))) (filled-same (state-two (R′ .kept)) (R′ .filled));
+        factored = filled-at (count G ∙ sym (lends-at G m (omega arith))) (filled-same (state-two (R′ .kept)) (R′ .filled));
         within = R′ .solved;
       }
 

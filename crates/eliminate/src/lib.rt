@@ -8,9 +8,8 @@ ghost use Rattle.eliminate.specs.Elimination.{Sides, Eliminated};
 use factor::normal_matrix_cholesky_row;
 use lanes::put4;
 use substitution::backward;
-use substitution::front_entry;
 
-// Row by row: the factor's row, then the forward substitution's entry, which needs no later row. The two chains of divisions overlap.
+// Row by row: the factor's row, and with it the forward substitution's entry, which needs no later row. The two chains of divisions overlap.
 pub fn factor_forward(
     work: &mut [f64],
     x: usize,
@@ -40,15 +39,16 @@ pub fn factor_forward(
     requires { ⌜ Given (now off) (now cols) (now values) (now work) m n s (now aends) (now aleft) (now aright) (now acols) (now dends) (now dleft) (now dright) (now lends) (now ldiag) (now lcols) x z y w lo × Sides x z y w f d lo m n s (length (now lcols)) (now work) ⌝ }
     ensures { λ _. ⌜ Eliminated (problemOf m n s (now (off .entry)) (now (cols .entry)) (now (values .entry))) (λ l. stateOf (now (work .entry)) x z y w m n s l) lo (length (now (lcols .entry))) d (λ t. front (now (lends .entry)) (now (lcols .entry)) m (reg 4 (now (work .exit)) lo (length (now (lcols .entry))) t) (reg 4 (now (work .entry)) f m t)) (now (work .entry)) (now (work .exit)) ⌝ }
 {
-    let count = lcols.len();
     let mut i = 0;
     while i < m {
-        normal_matrix_cholesky_row(
+        let v = normal_matrix_cholesky_row(
             work,
             x,
             z,
             y,
             w,
+            f,
+            d,
             lo,
             m,
             n,
@@ -68,7 +68,6 @@ pub fn factor_forward(
             lcols,
             i,
         );
-        let v = front_entry(lends, lcols, work, f, d, lo, m, count, i);
         put4(work, d + i, v);
         i += 1;
     }

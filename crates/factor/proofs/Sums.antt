@@ -1,10 +1,9 @@
 -- The two sums of an entry, turn by turn; where an entry starts, and how it is finished. Assumes nothing.
 use mathlib.Core.Path.{_≡_, refl, ap, ap₂, _∙_, subst}
-use mathlib.Core.Bool.{Bool, true, false, cond, _&&_}
+use mathlib.Core.Bool.{cond, _&&_}
 use mathlib.Core.List.{List}
 use Prim.Native.Nat.{ℕ, suc, _+_, _-_, _<_, _≤_}
 use native.Mathlib.Omega.{arith}
-use mathlib.Core.Logic.{_⊎_, inl, inr}
 use borrow.Author.Tests.{eq-eqb, ne-eqb, lt-ltb, le-ltb}
 use lib.Dec.{eqb, ltb}
 use lib.ListN.{getD}
@@ -85,19 +84,18 @@ product-here p q h = rw (p, q) h
 
 -- ---- where an entry starts, and how it is finished
 
-and-false-l : (a b : Bool) → a ≡ false → a && b ≡ false
-and-false-l a b e = ap (λ (t : Bool). t && b) e
+pub start-on : (i s : ℕ) (F : ℕ → Float) (z : Float) → i < s → lanes F ≡ lanes (λ l. cond (ltb i s) (F l) z)
+start-on i s F z h = rw (lt-ltb i s h) refl
 
-and-false-r : (a b : Bool) → b ≡ false → a && b ≡ false
-and-false-r true b e = e
-and-false-r false b e = refl
+pub start-off : (i s : ℕ) (F : ℕ → Float) → s ≤ i → lanes (λ l. ofBits binary64 0) ≡ lanes (λ l. cond (ltb i s) (F l) null)
+start-off i s F h = rw (le-ltb i s h) (rw null-bits refl)
 
-pub start-on : (i j s : ℕ) (F : ℕ → Float) (z : Float) → i ≡ j → i < s → lanes F ≡ lanes (λ l. cond (eqb i j && ltb i s) (F l) z)
-start-on i j s F z e h = rw (eq-eqb i j e, lt-ltb i s h) refl
+-- as the machine says it of (i, j)
+pub start-diagonal : (i s : ℕ) (F : ℕ → Float) → lanes (λ l. cond (ltb i s) (F l) null) ≡ lanes (λ l. cond (eqb i i && ltb i s) (F l) null)
+start-diagonal i s F = rw (eq-eqb i i refl) refl
 
-pub start-off : (i j s : ℕ) (F : ℕ → Float) → ((i ≡ j → ⊥) ⊎ (s ≤ i)) → lanes (λ l. ofBits binary64 0) ≡ lanes (λ l. cond (eqb i j && ltb i s) (F l) null)
-start-off i j s F (inl n) = rw (and-false-l (eqb i j) (ltb i s) (ne-eqb i j n)) (rw null-bits refl)
-start-off i j s F (inr h) = rw (and-false-r (eqb i j) (ltb i s) (le-ltb i s h)) (rw null-bits refl)
+pub start-below : (i j s : ℕ) (F : ℕ → Float) → (i ≡ j → ⊥) → lanes (λ l. ofBits binary64 0) ≡ lanes (λ l. cond (eqb i j && ltb i s) (F l) null)
+start-below i j s F n = rw (ne-eqb i j n) (rw null-bits refl)
 
 pub root-value : (v : List Float) {a r : List Float} → a ≡ each1 magnitude v → r ≡ each1 √ a → r ≡ lanes (λ l. √ (magnitude (at v l)))
 root-value v ea er = rw (er, ea)

@@ -17,7 +17,7 @@ use Rattle.machine.specs.Machine.{reduced, factorEntry}
 use Rattle.lanes.specs.Arithmetic.{null, √, magnitude}
 use Rattle.machine.specs.Work.{problemOf}
 use Rattle.ranks.specs.Factoring.{normalStep, productStep, NormalIn, ProductIn, Summed, Given, Stands, stateOf}
-use Rattle.ranks.proofs.Turn.{anorm-from, anorm-to, ldecomp-from, ldecomp-to, anorm-room, ldecomp-room, diag-is, diag-room, diag-entry, normal-ready, product-ready, rest-is, first}
+use Rattle.ranks.proofs.Turn.{anorm-from, anorm-to, ldecomp-from, ldecomp-to, anorm-room, ldecomp-room, diag-is, diag-room, diag-entry, normal-ready, product-ready, sharedSum, shared-is, rest-is, first}
 
 module _ {off cols : List ℕ} {vals work : List Float} {m n s : ℕ} {aends aleft aright acols dends dleft dright lends ldiag lcols : List ℕ} {x z y w lo : ℕ}
     (G : Given off cols vals work m n s aends aleft aright acols dends dleft dright lends ldiag lcols x z y w lo) {i j e : ℕ} (st : Stands off cols m i j e) where
@@ -70,15 +70,24 @@ module _ {off cols : List ℕ} {vals work : List Float} {m n s : ℕ} {aends ale
     omega (arith, d-at, diag-entry m n s off cols vals (G .ok) i j e st, G .regions .l-in),
   )
 
-  -- THE ENTRY: what the four calls leave is the machine's entry, of the factor as it stands in the memory
-  pub value : {start r : List Float} (sum left : List Float)
+  -- the shared columns by the lists are the machine's
+  pub sum-shared : {start : List Float} (sum : List Float)
       → start ≡ lanes (λ l. cond (eqb i j && ltb i s) (div binary64 (here 4 work (w + i) l) (here 4 work (y + i) l)) null)
       → Summed (normalStep vals aleft aright acols work x z (getD aends e 0)) start (getD aends e 0) (getD aends (e + 1) 0) sum
-      → Summed (productStep dleft dright work lo (getD dends e 0)) sum (getD dends e 0) (getD dends (e + 1) 0) left
+      → (l : ℕ) → l < 4 → at sum l ≡ sharedSum (problemOf m n s off cols vals) (stateOf work x z y w m n s l) i j
+  sum-shared sum es en l c =
+      en l c
+      ∙ ap (λ (v : Float). fold (getD aends (e + 1) 0 - getD aends e 0) (normalStep vals aleft aright acols work x z (getD aends e 0) l) v)
+      (lane-of (first m n s off cols vals (G .ok) i j e st work x z y w lo (G .values) (G .regions)) es l c)
+      ∙ rw (a-from, a-to, G .lists .anorm-left, G .lists .anorm-right, G .lists .anorm-cols) (shared-is m n s off cols vals (G .ok) i j e st work x z y w lo (G .values) (G .regions) l)
+
+  -- THE ENTRY: what is left after the products, finished, is the machine's entry, of the factor as it stands in the memory
+  pub entry-value : {r : List Float} (left : List Float)
+      → ((l : ℕ) → l < 4 → at left l ≡ reduced (problemOf m n s off cols vals) (stateOf work x z y w m n s l) (λ a b. here 4 work (lo + lplace g a b) l) i j)
       → r ≡ lanes (λ l. cond (eqb i j) (√ (magnitude (at left l))) (div binary64 (at left l) (here 4 work (lo + getD ldiag j 0) l)))
       → r ≡ lanes (λ l. factorEntry (problemOf m n s off cols vals) (stateOf work x z y w m n s l) (λ a b. here 4 work (lo + lplace g a b) l) i j)
   unfolding factorEntry
-  value {start} sum left es en ed er =
+  entry-value left left-is er =
       er
       ∙ lanes-ext (λ l. cond (eqb i j) (√ (magnitude (at left l))) (div binary64 (at left l) (here 4 work (lo + getD ldiag j 0) l)))
       (λ l. cond (eqb i j) (√ (magnitude (R l))) (div binary64 (R l) (here 4 work (lo + lplace g j j) l)))
@@ -87,17 +96,17 @@ module _ {off cols : List ℕ} {vals work : List Float} {m n s : ℕ} {aends ale
       R : ℕ → Float
       R l = reduced (problemOf m n s off cols vals) (stateOf work x z y w m n s l) (λ a b. here 4 work (lo + lplace g a b) l) i j
 
-      sum-is : (l : ℕ) → l < 4
-          → at sum l ≡ fold (before wA i (suc j) - before wA i j) (normalStep vals (listOf g AnormIndptrI m) (listOf g AnormIndptrJ m) (listOf g AnormIndices m) work x z (before wA i j) l)
-          (first m n s off cols vals (G .ok) i j e st work x z y w lo (G .values) (G .regions) l)
-      sum-is l c =
-          en l c
-          ∙ ap (λ (v : Float). fold (getD aends (e + 1) 0 - getD aends e 0) (normalStep vals aleft aright acols work x z (getD aends e 0) l) v)
-          (lane-of (first m n s off cols vals (G .ok) i j e st work x z y w lo (G .values) (G .regions)) es l c)
-          ∙ rw (a-from, a-to, G .lists .anorm-left, G .lists .anorm-right, G .lists .anorm-cols) refl
-
-      left-is : (l : ℕ) → l < 4 → at left l ≡ R l
+  -- what the four calls leave is the machine's entry
+  pub value : {start r : List Float} (sum left : List Float)
+      → start ≡ lanes (λ l. cond (eqb i j && ltb i s) (div binary64 (here 4 work (w + i) l) (here 4 work (y + i) l)) null)
+      → Summed (normalStep vals aleft aright acols work x z (getD aends e 0)) start (getD aends e 0) (getD aends (e + 1) 0) sum
+      → Summed (productStep dleft dright work lo (getD dends e 0)) sum (getD dends e 0) (getD dends (e + 1) 0) left
+      → r ≡ lanes (λ l. cond (eqb i j) (√ (magnitude (at left l))) (div binary64 (at left l) (here 4 work (lo + getD ldiag j 0) l)))
+      → r ≡ lanes (λ l. factorEntry (problemOf m n s off cols vals) (stateOf work x z y w m n s l) (λ a b. here 4 work (lo + lplace g a b) l) i j)
+  value sum left es en ed er = entry-value left left-is er
+    where
+      left-is : (l : ℕ) → l < 4 → at left l ≡ reduced (problemOf m n s off cols vals) (stateOf work x z y w m n s l) (λ a b. here 4 work (lo + lplace g a b) l) i j
       left-is l c =
           ed l c
-          ∙ ap (λ (v : Float). fold (getD dends (e + 1) 0 - getD dends e 0) (productStep dleft dright work lo (getD dends e 0) l) v) (sum-is l c)
+          ∙ ap (λ (v : Float). fold (getD dends (e + 1) 0 - getD dends e 0) (productStep dleft dright work lo (getD dends e 0) l) v) (sum-shared sum es en l c)
           ∙ rw (d-from, d-to, G .lists .ldecomp-left, G .lists .ldecomp-right) (rest-is m n s off cols vals (G .ok) i j e st work x z y w lo (G .values) (G .regions) l)

@@ -116,7 +116,7 @@ module _ {off cols : List ℕ} {vals old : List Float} {m n s : ℕ} {aends alef
   filled-none = record { within = λ l i j b h c t u. absurd (omega (arith, lends-at 0 (omega arith), lplace-start g 0)) }
 
   -- what the factor is worked out of stays
-  state-kept : {new : List Float} → Kept 4 lo E old new → (l : ℕ) → l < 4 → stateOf new x z y w m n s l ≡ stateOf old x z y w m n s l
+  pub state-kept : {new : List Float} → Kept 4 lo E old new → (l : ℕ) → l < 4 → stateOf new x z y w m n s l ≡ stateOf old x z y w m n s l
   state-kept W l b =
       rw (kept-apart W (G .regions .x-apart) l b, kept-apart W (G .regions .z-apart) l b, kept-apart W (G .regions .y-apart) l b, kept-apart W (G .regions .w-apart) l b)
       refl

@@ -15,9 +15,9 @@ use Rattle.lists.specs.declared.Which.the-variants.{AnormIndptr, AnormIndptrI, 
 use Rattle.lanes.specs.Lanes.{cell as here}
 use Rattle.lanes.specs.Region.{reg}
 use Rattle.lanes.proofs.Regions.{reg-at}
-use Rattle.lanes.specs.Lists.{at, fold}
-use Rattle.machine.specs.Machine.{Problem, reduced}
-use Rattle.lanes.specs.Arithmetic.{null}
+use Rattle.lanes.specs.Lists.{at, fold, each}
+use Rattle.machine.specs.Machine.{Problem, State, holds, entry, reduced}
+use Rattle.lanes.specs.Arithmetic.{_⊕_, _⊗_, _⊘_, null}
 use Rattle.machine.specs.Work.{problemOf}
 use Rattle.ranks.specs.Factoring.{normalStep, productStep, NormalIn, ProductIn, Regions, Stands, stateOf, entries}
 use Rattle.ranks.proofs.Ranks.{before-next, ranked, ranked-in, ends-at, lplace-lt, by-row-at, by-row-in}
@@ -32,6 +32,11 @@ numbers-all P w i j xs {f} e h p a b =
     let z : p ≡ before w i j + (p - before w i j) = omega arith in
     let c : p - before w i j < w i j = omega (arith, before-next w i j) in
     subst P (sym (ap (λ (q : ℕ). getD xs q 0) z ∙ e (p - before w i j) c)) (h (p - before w i j) c)
+
+-- where (i, j) starts, and the columns that rows i and j share, added in turn
+abbrev pub sharedSum : Problem → State → ℕ → ℕ → Float
+sharedSum A q i j =
+    each (A .n) (λ e. holds A i e && holds A j e) (λ e v. v ⊕ entry A i e ⊗ entry A j e ⊗ at (q .x) e ⊘ at (q .z) e) (cond (eqb i j && ltb i (A .s)) (at (q .w) i ⊘ at (q .y) i) null)
 
 module _ (m n s : ℕ) (off cols : List ℕ) (vals : List Float) (ok : Accepted off cols m n) where
   abbrev g : Shape
@@ -127,13 +132,17 @@ module _ (m n s : ℕ) (off cols : List ℕ) (vals : List Float) (ok : Accepted 
       abbrev pub inMemory : ℕ → ℕ → ℕ → Float
       inMemory l a b = here 4 work (lo + lplace g a b) l
 
+      pub shared-is : (l : ℕ)
+          → fold (before wA i (suc j) - before wA i j) (normalStep vals (listOf g AnormIndptrI m) (listOf g AnormIndptrJ m) (listOf g AnormIndices m) work x z (before wA i j) l) (first l)
+          ≡ sharedSum A (stateOf work x z y w m n s l) i j
+      shared-is l =
+          let da : before wA i (suc j) - before wA i j ≡ wA i j = omega (arith, before-next wA i j) in
+          rw (da, first-is l) (normal-is m n s off cols vals ok i j (st .row) (st .low) work x z l (cond (eqb i j && ltb i s) (div binary64 (at (reg 4 work w s l) i) (at (reg 4 work y m l) i)) null))
+
       pub rest-is : (l : ℕ)
-          → fold (before wD i (suc j) - before wD i j) (productStep (listOf g LdecompIndptrI m) (listOf g LdecompIndptrJ m) work lo (before wD i j) l)
-          (fold (before wA i (suc j) - before wA i j) (normalStep vals (listOf g AnormIndptrI m) (listOf g AnormIndptrJ m) (listOf g AnormIndices m) work x z (before wA i j) l) (first l))
+          → fold (before wD i (suc j) - before wD i j) (productStep (listOf g LdecompIndptrI m) (listOf g LdecompIndptrJ m) work lo (before wD i j) l) (sharedSum A (stateOf work x z y w m n s l) i j)
           ≡ reduced A (stateOf work x z y w m n s l) (inMemory l) i j
       unfolding reduced
       rest-is l =
-          let da : before wA i (suc j) - before wA i j ≡ wA i j = omega (arith, before-next wA i j) in
           let dd : before wD i (suc j) - before wD i j ≡ wD i j = omega (arith, before-next wD i j) in
-          rw (da, dd, first-is l, normal-is m n s off cols vals ok i j (st .row) (st .low) work x z l (cond (eqb i j && ltb i s) (div binary64 (at (reg 4 work w s l) i) (at (reg 4 work y m l) i)) null))
-          (products-is m n s off cols vals ok i j (st .row) (st .low) work lo l _)
+          rw dd (products-is m n s off cols vals ok i j (st .row) (st .low) work lo l _)

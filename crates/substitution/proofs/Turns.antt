@@ -1,4 +1,4 @@
--- An entry of each substitution; what the loop of the backward one keeps, and a turn of it. Assumes nothing.
+-- An entry of the backward substitution; what its loop keeps, and a turn of it. Assumes nothing.
 use mathlib.Core.Path.{_≡_, refl, sym, ap, _∙_}
 use mathlib.Core.List.{List}
 use Prim.Native.Nat.{ℕ, suc, _+_, _-_, _*_, _≤_, _<_}
@@ -11,7 +11,7 @@ use Rattle.lanes.specs.Lanes.{lanes, each2, quad, put}
 use Rattle.lanes.specs.Region.{reg, Kept, Fills, Apart}
 use Rattle.lanes.proofs.Regions.{reg-put, kept-apart, kept-put, kept-none}
 use Rattle.lanes.proofs.Quads.{lane-of, reg-quad}
-use Rattle.sparse.specs.Sparse.{cut, lessEach, frontAt, backAt, back}
+use Rattle.sparse.specs.Sparse.{cut, lessEach, backAt, back}
 
 -- ---- parts of lists
 
@@ -20,17 +20,6 @@ cut-length a e xs h = length-take-le (e - a) (drop a xs) (simp length-drop (omeg
 
 pub cut-at {ℓ} : {A : Type ℓ} (a e : ℕ) (xs : List A) (k : ℕ) (z : A) → k < e - a → getD (cut a e xs) k z ≡ getD xs (a + k) z
 cut-at a e xs k z h = getD-take (e - a) (drop a xs) k z h ∙ getD-drop a xs k z
-
--- ---- forward
-
-pub front-value : (ptr ind : List ℕ) (work : List Float) (f d l m count i : ℕ) → i < m → getD ptr (i + 1) 0 - 1 < count → {b v p r : List Float}
-    → b ≡ quad work (f + i)
-    → v ≡ lanes (λ t. lessEach (cut (getD ptr i 0) (getD ptr (i + 1) 0 - 1) ind) (λ k. at (reg 4 work l count t) (getD ptr i 0 + k)) (reg 4 work d i t) (at b t))
-    → p ≡ quad work (l + (getD ptr (i + 1) 0 - 1)) → r ≡ each2 (div binary64) v p
-    → r ≡ lanes (λ t. frontAt ptr ind (reg 4 work l count t) (reg 4 work f m t) (reg 4 work d i t) i)
-unfolding frontAt
-front-value ptr ind work f d l m count i h g eb ev ep er =
-    rw (er, ev, eb ∙ reg-quad work f m i h, ep ∙ reg-quad work l count (getD ptr (i + 1) 0 - 1) g)
 
 -- ---- backward
 

@@ -1,40 +1,14 @@
-// The substitutions in four lanes, by the plan's lists of the factor: an entry of the forward one, and the backward one.
+// The backward substitution in four lanes, by the plan's lists of the factor.
 ghost use mathlib.Core.Path.{_≡_};
 ghost use Prim.Native.Nat.{ℕ, _+_, _<_, _≤_, _*_};
 ghost use lib.ListN.{length, getD};
 ghost use Rattle.lanes.specs.Lanes.{lanes};
 ghost use Rattle.lanes.specs.Region.{reg, Fills, Apart};
-ghost use Rattle.sparse.specs.Sparse.{frontAt, backAt, back, Low, High};
+ghost use Rattle.sparse.specs.Sparse.{backAt, back, High};
 use lanes::div4;
 use lanes::get4;
 use lanes::put4;
 use sparse::less_back;
-use sparse::less_front;
-
-// Entry i of the forward substitution, of the entries before it in the region at d.
-pub fn front_entry(
-    ptr: &[u32],
-    ind: &[u32],
-    work: &[f64],
-    f: usize,
-    d: usize,
-    l: usize,
-    m: usize,
-    count: usize,
-    i: usize,
-) -> [f64; 4]
-    requires { ⌜ Low m (now ptr) (now ind) × (length (now ind) ≡ count) × (i < m) ⌝ }
-    requires { ⌜ (4 * (f + m) ≤ length (now work)) × (4 * (d + m) ≤ length (now work)) × (4 * (l + count) ≤ length (now work)) ⌝ }
-    ensures { λ r. ⌜ r ≡ lanes (λ t. frontAt (now (ptr .entry)) (now (ind .entry)) (reg 4 (now (work .entry)) l count t) (reg 4 (now (work .entry)) f m t) (reg 4 (now (work .entry)) d i t) i) ⌝ }
-{
-    let a = ptr[i] as usize;
-    let e = ptr[i + 1] as usize;
-    let g = e - 1;
-    let b = get4(work, f + i);
-    let v = less_front(&ind[a..g], work, d, i, l, count, a, b);
-    let p = get4(work, l + g);
-    div4(v, p)
-}
 
 fn back_entry(
     ptr: &[u32],

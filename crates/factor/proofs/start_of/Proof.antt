@@ -1,6 +1,5 @@
-use mathlib.Core.Path.{_≡_, _∙_}
-use mathlib.Core.Logic.{_⊎_, inl, inr, ⊎-elim}
-use Prim.Native.Nat.{_+_, _≤_}
+use mathlib.Core.Path.{_∙_}
+use Prim.Native.Nat.{_+_}
 use borrow.Author.Needs.{needs}
 use lib.Ieee.{binary64, div}
 use Rattle.lanes.specs.Lanes.{cell}
@@ -25,9 +24,9 @@ div4-requires c κs = search needs
 
 returns : tie.Need-returns
 returns c =
-    let s = c .before .before .before .before .before .before in
+    let s = c .before .before .before .before .before in
     rw (c .div4 .ensures, c .before .get42 .ensures, c .before .before .get4 .ensures)
-    (start-on (s .args .i) (s .args .j) (s .args .s) (λ l. div binary64 (cell 4 (s .args .work .now) (s .args .w + s .args .i) l) (cell 4 (s .args .work .now) (s .args .y + s .args .i) l)) _ (c .before .before .before .before .if1 .taken) (c .before .before .before .if2 .taken))
+    (start-on (s .args .i) (s .args .s) (λ l. div binary64 (cell 4 (s .args .work .now) (s .args .w + s .args .i) l) (cell 4 (s .args .work .now) (s .args .y + s .args .i) l)) _ (c .before .before .before .if1 .taken))
 
 splat-requires : tie.Need-splat-requires
 splat-requires c κs = search needs
@@ -36,8 +35,7 @@ returns-2 : tie.Need-returns-2
 returns-2 c =
     let s = c .before .before .before in
     c .splat .ensures
-    ∙ start-off (s .args .i) (s .args .j) (s .args .s) (λ l. div binary64 (cell 4 (s .args .work .now) (s .args .w + s .args .i) l) (cell 4 (s .args .work .now) (s .args .y + s .args .i) l))
-    (⊎-elim {C = (s .args .i ≡ s .args .j → ⊥) ⊎ (s .args .s ≤ s .args .i)} (λ p. inr (p .1 .left)) (λ p. inl (p .left)) (c .before .if1 .came))
+    ∙ start-off (s .args .i) (s .args .s) (λ l. div binary64 (cell 4 (s .args .work .now) (s .args .w + s .args .i) l) (cell 4 (s .args .work .now) (s .args .y + s .args .i) l)) (c .before .if1 .left)
 
 pub start-of-spec : {M : Type 1} → statement M
 start-of-spec =
