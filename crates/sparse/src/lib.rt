@@ -25,34 +25,6 @@ pub fn plus_in(acc: [f64; 4], a: [f64; 4], b: [f64; 4]) -> [f64; 4]
     add4(acc, mul4(a, b))
 }
 
-// The numbers are entries of the region at l, from entry a on.
-pub fn less_front(
-    es: &[u32],
-    work: &[f64],
-    d: usize,
-    n: usize,
-    l: usize,
-    count: usize,
-    a: usize,
-    start: [f64; 4],
-) -> [f64; 4]
-    requires { ⌜ ((k : ℕ) → k < length (now es) → getD (now es) k 0 < n) ⌝ }
-    requires { ⌜ (4 * (d + n) ≤ length (now work)) × (4 * (l + count) ≤ length (now work)) × (a + length (now es) ≤ count) ⌝ }
-    ensures { λ r. ⌜ r ≡ lanes (λ t. lessEach (now (es .entry)) (λ k. at (reg 4 (now (work .entry)) l count t) (a + k)) (reg 4 (now (work .entry)) d n t) (at start t)) ⌝ }
-{
-    let mut acc = start;
-    let mut k = 0;
-    while k < es.len() {
-        let j = es[k] as usize;
-        let u = get4(work, d + j);
-        let v = get4(work, l + (a + k));
-        let t = less_in(acc, u, v);
-        acc = t;
-        k += 1;
-    }
-    acc
-}
-
 // The numbers are entries of the region at l, at the places that a second list names.
 pub fn less_back(
     es: &[u32],
