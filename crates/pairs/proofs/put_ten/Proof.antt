@@ -33,7 +33,7 @@ fill-requires c κs =
     let s = c .before .before .before .before .before .before .before .before .before .before .before .before .before .before .before .before in
     let a = s .args in
     let l = c .before .before .before .before .before .before .before .before .loop in
-    (s .pre .0, s .pre .1, all.ten-room (shape (a .off .now) (a .cols .now)) (a .m) 10 (a .start) (length (l .index)) (l .at) (l .k) (c .before .before .which-field .result) (c .before .before .which-field .ensures) (c .before .before .before .before .before .before .before .loop-test .taken) (omega (arith, s .pre .2, l .inv .2)) (l .inv .3 .next), s .pre .3, omega (arith, s .pre .4, l .inv .1, c .before .before .before .before .before .clear .kept .0), λ x h. omega (arith, c .before .before .before .before .before .clear .ensures x h))
+    (s .pre .0, s .pre .1, all.ten-room (shape (a .off .now) (a .cols .now)) (a .m) 10 (a .start) (length (l .index)) (l .at) (l .k) (c .before .before .which-field .result) (c .before .before .which-field .ensures) (omega (arith, c .before .before .before .before .before .before .before .loop-test .taken)) (omega (arith, s .pre .2, l .inv .2)) (l .inv .3 .next), s .pre .3, omega (arith, s .pre .4, l .inv .1, c .before .before .before .before .before .clear .kept .0), λ x h. omega (arith, c .before .before .before .before .before .clear .ensures x h))
 
 add-k : tie.Need-add-k Inv-loop μ-loop
 add-k c = omega (arith, c .before .before .before .before .before .before .before .before .before .before .before .before .loop-test .taken)
