@@ -2,24 +2,26 @@
 use mathlib.Core.Path.{_≡_, refl, sym, ap, ap₂, _∙_, subst}
 use mathlib.Core.Logic.{_⊎_, inl, inr}
 use mathlib.Core.List.{List, [], _∷_, _++_}
-use Prim.Native.Nat.{ℕ, zero, suc, _+_, _-_, _*_, _≤_, _<_}
+use Prim.Native.Nat.{ℕ, zero, suc, _+_, _-_, _*_, _/_, _≤_, _<_}
 use native.Mathlib.Omega.{arith}
 use native.Mathlib.Numerals.{add-one}
 use lib.ListN.{length, getD}
 use lib.Ieee.{Float}
 use Rattle.lanes.specs.Lists.{at, grow}
 use Rattle.lanes.specs.Arithmetic.{_⊖_, _⊗_, _⊘_}
-use Rattle.lanes.specs.Lanes.{lanes, put}
+use Rattle.lanes.specs.Lanes.{put, On, room}
 use Rattle.lanes.specs.Region.{reg, Kept, Fills, Grows, Apart, before, after}
-use Rattle.lanes.proofs.Regions.{reg-at, reg-none, reg-same, kept-none, kept-wider, kept-apart, apart-front}
-use Rattle.lanes.proofs.Quads.{lanes-ext, grows-turn}
+use Rattle.lanes.proofs.Regions.{places-le, places-lt, kept-room, reg-at, reg-none, reg-same, kept-none, kept-wider, kept-apart, apart-front}
+use Rattle.lanes.proofs.Quads.{grows-turn, _▹_}
 use Rattle.machine.specs.Machine.{Problem}
 use Rattle.machine.specs.Work.{problemOf}
 use Rattle.machine.proofs.Factor.{fold-same}
 use Rattle.sparse.specs.Sparse.{cut, lessEach, frontAt, front, back, Low}
 use Rattle.ranks.specs.Factoring.{Given, Factored, stateOf, entries}
-use Rattle.ranks.proofs.Fill.{kept-part, filled-none, filled-at, filled-same, filled-still, lends-at, lends-up, lends-within}
+use Rattle.ranks.proofs.Fill.{given-still, kept-part, filled-none, filled-at, filled-same, filled-still, lends-at, lends-up, lends-within}
 use Rattle.substitution.proofs.Turns.{cut-length}
+use Rattle.layout.specs.declared.Regions.{Regions}
+use Rattle.factor.specs.Row.{GivenIn, RowDue}
 use Rattle.factor.proofs.Along.{low, count}
 use Rattle.eliminate.specs.Elimination.{Sides, KeptTwo, Eliminated}
 
@@ -29,22 +31,26 @@ apart-other : {p m o n : ℕ} → Apart p m o n → Apart o n p m
 apart-other (before h) = after h
 apart-other (after h) = before h
 
-outside : {p k o n : ℕ} → Apart p k o n → (e l : ℕ) → e < k → l < 4 → (4 * (p + e) + l < 4 * o) ⊎ (4 * (o + n) ≤ 4 * (p + e) + l)
-outside (before h) e l a b = inl (omega arith)
-outside (after h) e l a b = inr (omega arith)
+outside : {width p k o n : ℕ} → Apart p k o n → (e l : ℕ) → e < k → l < width → (width * (p + e) + l < width * o) ⊎ (width * (o + n) ≤ width * (p + e) + l)
+outside {width} {p} {k} {o} {n} (before h) e l a b = inl (omega (arith, places-lt width {k = p + e} {m = o} (omega arith)))
+outside {width} {p} {k} {o} {n} (after h) e l a b = inr (omega (arith, places-le width {o = o + n} {k = p + e} (omega arith)))
 
 -- a region that lies elsewhere is as it was
-pub two-apart : {o n p k : ℕ} {old new : List Float} → KeptTwo o n p k old new → {r e : ℕ} → Apart r e o n → Apart r e p k → (l : ℕ) → l < 4 → reg 4 new r e l ≡ reg 4 old r e l
-two-apart {o} {n} {p} {k} {old} {new} w {r} {e} a b l h =
-    reg-same 4 new old r e l (λ i c. w .outside (4 * (r + i) + l) (outside a i l c h) (outside b i l c h))
+pub two-apart : {width o n p k : ℕ} {old new : List Float} → KeptTwo width o n p k old new → {r e : ℕ} → Apart r e o n → Apart r e p k → (l : ℕ) → l < width → reg width new r e l ≡ reg width old r e l
+two-apart {width} {o} {n} {p} {k} {old} {new} w {r} {e} a b l h =
+    reg-same width new old r e l (λ i c. w .outside (width * (r + i) + l) (outside a i l c h) (outside b i l c h))
 
-two-none : {o n p k : ℕ} {ws : List Float} → KeptTwo o n p k ws ws
+pub two-room : {width o n p k : ℕ} {old new : List Float} → KeptTwo width o n p k old new → room width new ≡ room width old
+unfolding room
+two-room {width} w = ap (λ (n : ℕ). n / width) (w .size)
+
+two-none : {width o n p k : ℕ} {ws : List Float} → KeptTwo width o n p k ws ws
 two-none = record { size = refl; outside = λ j a b. refl }
 
-two-first : {o n p k : ℕ} {a b c : List Float} → KeptTwo o n p k a b → Kept 4 o n b c → KeptTwo o n p k a c
+two-first : {width o n p k : ℕ} {a b c : List Float} → KeptTwo width o n p k a b → Kept width o n b c → KeptTwo width o n p k a c
 two-first u w = record { size = w .size ∙ u .size; outside = λ j h g. w .outside j h ∙ u .outside j h g }
 
-two-second : {o n p k : ℕ} {a b c : List Float} → KeptTwo o n p k a b → Kept 4 p k b c → KeptTwo o n p k a c
+two-second : {width o n p k : ℕ} {a b c : List Float} → KeptTwo width o n p k a b → Kept width p k b c → KeptTwo width o n p k a c
 two-second u w = record { size = w .size ∙ u .size; outside = λ j h g. w .outside j g ∙ u .outside j h g }
 
 -- ---- an entry of the forward substitution reads its own row of the factor alone
@@ -74,15 +80,15 @@ module _ {m : ℕ} (ptr ind : List ℕ) (L : Low m ptr ind) (u v f : List Float)
 -- ---- the loop
 
 -- i rows are done: their entries of the factor are the machine's on the memory's own numbers, and their entries of the forward substitution stand
-pub record Done (off cols : List ℕ) (vals : List Float) (m n s x z y w f d lo : ℕ) (lends lcols : List ℕ) (old : List Float) (i : ℕ) (work : List Float) : Type 0 where
+pub record Done (width : ℕ) (off cols : List ℕ) (vals : List Float) (m n s x z y w f d lo : ℕ) (lends lcols : List ℕ) (old : List Float) (i : ℕ) (work : List Float) : Type 0 where
   pub low : i ≤ m
-  pub kept : KeptTwo lo (length lcols) d m old work
-  pub filled : Factored (problemOf m n s off cols vals) (λ l. stateOf work x z y w m n s l) lo (getD lends i 0) work
-  pub solved : (t : ℕ) → t < 4 → reg 4 work d i t ≡ grow i (frontAt lends lcols (reg 4 work lo (length lcols) t) (reg 4 old f m t))
+  pub kept : KeptTwo width lo (length lcols) d m old work
+  pub filled : Factored width (problemOf m n s off cols vals) (λ l. stateOf width work x z y w m n s l) lo (getD lends i 0) work
+  pub solved : (t : ℕ) → t < width → reg width work d i t ≡ grow i (frontAt lends lcols (reg width work lo (length lcols) t) (reg width old f m t))
 
-module _ {off cols : List ℕ} {vals old : List Float} {m n s : ℕ} {aends aleft aright acols dends dleft dright lends ldiag lcols : List ℕ} {x z y w f d lo : ℕ}
-    (G : Given off cols vals old m n s aends aleft aright acols dends dleft dright lends ldiag lcols x z y w lo)
-    (S : Sides x z y w f d lo m n s (length lcols) old) where
+module _ {width : ℕ} {off cols : List ℕ} {vals old : List Float} {m n s : ℕ} {aends aleft aright acols dends dleft dright lends ldiag lcols : List ℕ} {x z y w f d lo : ℕ}
+    (G : Given width off cols vals old m n s aends aleft aright acols dends dleft dright lends ldiag lcols x z y w lo)
+    (S : Sides width x z y w f d lo m n s (length lcols) old) where
   abbrev A : Problem
   A = problemOf m n s off cols vals
 
@@ -90,15 +96,15 @@ module _ {off cols : List ℕ} {vals old : List Float} {m n s : ℕ} {aends alef
   E = length lcols
 
   abbrev Loop : ℕ → List Float → Type 0
-  Loop i work = Done off cols vals m n s x z y w f d lo lends lcols old i work
+  Loop i work = Done width off cols vals m n s x z y w f d lo lends lcols old i work
 
   -- the numbers stay where nothing but the solution's entries is written, and where the factor's are written too
-  state-still : {k : ℕ} {a b : List Float} → k ≤ m → Kept 4 d k a b → (l : ℕ) → l < 4 → stateOf b x z y w m n s l ≡ stateOf a x z y w m n s l
+  state-still : {k : ℕ} {a b : List Float} → k ≤ m → Kept width d k a b → (l : ℕ) → l < width → stateOf width b x z y w m n s l ≡ stateOf width a x z y w m n s l
   state-still h W l b =
       rw (kept-apart W (apart-front (S .x-apart) h) l b, kept-apart W (apart-front (S .z-apart) h) l b, kept-apart W (apart-front (S .y-apart) h) l b, kept-apart W (apart-front (S .w-apart) h) l b)
       refl
 
-  state-two : {new : List Float} → KeptTwo lo E d m old new → (l : ℕ) → l < 4 → stateOf new x z y w m n s l ≡ stateOf old x z y w m n s l
+  state-two : {new : List Float} → KeptTwo width lo E d m old new → (l : ℕ) → l < width → stateOf width new x z y w m n s l ≡ stateOf width old x z y w m n s l
   state-two {new} W l b = rw (two-apart W (factors (G .regions .x-apart)) (S .x-apart) l b, two-apart W (factors (G .regions .z-apart)) (S .z-apart) l b, two-apart W (factors (G .regions .y-apart)) (S .y-apart) l b, two-apart W (factors (G .regions .w-apart)) (S .w-apart) l b) refl
     where
       factors : {p k : ℕ} → Apart p k lo (entries off cols m) → Apart p k lo E
@@ -106,14 +112,14 @@ module _ {off cols : List ℕ} {vals old : List Float} {m n s : ℕ} {aends alef
 
   pub done-none : Loop 0 old
   unfolding grow
-  done-none = record { low = omega arith; kept = two-none; filled = filled-none G; solved = λ t h. reg-none 4 old d t }
+  done-none = record { low = omega arith; kept = two-none; filled = filled-none G; solved = λ t h. reg-none width old d t }
 
   -- THE TURN: row i of the factor, then entry i of the forward substitution
   pub done-more : {i : ℕ} {a b c v : List Float} → Loop i a → i < m
-      → Kept 4 (lo + getD lends i 0) (getD lends (i + 1) 0 - getD lends i 0) a b
-      → Factored A (λ l. stateOf b x z y w m n s l) lo (getD lends (i + 1) 0) b
-      → v ≡ lanes (λ t. frontAt lends lcols (reg 4 b lo E t) (reg 4 b f m t) (reg 4 b d i t) i)
-      → c ≡ put 4 b (d + i) v
+      → Kept width (lo + getD lends i 0) (getD lends (i + 1) 0 - getD lends i 0) a b
+      → Factored width A (λ l. stateOf width b x z y w m n s l) lo (getD lends (i + 1) 0) b
+      → On width v (λ t. frontAt lends lcols (reg width b lo E t) (reg width b f m t) (reg width b d i t) i)
+      → c ≡ put width b (d + i) v
       → Loop (i + 1) c
   done-more {i} {a} {b} {c} {v} R h K F ev ep = record {
     low = omega arith;
@@ -131,39 +137,37 @@ module _ {off cols : List ℕ} {vals old : List Float} {m n s : ℕ} {aends alef
       front-of : Apart lo E d m → Apart lo (getD lends (i + 1) 0) d m
       front-of p = apart-other (apart-front (apart-other p) ends)
 
-      wide : Kept 4 lo E a b
+      wide : Kept width lo E a b
       wide = kept-part lo (getD lends i 0) (getD lends (i + 1) 0 - getD lends i 0) K (omega (arith, ends, up))
 
       -- the right-hand side is as it was, and so is the factor before row i
-      side : (t : ℕ) → t < 4 → reg 4 b f m t ≡ reg 4 old f m t
+      side : (t : ℕ) → t < width → reg width b f m t ≡ reg width old f m t
       side t z = kept-apart wide (S .f-factor) t z ∙ two-apart (R .kept) (S .f-factor) (S .f-apart) t z
 
-      same : (t : ℕ) → t < 4 → (k : ℕ) → k < getD lends i 0 → at (reg 4 a lo E t) k ≡ at (reg 4 b lo E t) k
+      same : (t : ℕ) → t < width → (k : ℕ) → k < getD lends i 0 → at (reg width a lo E t) k ≡ at (reg width b lo E t) k
       same t z k l =
-          reg-at 4 a lo E t k (omega (arith, ends, up)) ∙ sym (K .outside (4 * (lo + k) + t) (inl (omega arith))) ∙ sym (reg-at 4 b lo E t k (omega (arith, ends, up)))
+          reg-at width a lo E t k (omega (arith, ends, up)) ∙ sym (K .outside (width * (lo + k) + t) (inl (omega (arith, places-lt width {k = lo + k} {m = lo + getD lends i 0} (omega arith))))) ∙ sym (reg-at width b lo E t k (omega (arith, ends, up)))
 
-      sofar : Grows 4 d i (λ t. frontAt lends lcols (reg 4 b lo E t) (reg 4 b f m t)) b b
+      sofar : Grows width d i (λ t. frontAt lends lcols (reg width b lo E t) (reg width b f m t)) b b
       sofar = record {
-        kept = kept-none 4 d i b;
+        kept = kept-none width d i b;
         within = λ t z.
             kept-apart wide (apart-other (apart-front (S .l-apart) (omega arith))) t z
             ∙ R .solved t z
-            ∙ entries-same lends lcols (low G .ranges) (reg 4 a lo E t) (reg 4 b lo E t) (reg 4 old f m t) i (omega arith) (same t z)
-            ∙ ap (λ (p : List Float). grow i (frontAt lends lcols (reg 4 b lo E t) p)) (sym (side t z));
+            ∙ entries-same lends lcols (low G .ranges) (reg width a lo E t) (reg width b lo E t) (reg width old f m t) i (omega arith) (same t z)
+            ∙ ap (λ (p : List Float). grow i (frontAt lends lcols (reg width b lo E t) p)) (sym (side t z));
       }
 
-      turn : Grows 4 d (i + 1) (λ t. frontAt lends lcols (reg 4 b lo E t) (reg 4 b f m t)) b c
+      turn : Grows width d (i + 1) (λ t. frontAt lends lcols (reg width b lo E t) (reg width b f m t)) b c
       turn =
-          grows-turn sofar (omega (arith, S .d-in, R .kept .size, K .size))
-          (ev
-          ∙ lanes-ext (λ t. frontAt lends lcols (reg 4 b lo E t) (reg 4 b f m t) (reg 4 b d i t) i)
-          (λ t. frontAt lends lcols (reg 4 b lo E t) (reg 4 b f m t) (grow i (frontAt lends lcols (reg 4 b lo E t) (reg 4 b f m t))) i)
-          (λ t z. ap (λ (p : List Float). frontAt lends lcols (reg 4 b lo E t) (reg 4 b f m t) p i) (sofar .within t z)))
+          grows-turn sofar (omega (arith, S .d-in, two-room (R .kept), kept-room K))
+          (ev ▹
+          (λ t z. ap (λ (p : List Float). frontAt lends lcols (reg width b lo E t) (reg width b f m t) p i) (sofar .within t z)))
           ep
 
   -- THE END: all rows are done
   pub done-all : {i : ℕ} {new : List Float} → Loop i new → i ≡ m
-      → Eliminated A (λ l. stateOf old x z y w m n s l) lo E d (λ t. front lends lcols m (reg 4 new lo E t) (reg 4 old f m t)) old new
+      → Eliminated width A (λ l. stateOf width old x z y w m n s l) lo E d (λ t. front lends lcols m (reg width new lo E t) (reg width old f m t)) old new
   unfolding front
   done-all {i} {new} R e =
       let R′ : Loop m new = subst (λ (k : ℕ). Loop k new) e R in
@@ -175,11 +179,29 @@ module _ {off cols : List ℕ} {vals old : List Float} {m n s : ℕ} {aends alef
 
   -- then the backward substitution
   pub solved-all : (tends trows tplaces : List ℕ) {a b : List Float}
-      → Eliminated A (λ l. stateOf old x z y w m n s l) lo E d (λ t. front lends lcols m (reg 4 a lo E t) (reg 4 old f m t)) old a
-      → Fills 4 d m (λ t. back lends tends trows tplaces (reg 4 a lo E t) m (reg 4 a d m t)) a b
-      → Eliminated A (λ l. stateOf old x z y w m n s l) lo E d (λ t. back lends tends trows tplaces (reg 4 b lo E t) m (front lends lcols m (reg 4 b lo E t) (reg 4 old f m t))) old b
+      → Eliminated width A (λ l. stateOf width old x z y w m n s l) lo E d (λ t. front lends lcols m (reg width a lo E t) (reg width old f m t)) old a
+      → Fills width d m (λ t. back lends tends trows tplaces (reg width a lo E t) m (reg width a d m t)) a b
+      → Eliminated width A (λ l. stateOf width old x z y w m n s l) lo E d (λ t. back lends tends trows tplaces (reg width b lo E t) m (front lends lcols m (reg width b lo E t) (reg width old f m t))) old b
   solved-all tends trows tplaces {a} {b} F B = record {
     kept = two-second (F .kept) (B .kept);
     factored = filled-still (B .kept) (S .l-apart) (F .factored);
     within = λ t z. B .within t z ∙ rw (F .within t z, kept-apart (B .kept) (S .l-apart) t z) refl;
   }
+
+-- row i is due where i rows are done
+pub due : {width : ℕ} {off cols : List ℕ} {vals old : List Float} {g : Regions} {aends aleft aright acols dends dleft dright lends ldiag lcols : List ℕ}
+    → GivenIn width off cols vals old g aends aleft aright acols dends dleft dright lends ldiag lcols
+    → Sides width (g .x) (g .z) (g .y) (g .w) (g .rhs) (g .dy) (g .l) (g .m) (g .n) (g .s) (length lcols) old
+    → {i : ℕ} {work : List Float}
+    → Done width off cols vals (g .m) (g .n) (g .s) (g .x) (g .z) (g .y) (g .w) (g .rhs) (g .dy) (g .l) lends lcols old i work
+    → i < g .m
+    → RowDue width off cols vals work g aends aleft aright acols dends dleft dright lends ldiag lcols i
+due G S {i} {work} R h = record {
+  given = given-still G work (two-room (R .kept));
+  row = h;
+  filled = R .filled;
+  solution-apart = S .l-apart;
+  side-in = omega (arith, S .f-in, two-room (R .kept));
+  solution-in = omega (arith, S .d-in, two-room (R .kept));
+  side-apart = S .f-factor;
+}

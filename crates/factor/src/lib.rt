@@ -1,26 +1,26 @@
 // The factor of the normal matrix, in four lanes, by the plan's lists.
 ghost use mathlib.Core.Path.{_≡_};
 ghost use mathlib.Core.Bool.{cond};
-ghost use Prim.Native.Nat.{ℕ, _+_, _-_, _*_, _<_, _≤_};
+ghost use mathlib.Core.List.{List};
+ghost use Prim.Native.Nat.{ℕ, _+_, _*_, _<_, _≤_};
 ghost use lib.Dec.{ltb};
 ghost use lib.ListN.{length, getD};
 ghost use Rattle.lanes.specs.Lists.{at as lane};
-ghost use Rattle.lanes.specs.Lanes.{lanes, cell as here};
-ghost use Rattle.lanes.specs.Region.{reg, Kept, Apart};
+ghost use Rattle.lanes.specs.Lanes.{lanes, cell as here, On, Width, room};
 ghost use Rattle.lanes.specs.Arithmetic.{_⊕_, _⊖_, _⊗_, _⊘_, √, magnitude, null};
-ghost use Rattle.machine.specs.Work.{problemOf};
-ghost use Rattle.sparse.specs.Sparse.{frontAt};
-ghost use Rattle.ranks.specs.Factoring.{normalStep, productStep, NormalIn, ProductIn, Summed, Given, Factored, stateOf};
+ghost use Rattle.ranks.specs.Factoring.{normalStep, productStep, NormalIn, ProductIn, Summed};
+ghost use Rattle.factor.specs.Row.{RowDue, SomeDue, RowDone};
 use lanes::above_zero;
 use lanes::abs4;
 use lanes::add4;
 use lanes::div4;
-use lanes::get4;
+use lanes::get;
 use lanes::mul4;
-use lanes::put4;
+use lanes::put;
 use lanes::root4;
 use lanes::splat;
 use lanes::sub4;
+use layout::Regions;
 
 fn at(s: &[u32], i: usize) -> usize
     requires { ⌜ i < length (now s) ⌝ }
@@ -45,8 +45,8 @@ fn product_in(acc: [f64; 4], a: [f64; 4], b: [f64; 4]) -> [f64; 4]
 // The shared columns of entry e, added in turn.
 fn normal_sum(
     work: &[f64],
-    x: usize,
-    z: usize,
+    width: usize,
+    mem: Regions,
     values: &[f64],
     ends: &[u32],
     left: &[u32],
@@ -55,8 +55,8 @@ fn normal_sum(
     e: usize,
     start: [f64; 4],
 ) -> [f64; 4]
-    requires { ⌜ (e + 1 < length (now ends)) × NormalIn (now values) (now left) (now right) (now columns) (now work) x z (getD (now ends) e 0) (getD (now ends) (e + 1) 0) ⌝ }
-    ensures { λ r. ⌜ Summed (normalStep (now (values .entry)) (now (left .entry)) (now (right .entry)) (now (columns .entry)) (now (work .entry)) x z (getD (now (ends .entry)) e 0)) start (getD (now (ends .entry)) e 0) (getD (now (ends .entry)) (e + 1) 0) r ⌝ }
+    requires { ⌜ (e + 1 < length (now ends)) × NormalIn width (now values) (now left) (now right) (now columns) (now work) (mem .x) (mem .z) (getD (now ends) e 0) (getD (now ends) (e + 1) 0) × Width width ⌝ }
+    ensures { λ r. ⌜ Summed width (normalStep width (now (values .entry)) (now (left .entry)) (now (right .entry)) (now (columns .entry)) (now (work .entry)) (mem .x) (mem .z) (getD (now (ends .entry)) e 0)) start (getD (now (ends .entry)) e 0) (getD (now (ends .entry)) (e + 1) 0) r ⌝ }
 {
     let to = at(ends, e + 1);
     let mut acc = start;
@@ -65,8 +65,8 @@ fn normal_sum(
         let i = at(left, p);
         let j = at(right, p);
         let c = at(columns, p);
-        let xc = get4(work, x + c);
-        let zc = get4(work, z + c);
+        let xc = get(work, mem.x + c, width);
+        let zc = get(work, mem.z + c, width);
         let t = normal_in(acc, values[i], values[j], xc, zc);
         acc = t;
         p += 1;
@@ -77,6 +77,7 @@ fn normal_sum(
 // The products of the entries before e, subtracted in turn.
 fn less_products(
     work: &[f64],
+    width: usize,
     lo: usize,
     ends: &[u32],
     left: &[u32],
@@ -84,8 +85,8 @@ fn less_products(
     e: usize,
     start: [f64; 4],
 ) -> [f64; 4]
-    requires { ⌜ (e + 1 < length (now ends)) × ProductIn (now left) (now right) (now work) lo (getD (now ends) e 0) (getD (now ends) (e + 1) 0) ⌝ }
-    ensures { λ r. ⌜ Summed (productStep (now (left .entry)) (now (right .entry)) (now (work .entry)) lo (getD (now (ends .entry)) e 0)) start (getD (now (ends .entry)) e 0) (getD (now (ends .entry)) (e + 1) 0) r ⌝ }
+    requires { ⌜ (e + 1 < length (now ends)) × ProductIn width (now left) (now right) (now work) lo (getD (now ends) e 0) (getD (now ends) (e + 1) 0) × Width width ⌝ }
+    ensures { λ r. ⌜ Summed width (productStep width (now (left .entry)) (now (right .entry)) (now (work .entry)) lo (getD (now (ends .entry)) e 0)) start (getD (now (ends .entry)) e 0) (getD (now (ends .entry)) (e + 1) 0) r ⌝ }
 {
     let to = at(ends, e + 1);
     let mut acc = start;
@@ -93,8 +94,8 @@ fn less_products(
     while p < to {
         let i = at(left, p);
         let j = at(right, p);
-        let a = get4(work, lo + i);
-        let b = get4(work, lo + j);
+        let a = get(work, lo + i, width);
+        let b = get(work, lo + j, width);
         let t = product_in(acc, a, b);
         acc = t;
         p += 1;
@@ -103,13 +104,13 @@ fn less_products(
 }
 
 // Where the diagonal's entry of row i starts: w / y in a slack row, else 0.
-fn start_of(work: &[f64], y: usize, w: usize, s: usize, i: usize) -> [f64; 4]
-    requires { ⌜ (4 * (w + s) ≤ length (now work)) × (4 * (y + i) + 4 ≤ length (now work)) ⌝ }
-    ensures { λ r. ⌜ r ≡ lanes (λ l. cond (ltb i s) (here 4 (now (work .entry)) (w + i) l ⊘ here 4 (now (work .entry)) (y + i) l) null) ⌝ }
+fn start_of(work: &[f64], width: usize, y: usize, w: usize, s: usize, i: usize) -> [f64; 4]
+    requires { ⌜ (w + s ≤ room width (now work)) × (y + i < room width (now work)) × Width width ⌝ }
+    ensures { λ r. ⌜ On width r (λ l. cond (ltb i s) (here width (now (work .entry)) (w + i) l ⊘ here width (now (work .entry)) (y + i) l) null) ⌝ }
 {
     if i < s {
-        let a = get4(work, w + i);
-        let b = get4(work, y + i);
+        let a = get(work, w + i, width);
+        let b = get(work, y + i, width);
         return div4(a, b);
     }
     splat(0.0)
@@ -127,30 +128,26 @@ fn root_of(v: [f64; 4]) -> [f64; 4]
 }
 
 // Elsewhere over the diagonal's entry of the column's row.
-fn over_diagonal(work: &[f64], lo: usize, diag: &[u32], j: usize, v: [f64; 4]) -> [f64; 4]
-    requires { ⌜ (j < length (now diag)) × (4 * (lo + getD (now diag) j 0) + 4 ≤ length (now work)) ⌝ }
-    ensures { λ r. ⌜ r ≡ lanes (λ l. lane v l ⊘ here 4 (now (work .entry)) (lo + getD (now (diag .entry)) j 0) l) ⌝ }
+fn over_diagonal(
+    work: &[f64],
+    width: usize,
+    lo: usize,
+    diag: &[u32],
+    j: usize,
+    v: [f64; 4],
+) -> [f64; 4]
+    requires { ⌜ (j < length (now diag)) × (lo + getD (now diag) j 0 < room width (now work)) × Width width ⌝ }
+    ensures { λ r. ⌜ On width r (λ l. lane v l ⊘ here width (now (work .entry)) (lo + getD (now (diag .entry)) j 0) l) ⌝ }
 {
     let d = at(diag, j);
-    let b = get4(work, lo + d);
+    let b = get(work, lo + d, width);
     div4(v, b)
 }
 
-// Row i of the factor, columns rising, where the rows before it stand; and entry i of the forward substitution of the right-hand side at f, where the entries before it stand at d. The diagonal's sum and the entry's go along with the row. The lists, each by its ends or by itself: shared columns (a), products (d), the factor's rows (l).
+// Row i of the factor, columns rising, where the rows before it stand; and entry i of the forward substitution of the right-hand side, where the entries before it stand in the solution's region. The diagonal's sum and the entry's go along with the row. The lists, each by its ends or by itself: shared columns (a), products (d), the factor's rows (l).
 pub fn normal_matrix_cholesky_row(
     work: &mut [f64],
-    x: usize,
-    z: usize,
-    y: usize,
-    w: usize,
-    f: usize,
-    d: usize,
-    lo: usize,
-    m: usize,
-    n: usize,
-    s: usize,
-    off: &[u32],
-    cols: &[u32],
+    width: usize,
     values: &[f64],
     aends: &[u32],
     aleft: &[u32],
@@ -162,24 +159,47 @@ pub fn normal_matrix_cholesky_row(
     lends: &[u32],
     ldiag: &[u32],
     lcols: &[u32],
+    mem: Regions,
     i: usize,
 ) -> [f64; 4]
-    requires { ⌜ Given (now off) (now cols) (now values) (now work) m n s (now aends) (now aleft) (now aright) (now acols) (now dends) (now dleft) (now dright) (now lends) (now ldiag) (now lcols) x z y w lo × (i < m) × Factored (problemOf m n s (now off) (now cols) (now values)) (λ l. stateOf (now work) x z y w m n s l) lo (getD (now lends) i 0) (now work) × Apart lo (length (now lcols)) d m × (4 * (f + m) ≤ length (now work)) × (4 * (d + m) ≤ length (now work)) × Apart f m lo (length (now lcols)) ⌝ }
-    ensures { λ r. ⌜ Kept 4 (lo + getD (now (lends .entry)) i 0) (getD (now (lends .entry)) (i + 1) 0 - getD (now (lends .entry)) i 0) (now (work .entry)) (now (work .exit)) × Factored (problemOf m n s (now (off .entry)) (now (cols .entry)) (now (values .entry))) (λ l. stateOf (now (work .exit)) x z y w m n s l) lo (getD (now (lends .entry)) (i + 1) 0) (now (work .exit)) × (r ≡ lanes (λ t. frontAt (now (lends .entry)) (now (lcols .entry)) (reg 4 (now (work .exit)) lo (length (now (lcols .entry))) t) (reg 4 (now (work .exit)) f m t) (reg 4 (now (work .exit)) d i t) i)) ⌝ }
+    requires { ⌜ SomeDue width (now values) (now work) mem (now aends) (now aleft) (now aright) (now acols) (now dends) (now dleft) (now dright) (now lends) (now ldiag) (now lcols) i ⌝ }
+    ensures { λ r. ⌜ ((off cols : List ℕ) → RowDue width off cols (now (values .entry)) (now (work .entry)) mem (now (aends .entry)) (now (aleft .entry)) (now (aright .entry)) (now (acols .entry)) (now (dends .entry)) (now (dleft .entry)) (now (dright .entry)) (now (lends .entry)) (now (ldiag .entry)) (now (lcols .entry)) i → RowDone width off cols (now (values .entry)) mem (now (lends .entry)) (now (lcols .entry)) i (now (work .entry)) (now (work .exit)) r) ⌝ }
 {
     let g = at(lends, i + 1) - 1;
-    let first = start_of(work, y, w, s, i);
-    let mut diag = normal_sum(work, x, z, values, aends, aleft, aright, acols, g, first);
-    let mut side = get4(work, f + i);
+    let first = start_of(work, width, mem.y, mem.w, mem.s, i);
+    let mut diag = normal_sum(
+        work,
+        width,
+        mem,
+        values,
+        aends,
+        aleft,
+        aright,
+        acols,
+        g,
+        first,
+    );
+    let mut side = get(work, mem.rhs + i, width);
     let mut e = at(lends, i);
     while e < g {
         let j = at(lcols, e);
         let start = splat(0.0);
-        let sum = normal_sum(work, x, z, values, aends, aleft, aright, acols, e, start);
-        let reduced = less_products(work, lo, dends, dleft, dright, e, sum);
-        let v = over_diagonal(work, lo, ldiag, j, reduced);
-        put4(work, lo + e, v);
-        let u = get4(work, d + j);
+        let sum = normal_sum(
+            work,
+            width,
+            mem,
+            values,
+            aends,
+            aleft,
+            aright,
+            acols,
+            e,
+            start,
+        );
+        let reduced = less_products(work, width, mem.l, dends, dleft, dright, e, sum);
+        let v = over_diagonal(work, width, mem.l, ldiag, j, reduced);
+        put(work, mem.l + e, width, v);
+        let u = get(work, mem.dy + j, width);
         let p = product_in(diag, v, v);
         let q = product_in(side, u, v);
         diag = p;
@@ -187,6 +207,6 @@ pub fn normal_matrix_cholesky_row(
         e += 1;
     }
     let root = root_of(diag);
-    put4(work, lo + g, root);
+    put(work, mem.l + g, width, root);
     div4(side, root)
 }

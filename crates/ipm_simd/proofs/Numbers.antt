@@ -51,7 +51,7 @@ pub cleared-all : (old new : List Float) (v : Float) (i k : ℕ) → new ≡ rep
 cleared-all old new v i k e h = e ∙ ap (λ (j : ℕ). replicate j v ++ drop j old) h
 
 -- what lies behind the entries that were touched
-pub rest-same : (top k : ℕ) (old new : List Float) → Untouched top old new → k ≡ 4 * top → drop k new ≡ drop k old
+pub rest-same : (top k : ℕ) (old new : List Float) → Untouched 4 top old new → k ≡ 4 * top → drop k new ≡ drop k old
 rest-same top k old new U e =
     ext-getD nan (drop k new) (drop k old) (length-drop k new ∙ ap (λ (j : ℕ). j - k) (U .size) ∙ sym (length-drop k old))
     (λ i h. getD-drop k new i nan ∙ U .beyond (k + i) (omega arith) ∙ sym (getD-drop k old i nan))

@@ -2,7 +2,7 @@
 use mathlib.Core.Path.{_≡_, refl, sym, _∙_}
 use mathlib.Core.Bool.{Bool, true, false, not, _&&_}
 use mathlib.Core.List.{List}
-use Prim.Native.Nat.{ℕ, _+_, _-_, _*_, _/_, _≤_}
+use Prim.Native.Nat.{ℕ, _+_, _-_, _*_, _/_, _≤_, _<_}
 use native.Mathlib.Omega.{arith}
 use borrow.Author.Tests.{eqb-true, leb-true, le-leb, eq-eqb}
 use lib.Dec.{eqb, leb, ltb}
@@ -32,6 +32,10 @@ values-of m n off cols values h =
     let others =
     eqb (length off) (m + 1) && eqb (getD off 0 0) 0 && not (ltb (firstFrom (falls off) 0 m) m) && eqb (getD off m 0) (length cols) && not (ltb maxEntries (length cols)) in
     eqb-true values (length cols) (and-right others (eqb values (length cols)) (h3 .0))
+
+-- question 8, of three lengths that are right and a fourth
+pub lengths-last : (m n b c tolerances output : ℕ) → b ≡ 4 * m → c ≡ 4 * n → tolerances ≡ 12 → eqb output (4 * n) ≡ lengthsRight m n b c tolerances output
+lengths-last m n b c tolerances output p q r = rw (eq-eqb b (4 * m) p, eq-eqb c (4 * n) q, eq-eqb tolerances 12 r) refl
 
 -- questions 6 to 10
 pub record Sizes (W E m n s index b c tolerances output work N : ℕ) : Type 0 where
@@ -68,40 +72,35 @@ sizes-of W E m n s index b c tolerances output work N h =
       upTo = leb-true N largestLimit (and-right (leb 1 N) (leb N largestLimit) (h10 .0));
     }
 
--- and the other way
-sizes-yes : (W E m n s index b c tolerances output work N : ℕ) → Sizes W E m n s index b c tolerances output work N
-    → sizesVerdict W E m n s index b c tolerances output work N ≡ passed
-unfolding sizesVerdict
-sizes-yes W E m n s index b c tolerances output work N q =
-    simp (le-leb _ _ (q .index-long), le-leb _ _ (q .slack), eq-eqb _ _ (q .b-long), eq-eqb _ _ (q .c-long), eq-eqb _ _ (q .tolerances-long), eq-eqb _ _ (q .output-long), le-leb _ _ (q .work-long), le-leb _ _ (q .from), le-leb _ _ (q .upTo))
+true-false : false ≡ true → ⊥
+true-false h = let z : _≡_ {A = ℕ} 0 1 = cc in omega arith
 
 module _ (m n s b c tolerances output work N : ℕ) where
-  -- the same lists, another W and another E
-  other : {W₀ E₀ l W E index : ℕ} → Sizes W₀ E₀ m n s l b c tolerances output work N → W ≤ index → 4 * (5 * n + 3 * m + 2 * s + E) ≤ work → Sizes W E m n s index b c tolerances output work N
-  other q i w = record {
-    index-long = i;
-    slack = q .slack;
-    b-long = q .b-long;
-    c-long = q .c-long;
-    tolerances-long = q .tolerances-long;
-    output-long = q .output-long;
-    work-long = w;
-    from = q .from;
-    upTo = q .upTo;
+  -- questions 7 to 10 get a yes just where the entries fit
+  pub below-some : s ≤ m → lengthsRight m n b c tolerances output ≡ true → (leb 1 N && leb N largestLimit) ≡ true → 5 * n + 3 * m + 2 * s ≤ work / 4
+      → EntriesBelow m n s b c tolerances output work N (work / 4 - (5 * n + 3 * m + 2 * s) + 1)
+  below-some h l t w = record {
+    yes = λ W E index i e.
+        unfold sizesVerdict in
+        simp (le-leb _ _ i, le-leb _ _ h, l, le-leb (4 * (5 * n + 3 * m + 2 * s + E)) work (omega (arith, e, w)), t);
+    under = λ W E index v. omega (arith, sizes-of W E m n s index b c tolerances output work N v .work-long);
   }
 
-  pub below-yes : sizesVerdict 0 0 m n s 0 b c tolerances output work N ≡ passed → EntriesBelow m n s b c tolerances output work N (work / 4 - (5 * n + 3 * m + 2 * s) + 1)
-  below-yes h =
-      let q = sizes-of 0 0 m n s 0 b c tolerances output work N h in
-      record {
-        yes = λ W E index i e. sizes-yes W E m n s index b c tolerances output work N (other q i (omega (arith, q .work-long, e)));
-        under = λ W E index v. omega (arith, sizes-of W E m n s index b c tolerances output work N v .work-long);
-      }
-
-  pub below-no : {q p l : ℕ} → sizesVerdict 0 0 m n s 0 b c tolerances output work N ≡ refused q p l → EntriesBelow m n s b c tolerances output work N 0
-  below-no {q} {p} {l} h = record {
+  -- a no at 7, at 8, at 10, or at 9 with no entries at all
+  below-none : ((W E index : ℕ) → Sizes W E m n s index b c tolerances output work N → ⊥) → EntriesBelow m n s b c tolerances output work N 0
+  below-none f = record {
     yes = λ W E index i e. absurd (omega (arith, e));
-    under = λ W E index v.
-        let a = sizes-of W E m n s index b c tolerances output work N v in
-        absurd (not-passed q p l (sym h ∙ sizes-yes 0 0 m n s 0 b c tolerances output work N (other a (omega arith) (omega (arith, a .work-long)))));
+    under = λ W E index v. absurd (f W E index (sizes-of W E m n s index b c tolerances output work N v));
   }
+
+  pub below-slack : m < s → EntriesBelow m n s b c tolerances output work N 0
+  below-slack h = below-none (λ W E index q. omega (arith, q .slack))
+
+  pub below-lengths : lengthsRight m n b c tolerances output ≡ false → EntriesBelow m n s b c tolerances output work N 0
+  below-lengths h = below-none (λ W E index q. true-false (sym (simp (eq-eqb _ _ (q .b-long), eq-eqb _ _ (q .c-long), eq-eqb _ _ (q .tolerances-long), eq-eqb _ _ (q .output-long)) at h)))
+
+  pub below-limit : (leb 1 N && leb N largestLimit) ≡ false → EntriesBelow m n s b c tolerances output work N 0
+  below-limit h = below-none (λ W E index q. true-false (sym (simp (le-leb _ _ (q .from), le-leb _ _ (q .upTo)) at h)))
+
+  pub below-room : work / 4 < 5 * n + 3 * m + 2 * s → EntriesBelow m n s b c tolerances output work N 0
+  below-room h = below-none (λ W E index q. omega (arith, q .work-long))

@@ -1,7 +1,7 @@
 -- From the parts of a solve to its contract. Assumes nothing.
 use mathlib.Core.Path.{_≡_, refl, sym, ap, _∙_}
 use mathlib.Core.List.{List, _++_}
-use Prim.Native.Nat.{ℕ, suc, _+_, _-_, _*_, _<_}
+use Prim.Native.Nat.{ℕ, suc, _+_, _-_, _*_, _≤_, _<_}
 use native.Mathlib.Omega.{arith}
 use lib.ListN.{length, take, drop, replicate}
 use lib.Ieee.{Float}
@@ -12,34 +12,45 @@ use Rattle.csr.specs.Csr.{Accepted}
 use Rattle.csr.specs.Counts.{countE, sizeW, sizeF}
 use Rattle.csr.specs.Pattern.{has, row, neighbours, stored}
 use Rattle.lanes.specs.Arithmetic.{null}
+use Rattle.lanes.specs.Lanes.{room as roomFor}
+use Rattle.lanes.proofs.Regions.{room-fits}
 use Rattle.lists.specs.Lists.{shape, listOf}
 use Rattle.lists.specs.declared.Which.the-variants.{Lindptr, Lindices}
 use Rattle.lists.proofs.Sizes.{plan-size}
 use Rattle.lists.proofs.Counts.{held-stored}
 use Rattle.machine.specs.declared.Outcome.{Outcome}
 use Rattle.machine.specs.declared.Outcome.the-variants.{Accepted as accepted, NoAt11 as noAt11, NoAt12 as noAt12}
+use Rattle.machine.specs.Machine.{standard}
 use Rattle.machine.specs.Outcome.{Call, solved, xAt}
-use Rattle.machine.specs.Demand3.{Buffers, outputAfter, leaves}
+use Rattle.machine.specs.Demand3.{Buffers, Memory, outputAfter, leaves}
 use Rattle.machine.proofs.Demand3.{solved-ends, demand3}
 use Rattle.links.proofs.Low.{row-cut}
 use Rattle.links.proofs.Picked.{picked-has}
-use Rattle.tests.specs.Layout.{lAt}
+use Rattle.layout.specs.declared.Block.{Block}
+use Rattle.layout.specs.declared.Plan.{Plan}
+use Rattle.layout.specs.Layout.{lAt, Lent}
+use Rattle.layout.specs.Lists.{wordsAt}
+use Rattle.layout.specs.Planned.{Planned, Counted}
 use Rattle.step.specs.Steps.{Untouched}
-use Rattle.run.specs.Tests.{memoryAt, Run}
+use Rattle.run.specs.Tests.{memoryAt, callBy, Run}
+use Rattle.run.proofs.Memories.{lanes-all}
 use Rattle.ipm_simd.specs.declared.SolveAnswer.{SolveAnswer}
 use Rattle.ipm_simd.specs.declared.SolveAnswer.the-variants as answers
 use Rattle.ipm_simd.specs.Solve.{Given, lent, call, words, room, plannedHas, told, outcomeVerdict, sizesVerdict, memoryVerdict, begun, solveVerdict, ifPassed, solveBuffers, Solved}
 use Rattle.ipm_simd.specs.Parts.{Asked10, EntriesBelow, written, Finished, Continued}
-use Rattle.cuts.specs.Planned.{Counted}
 use Rattle.ipm_common.specs.Plan.{written as indexed}
 use Rattle.ipm_common.proofs.Final.{written-yes, written-other}
 use Rattle.ipm_simd.proofs.Numbers.{rest-same}
 use Rattle.ipm_simd.proofs.Questions.{sizes-of, not-passed}
 
+-- the plan by value, of E, S and D
+abbrev pub planOf : Given → ℕ → ℕ → ℕ → Plan
+planOf a e h d = record { m = a .m; n = a .n; s = a .s; t = length (a .columns); stored = e; shared = h; products = d }
+
 -- W, of E, S and D
-pub words-of : (off cols : List ℕ) (m n e h d : ℕ) → Counted off cols m e h d → 5 * e + 3 * h + 2 * d + 3 * m + n + 2 * length cols + 5 ≡ sizeW off cols m n
+words-of : (off cols : List ℕ) (m n s e h d : ℕ) → Counted off cols m e h d → wordsAt (record { m = m; n = n; s = s; t = length cols; stored = e; shared = h; products = d }) ≡ sizeW off cols m n
 unfolding sizeW
-words-of off cols m n e h d c = omega (arith, c .stored, c .shared, c .products)
+words-of off cols m n s e h d c = omega (arith, c .stored, c .shared, c .products)
 
 -- F, of E
 room-of : (off cols : List ℕ) (m n s e : ℕ) → e ≡ countE off cols m → 4 * (5 * n + 3 * m + 2 * s + e) ≡ sizeF off cols m n s
@@ -57,9 +68,35 @@ unfolding row
 planned-stored off cols m i j h l =
     ap (λ (xs : List ℕ). has xs j) (row-cut off cols m i h) ∙ picked-has ((shape off cols) .held i) (suc i) j (omega arith) ∙ held-stored off cols i j (omega arith)
 
--- ---- after the tests
+-- ---- the tests: one block of all four lanes
+abbrev four : Block
+four = record { total = 4; first = 0 }
+
+-- ---- before and after the tests
 module _ (a : Given) {output work : List Float} {index : List ℕ} {e h d : ℕ} (Q : Asked10 a (lent output index work) e h d) where
-  output-is : (o : Outcome) (work1 : List Float) → ((k : ℕ) → o ≡ accepted k → memoryAt (a .m) (a .n) (a .s) work1 .x ≡ xAt (call a) k)
+  pub lent-four : Lent four 4 (a .m) (a .n) (a .s) (a .b) (a .c) (a .tolerances)
+  lent-four = record {
+    rows = Q .ok .csr .few;
+    columns = Q .ok .wide;
+    slack = Q .slack;
+    lanes = omega arith;
+    wide = record { some = omega arith; most = omega arith };
+    within = omega arith;
+    b-long = room-fits 4 (a .b) (a .m) (omega arith) (omega (arith, Q .b-long));
+    c-long = room-fits 4 (a .c) (a .n) (omega arith) (omega (arith, Q .c-long));
+    tol-long = omega (arith, Q .tol-long);
+  }
+
+  pub room-four : lAt (a .n) (a .m) (a .s) + e ≤ roomFor 4 work
+  room-four = room-fits 4 work (lAt (a .n) (a .m) (a .s) + e) (omega arith) (Q .work)
+
+  -- the block's lanes are the call's
+  pub run-four : {M : Memory} {o : Outcome} → Run (callBy standard four 4 (a .m) (a .n) (a .s) (a .offsets) (a .columns) (a .values) (a .b) (a .c) (a .tolerances)) (a .limit) M o → Run (call a) (a .limit) M o
+  run-four R =
+      rw (lanes-all 4 (a .m) (a .b) (omega arith) (Q .b-long), lanes-all 4 (a .n) (a .c) (omega arith) (Q .c-long), lanes-all 4 3 (a .tolerances) (omega arith) (Q .tol-long))
+      at R
+
+  output-is : (o : Outcome) (work1 : List Float) → ((k : ℕ) → o ≡ accepted k → memoryAt 4 (a .m) (a .n) (a .s) work1 .x ≡ xAt (call a) k)
       → written o (take (length output) work1) output ≡ outputAfter (call a) o output
   output-is (accepted k) work1 x =
       let z : length output ≡ 4 * (0 + a .n) - 4 * 0 = omega (arith, Q .output) in
@@ -69,8 +106,8 @@ module _ (a : Given) {output work : List Float} {index : List ℕ} {e h d : ℕ}
 
   pub finished : {index1 : List ℕ} {work1 output1 work2 : List Float} {o : Outcome} {r : SolveAnswer}
       → index1 ≡ words a ++ drop (sizeW (a .offsets) (a .columns) (a .m) (a .n)) index
-      → Untouched (lAt (a .n) (a .m) (a .s) + e) work work1
-      → Run (call a) (a .limit) (memoryAt (a .m) (a .n) (a .s) work1) o
+      → Untouched 4 (lAt (a .n) (a .m) (a .s) + e) work work1
+      → Run (call a) (a .limit) (memoryAt 4 (a .m) (a .n) (a .s) work1) o
       → told r ≡ outcomeVerdict o
       → output1 ≡ written o (take (length output) work1) output
       → work2 ≡ replicate (4 * (5 * a .n + 3 * a .m + 2 * a .s + e)) null ++ drop (4 * (5 * a .n + 3 * a .m + 2 * a .s + e)) work1
@@ -78,7 +115,7 @@ module _ (a : Given) {output work : List Float} {index : List ℕ} {e h d : ℕ}
   finished {index1} {work1} {output1} {work2} {o} {r} ei U R er eo ew = record {
     answer = er ∙ ap outcomeVerdict (R .ran .answer);
     buffers = all;
-    demand3 = demand3 (call a) (words a) (room a) (plannedHas a) (a .limit) (lent output index work) (lent output1 index1 work2) (solved (call a) (a .limit)) (memoryAt (a .m) (a .n) (a .s) work1)
+    demand3 = demand3 (call a) (words a) (room a) (plannedHas a) (a .limit) (lent output index work) (lent output1 index1 work2) (solved (call a) (a .limit)) (memoryAt 4 (a .m) (a .n) (a .s) work1)
         (R .ran .tests .0) (R .ran .tests .1) (λ i j l b. planned-stored (a .offsets) (a .columns) (a .m) i j b l) refl all;
   }
     where
@@ -104,14 +141,14 @@ module _ (a : Given) {output work : List Float} {index : List ℕ} {e h d : ℕ}
 module _ (a : Given) (B : Buffers) where
   -- the verdict of questions 6 to 10, of the counted E, S and D
   memory-is : (e h d : ℕ) → Counted (a .offsets) (a .columns) (a .m) e h d
-      → sizesVerdict (5 * e + 3 * h + 2 * d + 3 * a .m + a .n + 2 * length (a .columns) + 5) e (a .m) (a .n) (a .s) (length (B .index)) (length (a .b)) (length (a .c)) (length (a .tolerances)) (length (B .output)) (length (B .work)) (a .limit)
+      → sizesVerdict (wordsAt (planOf a e h d)) e (a .m) (a .n) (a .s) (length (B .index)) (length (a .b)) (length (a .c)) (length (a .tolerances)) (length (B .output)) (length (B .work)) (a .limit)
       ≡ memoryVerdict a B
   unfolding memoryVerdict
-  memory-is e h d c = rw (words-of (a .offsets) (a .columns) (a .m) (a .n) e h d c, c .stored)
+  memory-is e h d c = rw (words-of (a .offsets) (a .columns) (a .m) (a .n) (a .s) e h d c, c .stored)
 
   module _ (e h d : ℕ) (c : Counted (a .offsets) (a .columns) (a .m) e h d) where
     abbrev verdict : Verdict
-    verdict = sizesVerdict (5 * e + 3 * h + 2 * d + 3 * a .m + a .n + 2 * length (a .columns) + 5) e (a .m) (a .n) (a .s) (length (B .index)) (length (a .b)) (length (a .c)) (length (a .tolerances)) (length (B .output)) (length (B .work)) (a .limit)
+    verdict = sizesVerdict (wordsAt (planOf a e h d)) e (a .m) (a .n) (a .s) (length (B .index)) (length (a .b)) (length (a .c)) (length (a .tolerances)) (length (B .output)) (length (B .work)) (a .limit)
 
     pub asked-all : Accepted (a .offsets) (a .columns) (a .m) (a .n) → length (a .values) ≡ length (a .columns) → passed ≡ verdict → Asked10 a B e h d
     asked-all ok values v =
@@ -120,8 +157,11 @@ module _ (a : Given) (B : Buffers) where
           ok = ok;
           values = values;
           counts = c;
-          index = omega (arith, words-of (a .offsets) (a .columns) (a .m) (a .n) e h d c, q .index-long);
-          lists = record { rows = ok .csr .few; columns = ok .wide; slack = q .slack; b-long = q .b-long; c-long = q .c-long; tol-long = q .tolerances-long };
+          index = omega (arith, words-of (a .offsets) (a .columns) (a .m) (a .n) (a .s) e h d c, q .index-long);
+          slack = q .slack;
+          b-long = q .b-long;
+          c-long = q .c-long;
+          tol-long = q .tolerances-long;
           output = q .output-long;
           work = omega (arith, q .work-long);
           from = q .from;
@@ -151,12 +191,25 @@ module _ (a : Given) (B : Buffers) where
       pub index-planned : passed ≡ verdict → indexed below (a .m) (a .n) (a .offsets) (a .columns) (B .index) ≡ words a ++ drop (sizeW (a .offsets) (a .columns) (a .m) (a .n)) (B .index)
       index-planned v =
           let q = sizes-of _ e (a .m) (a .n) (a .s) (length (B .index)) (length (a .b)) (length (a .c)) (length (a .tolerances)) (length (B .output)) (length (B .work)) (a .limit) (sym v) in
-          written-yes (a .m) (a .n) (a .offsets) (a .columns) (B .index) below (omega (arith, c .stored, bound .under _ e _ (sym v))) (omega (arith, words-of (a .offsets) (a .columns) (a .m) (a .n) e h d c, q .index-long))
+          written-yes (a .m) (a .n) (a .offsets) (a .columns) (B .index) below (omega (arith, c .stored, bound .under _ e _ (sym v))) (omega (arith, words-of (a .offsets) (a .columns) (a .m) (a .n) (a .s) e h d c, q .index-long))
 
       pub index-kept : (r : Refusal) → refusal r ≡ verdict → indexed below (a .m) (a .n) (a .offsets) (a .columns) (B .index) ≡ B .index
       index-kept r v =
           written-other (a .m) (a .n) (a .offsets) (a .columns) (B .index) below
-          (λ l w. not-passed (r .question) (r .place) (r .lane) (v ∙ bound .yes _ e _ (omega (arith, words-of (a .offsets) (a .columns) (a .m) (a .n) e h d c, w)) (omega (arith, c .stored, l))))
+          (λ l w. not-passed (r .question) (r .place) (r .lane) (v ∙ bound .yes _ e _ (omega (arith, words-of (a .offsets) (a .columns) (a .m) (a .n) (a .s) e h d c, w)) (omega (arith, c .stored, l))))
+
+      -- what the tests start from, where the index memory is as `plan_below` leaves it
+      pub planned-here : (ok : Accepted (a .offsets) (a .columns) (a .m) (a .n)) → length (a .values) ≡ length (a .columns) → {index : List ℕ} → index ≡ indexed below (a .m) (a .n) (a .offsets) (a .columns) (B .index)
+          → passed ≡ verdict → Planned (a .offsets) (a .columns) (a .values) (planOf a e h d) index
+      planned-here ok values i v = record {
+        ok = ok;
+        values = values;
+        entries = refl;
+        slack = asked-all ok values v .slack;
+        counts = c;
+        rest = drop (sizeW (a .offsets) (a .columns) (a .m) (a .n)) (B .index);
+        plan = i ∙ index-planned v;
+      }
 
   -- ---- questions 1 to 5
   abbrev early : Verdict

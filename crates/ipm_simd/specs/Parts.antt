@@ -1,8 +1,8 @@
 -- What the parts of a solve start from, and what they leave. Definitions only.
 use mathlib.Core.Path.{_≡_}
-use mathlib.Core.List.{List}
+use mathlib.Core.List.{List, _++_}
 use Prim.Native.Nat.{ℕ, _+_, _*_, _<_, _≤_}
-use lib.ListN.{length}
+use lib.ListN.{length, drop}
 use lib.Ieee.{Float}
 use Rattle.csr.specs.Csr.{Accepted}
 use Rattle.csr.specs.Counts.{sizeW}
@@ -11,10 +11,11 @@ use Rattle.machine.specs.declared.Outcome.the-variants.{Accepted as accepted, N
 use Rattle.machine.specs.Outcome.{largestLimit, solved}
 use Rattle.machine.specs.Demand3.{Buffers, leaves, Demand3}
 use Rattle.csr.specs.Verdict.{passed, andThen}
-use Rattle.tests.specs.Layout.{lAt, Lent}
-use Rattle.cuts.specs.Planned.{Counted}
+use Rattle.layout.specs.declared.Plan.{Plan}
+use Rattle.layout.specs.Layout.{lAt}
+use Rattle.layout.specs.Planned.{Counted}
 use Rattle.ipm_simd.specs.declared.SolveAnswer.{SolveAnswer}
-use Rattle.ipm_simd.specs.Solve.{Given, call, words, room, plannedHas, told, outcomeVerdict, sizesVerdict, memoryVerdict, ifPassed}
+use Rattle.ipm_simd.specs.Solve.{Given, lent, call, words, room, plannedHas, told, outcomeVerdict, sizesVerdict, memoryVerdict, ifPassed}
 
 -- questions 1 to 10 got a yes
 pub record Asked10 (a : Given) (B : Buffers) (e h d : ℕ) : Type 0 where
@@ -22,7 +23,10 @@ pub record Asked10 (a : Given) (B : Buffers) (e h d : ℕ) : Type 0 where
   pub values : length (a .values) ≡ length (a .columns)
   pub counts : Counted (a .offsets) (a .columns) (a .m) e h d
   pub index : sizeW (a .offsets) (a .columns) (a .m) (a .n) ≤ length (B .index)
-  pub lists : Lent (a .m) (a .n) (a .s) (a .b) (a .c) (a .tolerances)
+  pub slack : a .s ≤ a .m
+  pub b-long : length (a .b) ≡ 4 * a .m
+  pub c-long : length (a .c) ≡ 4 * a .n
+  pub tol-long : length (a .tolerances) ≡ 12
   pub output : length (B .output) ≡ 4 * a .n
   pub work : 4 * (lAt (a .n) (a .m) (a .s) + e) ≤ length (B .work)
   pub from : 1 ≤ a .limit
@@ -44,6 +48,14 @@ pub record Finished (a : Given) (B B′ : Buffers) (r : SolveAnswer) : Type 0 wh
   pub answer : told r ≡ outcomeVerdict (solved (call a) (a .limit))
   pub buffers : B′ ≡ leaves (call a) (words a) (room a) (a .limit) B
   pub demand3 : Demand3 (call a) (words a) (room a) (plannedHas a) (a .limit) B B′ (solved (call a) (a .limit))
+
+-- the same of any index memory that the plan was written over
+abbrev pub Ends : Given → Plan → List Float → List Float → Buffers → SolveAnswer → Type 0
+Ends a p output work B′ r =
+    (old : List ℕ)
+    → Asked10 a (lent output old work) (p .stored) (p .shared) (p .products)
+    → B′ .index ≡ words a ++ drop (sizeW (a .offsets) (a .columns) (a .m) (a .n)) old
+    → Finished a (lent output old work) B′ r
 
 -- questions 6 to 10, and then the tests
 pub record Continued (a : Given) (B B′ : Buffers) (r : SolveAnswer) : Type 0 where

@@ -1,20 +1,23 @@
 // Four linear programs over one matrix, solved lane by lane: the public call.
 ghost use mathlib.Core.Path.{_≡_};
-ghost use mathlib.Core.List.{List, _++_};
+ghost use mathlib.Core.Bool.{_&&_};
+ghost use mathlib.Core.List.{_++_};
 ghost use Prim.Native.Nat.{ℕ, _+_, _*_, _<_, _≤_};
+ghost use lib.Dec.{leb};
 ghost use lib.ListN.{length, take, drop, replicate};
 ghost use Rattle.csr.specs.Csr.{Accepted};
-ghost use Rattle.csr.specs.Counts.{sizeW};
-ghost use Rattle.lists.specs.Lists.{planWords};
 ghost use Rattle.csr.specs.Verdict.{told as toldAsked};
 ghost use Rattle.lanes.specs.Arithmetic.{null};
 ghost use Rattle.machine.specs.declared.Outcome.the-variants.{NoAt11};
-ghost use Rattle.cuts.specs.Planned.{Planned};
+ghost use Rattle.machine.specs.Outcome.{largestLimit};
+ghost use Rattle.layout.specs.Planned.{Planned};
 ghost use Rattle.ipm_simd.specs.Solve.{given, lent, told, outcomeVerdict, lengthsRight, sizesVerdict, Solved};
-ghost use Rattle.ipm_simd.specs.Parts.{Asked10, EntriesBelow, written, Continued, Finished};
+ghost use Rattle.ipm_simd.specs.Parts.{Asked10, EntriesBelow, written, Ends, Continued};
 use csr::Asked;
 use csr::Refusal;
 use lanes::LaneState;
+use layout::Block;
+use layout::Plan;
 use machine::Outcome;
 
 // The questions that solve adds to those of plan.
@@ -39,57 +42,66 @@ pub enum SolveAnswer {
     Refused(Refusal),
 }
 
-// Question 8.
-fn lengths_right(m: usize, n: usize, b: usize, c: usize, tolerances: usize, output: usize) -> bool
-    requires { ⌜ (m ≤ 256) × (n ≤ 1024) ⌝ }
-    ensures { λ r. ⌜ r ≡ lengthsRight m n b c tolerances output ⌝ }
-{
-    if b != 4 * m {
-        return false;
-    }
-    if c != 4 * n {
-        return false;
-    }
-    if tolerances != TOLERANCES {
-        return false;
-    }
-    output == 4 * n
-}
-
-// Questions 6 to 10, by W, E, the sizes, the lengths of the lists and the limit.
-fn ask_sizes(
-    words: usize,
-    e: usize,
-    m: usize,
-    n: usize,
-    s: usize,
+// How long the lent lists are.
+struct Lengths {
     index: usize,
     b: usize,
     c: usize,
     tolerances: usize,
     output: usize,
     work: usize,
-    limit: usize,
-) -> Asked
-    requires { ⌜ (m ≤ 256) × (n ≤ 1024) × (e ≤ 32896) ⌝ }
-    ensures { λ r. ⌜ toldAsked r ≡ sizesVerdict words e m n s index b c tolerances output work limit ⌝ }
+}
+
+// Question 8.
+fn lengths_right(m: usize, n: usize, lengths: Lengths) -> bool
+    requires { ⌜ (m ≤ 256) × (n ≤ 1024) ⌝ }
+    ensures { λ r. ⌜ r ≡ lengthsRight m n (lengths .b) (lengths .c) (lengths .tolerances) (lengths .output) ⌝ }
 {
-    if index < words {
+    let output = lengths.output;
+    if lengths.b != 4 * m {
+        return false;
+    }
+    if lengths.c != 4 * n {
+        return false;
+    }
+    if lengths.tolerances != TOLERANCES {
+        return false;
+    }
+    output == 4 * n
+}
+
+// Question 10.
+fn limit_right(limit: usize) -> bool
+    ensures { λ r. ⌜ r ≡ (leb 1 limit && leb limit largestLimit) ⌝ }
+{
+    if limit < 1 {
+        return false;
+    }
+    limit <= LaneState::MAX_TESTS
+}
+
+// Questions 6 to 10, by W, the plan's sizes, the lengths of the lists and the limit.
+fn ask_sizes(words: usize, plan: Plan, lengths: Lengths, limit: usize) -> Asked
+    requires { ⌜ (plan .m ≤ 256) × (plan .n ≤ 1024) × (plan .stored ≤ 32896) ⌝ }
+    ensures { λ r. ⌜ toldAsked r ≡ sizesVerdict words (plan .stored) (plan .m) (plan .n) (plan .s) (lengths .index) (lengths .b) (lengths .c) (lengths .tolerances) (lengths .output) (lengths .work) limit ⌝ }
+{
+    let m = plan.m;
+    let n = plan.n;
+    let s = plan.s;
+    let e = plan.stored;
+    if lengths.index < words {
         return Asked::Refused(Refusal::new(Refusal::INDEX_MEMORY, 0, 0));
     }
     if m < s {
         return Asked::Refused(Refusal::new(SLACK_ROWS, 0, 0));
     }
-    if !lengths_right(m, n, b, c, tolerances, output) {
+    if !lengths_right(m, n, lengths) {
         return Asked::Refused(Refusal::new(LENGTHS, 0, 0));
     }
-    if work < 4 * (5 * n + 3 * m + 2 * s + e) {
+    if lengths.work < 4 * (5 * n + 3 * m + 2 * s + e) {
         return Asked::Refused(Refusal::new(WORKING_MEMORY, 0, 0));
     }
-    if limit < 1 {
-        return Asked::Refused(Refusal::new(LIMIT, 0, 0));
-    }
-    if LaneState::MAX_TESTS < limit {
+    if !limit_right(limit) {
         return Asked::Refused(Refusal::new(LIMIT, 0, 0));
     }
     Asked::Good
@@ -136,9 +148,7 @@ fn report(outcome: Outcome, output: &mut [f64], work: &[f64]) -> SolveAnswer
 
 // The tests, the output and the clearing, after ten yeses and the plan.
 fn solve_planned(
-    m: usize,
-    n: usize,
-    s: usize,
+    plan: Plan,
     offsets: &[u32],
     columns: &[u32],
     values: &[f64],
@@ -149,55 +159,55 @@ fn solve_planned(
     output: &mut [f64],
     index: &[u32],
     work: &mut [f64],
-    e: usize,
-    h: usize,
-    d: usize,
 ) -> SolveAnswer
-    requires { ⌜ Planned (now offsets) (now columns) (now values) m n s (now index) e h d × Asked10 (given m n s (now offsets) (now columns) (now values) (now b) (now c) (now tolerances) limit) (lent (now output) (now index) (now work)) e h d ⌝ }
-    ensures { λ r. ⌜ ((old : List ℕ) → Asked10 (given m n s (now (offsets .entry)) (now (columns .entry)) (now (values .entry)) (now (b .entry)) (now (c .entry)) (now (tolerances .entry)) limit) (lent (now (output .entry)) old (now (work .entry))) e h d → now (index .entry) ≡ planWords (now (offsets .entry)) (now (columns .entry)) m n ++ drop (sizeW (now (offsets .entry)) (now (columns .entry)) m n) old → Finished (given m n s (now (offsets .entry)) (now (columns .entry)) (now (values .entry)) (now (b .entry)) (now (c .entry)) (now (tolerances .entry)) limit) (lent (now (output .entry)) old (now (work .entry))) (lent (now (output .exit)) (now (index .entry)) (now (work .exit))) r) ⌝ }
+    requires { ⌜ Planned (now offsets) (now columns) (now values) plan (now index) × Asked10 (given (plan .m) (plan .n) (plan .s) (now offsets) (now columns) (now values) (now b) (now c) (now tolerances) limit) (lent (now output) (now index) (now work)) (plan .stored) (plan .shared) (plan .products) ⌝ }
+    ensures { λ r. ⌜ Ends (given (plan .m) (plan .n) (plan .s) (now (offsets .entry)) (now (columns .entry)) (now (values .entry)) (now (b .entry)) (now (c .entry)) (now (tolerances .entry)) limit) plan (now (output .entry)) (now (work .entry)) (lent (now (output .exit)) (now (index .entry)) (now (work .exit))) r ⌝ }
 {
+    let m = plan.m;
+    let n = plan.n;
+    let s = plan.s;
+    let e = plan.stored;
     let room = 4 * (5 * n + 3 * m + 2 * s + e);
-    let outcome = cuts::run_plan(
+    let block = Block { total: 4, first: 0 };
+    let outcome = run::run(
         offsets,
         columns,
         values,
+        index,
+        plan,
         b,
         c,
         tolerances,
-        index,
+        block,
         work,
-        m,
-        n,
-        s,
+        4,
         limit,
-        e,
-        h,
-        d,
     );
     let answer = report(outcome, output, work);
     clear_front(work, room);
     answer
 }
 
-// Questions 7 to 10 get a yes just where E is below this.
-fn entries_below(
-    m: usize,
-    n: usize,
-    s: usize,
-    b: usize,
-    c: usize,
-    tolerances: usize,
-    output: usize,
-    work: usize,
-    limit: usize,
-) -> usize
+// How many stored entries the working memory has no room for: questions 7 to 10 get a yes just where E is below this.
+fn entries_below(m: usize, n: usize, s: usize, lengths: Lengths, limit: usize) -> usize
     requires { ⌜ (m ≤ 256) × (n ≤ 1024) ⌝ }
-    ensures { λ r. ⌜ EntriesBelow m n s b c tolerances output work limit r ⌝ }
+    ensures { λ r. ⌜ EntriesBelow m n s (lengths .b) (lengths .c) (lengths .tolerances) (lengths .output) (lengths .work) limit r ⌝ }
 {
-    match ask_sizes(0, 0, m, n, s, 0, b, c, tolerances, output, work, limit) {
-        Asked::Refused(r) => 0,
-        Asked::Good => work / 4 - (5 * n + 3 * m + 2 * s) + 1,
+    if m < s {
+        return 0;
     }
+    if !lengths_right(m, n, lengths) {
+        return 0;
+    }
+    if !limit_right(limit) {
+        return 0;
+    }
+    let most = lengths.work / 4;
+    let others = 5 * n + 3 * m + 2 * s;
+    if most < others {
+        return 0;
+    }
+    most - others + 1
 }
 
 // Questions 6 to 10 of a matrix that has passed 1 to 5, and the solve. The plan is written where all of them get a yes.
@@ -219,41 +229,29 @@ fn solve_accepted(
     requires { ⌜ Accepted (now offsets) (now columns) m n × (length (now values) ≡ length (now columns)) ⌝ }
     ensures { λ r. ⌜ Continued (given m n s (now (offsets .entry)) (now (columns .entry)) (now (values .entry)) (now (b .entry)) (now (c .entry)) (now (tolerances .entry)) limit) (lent (now (output .entry)) (now (index .entry)) (now (work .entry))) (lent (now (output .exit)) (now (index .exit)) (now (work .exit))) r ⌝ }
 {
-    let below = entries_below(
-        m,
-        n,
-        s,
-        b.len(),
-        c.len(),
-        tolerances.len(),
-        output.len(),
-        work.len(),
-        limit,
-    );
+    let lengths = Lengths {
+        index: index.len(),
+        b: b.len(),
+        c: c.len(),
+        tolerances: tolerances.len(),
+        output: output.len(),
+        work: work.len(),
+    };
+    let below = entries_below(m, n, s, lengths, limit);
     let sizes = ipm_common::plan_below(m, n, offsets, columns, index, below);
-    let e = sizes.e as usize;
-    let h = sizes.s;
-    let d = sizes.d as usize;
-    let words = 5 * e + 3 * h + 2 * d + 3 * m + n + 2 * columns.len() + 5;
-    match ask_sizes(
-        words,
-        e,
+    let plan = Plan {
         m,
         n,
         s,
-        index.len(),
-        b.len(),
-        c.len(),
-        tolerances.len(),
-        output.len(),
-        work.len(),
-        limit,
-    ) {
+        t: columns.len(),
+        stored: sizes.e as usize,
+        shared: sizes.s,
+        products: sizes.d as usize,
+    };
+    match ask_sizes(plan.words_at(), plan, lengths, limit) {
         Asked::Refused(r) => SolveAnswer::Refused(r),
         Asked::Good => solve_planned(
-            m,
-            n,
-            s,
+            plan,
             offsets,
             columns,
             values,
@@ -264,9 +262,6 @@ fn solve_accepted(
             output,
             index,
             work,
-            e,
-            h,
-            d,
         ),
     }
 }

@@ -1,5 +1,6 @@
 ghost use mathlib.Core.Path.{_≡_};
 ghost use mathlib.Core.Bool.{not};
+ghost use Prim.Native.Nat.{_≤_};
 ghost use lib.ListN.{getD};
 ghost use Rattle.lanes.specs.Lists.{first};
 ghost use Rattle.machine.specs.Machine.{spoilt};
@@ -39,32 +40,34 @@ pub fn is_done(t: Status) -> bool
     }
 }
 
-// The lowest spoilt lane, or 4.
-pub fn lowest_spoilt(statuses: [Status; 4]) -> usize
-    ensures { λ r. ⌜ r ≡ first 4 (λ l. isSpoilt (getD statuses l spoilt)) ⌝ }
+// The lowest spoilt lane of the first `width`, or `width`.
+pub fn lowest_spoilt(statuses: [Status; 4], width: usize) -> usize
+    requires { ⌜ width ≤ 4 ⌝ }
+    ensures { λ r. ⌜ r ≡ first width (λ l. isSpoilt (getD statuses l spoilt)) ⌝ }
 {
     let mut l: usize = 0;
-    while l < 4 {
+    while l < width {
         let t = statuses[l];
         if is_spoilt(t) {
             return l;
         }
         l += 1;
     }
-    4
+    width
 }
 
-// The lowest lane that is not done, or 4.
-pub fn lowest_undone(statuses: [Status; 4]) -> usize
-    ensures { λ r. ⌜ r ≡ first 4 (λ l. not (isDone (getD statuses l spoilt))) ⌝ }
+// The lowest lane that is not done of the first `width`, or `width`.
+pub fn lowest_undone(statuses: [Status; 4], width: usize) -> usize
+    requires { ⌜ width ≤ 4 ⌝ }
+    ensures { λ r. ⌜ r ≡ first width (λ l. not (isDone (getD statuses l spoilt))) ⌝ }
 {
     let mut l: usize = 0;
-    while l < 4 {
+    while l < width {
         let t = statuses[l];
         if !is_done(t) {
             return l;
         }
         l += 1;
     }
-    4
+    width
 }

@@ -1,5 +1,5 @@
 -- The loop over the tests, over the real working memory. Assumes nothing.
-use mathlib.Core.Path.{_≡_, refl, sym, ap, _∙_}
+use mathlib.Core.Path.{_≡_, refl, sym, ap, ap₂, _∙_}
 use mathlib.Core.Logic.{_≢_}
 use mathlib.Core.Bool.{not}
 use mathlib.Core.List.{List, [], _∷_}
@@ -8,24 +8,28 @@ use native.Mathlib.Omega.{arith}
 use borrow.Author.Tests.{eq-eqb}
 use lib.ListN.{length, getD}
 use lib.Ieee.{Float}
-use Rattle.lanes.specs.Lists.{first, lane}
+use Rattle.lanes.specs.Lists.{at, first, lane}
 use Rattle.lanes.proofs.Lists.{vec-length, lane-at, first-under}
-use Rattle.lanes.proofs.Quads.{four-lanes}
-use Rattle.machine.specs.Machine.{Machine, live, lost, standard, status, yields}
+use Rattle.lanes.proofs.Quads.{four-lanes, on}
+use Rattle.machine.specs.Machine.{Machine, Problem, LaneData, Settings, State, live, lost, standard, status, yields}
 use Rattle.machine.specs.declared.Status.{Status}
 use Rattle.machine.specs.declared.Status.the-variants.{Spoilt as spoilt, Done as done}
 use Rattle.machine.specs.declared.Outcome.the-variants.{Accepted as accepted, NoAt11 as noAt11, NoAt12 as noAt12}
 use Rattle.machine.specs.Outcome.{isSpoilt, isDone, allDone, lowestUndone, Call, laneData, laneMachine, laneStatus, xOf, xAt}
 use Rattle.machine.specs.Demand3.{Memory, Has, numbers, Made}
-use Rattle.machine.specs.Work.{callOf, problemOf, Says, Stepped}
+use Rattle.machine.specs.Work.{problemOf, Says, Stepped}
 use Rattle.machine.proofs.Machines.{lane-live, output-at}
 use Rattle.machine.proofs.Ends.{all-yes}
 use Rattle.machine.proofs.Demand3.{made-test}
 use Rattle.machine.proofs.Turns.{Going, steps-reads, made, ran-spoilt, ran-done, ran-spent}
-use Rattle.tests.specs.Layout.{numbersAt}
+use Rattle.lanes.specs.Arithmetic.{_⊕_, one}
+use Rattle.lanes.specs.Lanes.{lanes, Width, room}
+use Rattle.layout.specs.declared.Block.{Block}
+use Rattle.layout.specs.Layout.{numbersAt, dataAt}
+use Rattle.tests.specs.Measures.{Measured, Divided}
 use Rattle.step.specs.Steps.{LanesStep}
-use Rattle.run.specs.Tests.{memoryAt, Bears, Tested, Run}
-use Rattle.run.proofs.Memories.{quads-ext, part-length, numbers-at}
+use Rattle.run.specs.Tests.{memoryAt, callBy, Runs, Bears, Tested, Run}
+use Rattle.run.proofs.Memories.{entries-ext, part-length, numbers-at, data-at}
 
 not-accepted-11 : (i l k : ℕ) → noAt11 i l ≡ accepted k → ⊥
 not-accepted-11 i l k e = let z : _≡_ {A = ℕ} 0 1 = cc in omega arith
@@ -40,24 +44,45 @@ done-not : (t : Status) → t ≡ done → t ≢ spoilt
 done-not t p q = let z : _≡_ {A = ℕ} 0 1 = cc in omega arith
 
 -- no lane is spoilt
-pub not-spoilt : (said : List Status) (r : ℕ) → r ≡ first 4 (λ l. isSpoilt (getD said l spoilt)) → (r < 4 → ⊥) → (l : ℕ) → l < 4 → getD said l spoilt ≢ spoilt
-not-spoilt said r e h l a z = h (omega (arith, e, first-under (λ i. isSpoilt (getD said i spoilt)) 4 l a (ap isSpoilt z)))
+pub not-spoilt : {w : ℕ} (said : List Status) (r : ℕ) → r ≡ first w (λ l. isSpoilt (getD said l spoilt)) → (r < w → ⊥) → (l : ℕ) → l < w → getD said l spoilt ≢ spoilt
+not-spoilt {w} said r e h l a z = h (omega (arith, e, first-under (λ i. isSpoilt (getD said i spoilt)) w l a (ap isSpoilt z)))
 
-module _ (m n s : ℕ) (off cols : List ℕ) (vals b c tol : List Float) where
+-- document 01's settings are such
+pub standard-runs : {A : Problem} → Runs A standard
+standard-runs = record { centring = refl; damping = refl; primal = λ d q. refl; dual = λ d q. refl }
+
+-- the divisors are those of the settings
+pub divided : {w : ℕ} → Width w → {A : Problem} {H : Settings} {d : ℕ → LaneData} {centring : Float} {ws nx ny gs ts br bq : List Float} → Runs A H → Measured w (A .m) (A .n) (A .s) centring ws nx ny gs ts
+    → br ≡ lanes (λ t. one ⊕ at nx t) → bq ≡ lanes (λ t. one ⊕ at ny t) → Divided w A H d ws br bq
+divided {w} W {A} {H} {d} {centring} {ws} {nx} {ny} R M er eq = record {
+  primal = λ t b. on W {f = λ t. one ⊕ at nx t} er .lane t b ∙ ap (λ (v : Float). one ⊕ v) (M .x-norm t b) ∙ sym (R .primal (d t) (numbersAt w (A .m) (A .n) (A .s) ws t));
+  dual = λ t b. on W {f = λ t. one ⊕ at ny t} eq .lane t b ∙ ap (λ (v : Float). one ⊕ v) (M .y-norm t b) ∙ sym (R .dual (d t) (numbersAt w (A .m) (A .n) (A .s) ws t));
+}
+
+module _ (H : Settings) (block : Block) (w : ℕ) (W : Width w) (m n s : ℕ) (off cols : List ℕ) (vals b c tol : List Float) where
   abbrev C : Call
-  C = callOf m n s off cols vals b c tol
+  C = callBy H block w m n s off cols vals b c tol
+
+  abbrev A : Problem
+  A = problemOf m n s off cols vals
+
+  abbrev d : ℕ → LaneData
+  d = dataAt block m n b c tol
+
+  lane-status : (v : List Float) (l : ℕ) → l < w → status A H (laneData C l) (numbers C (memoryAt w m n s v) l) ≡ status A H (d l) (numbersAt w m n s v l)
+  lane-status v l a = ap₂ (status A H) (data-at H block w m n s off cols vals b c tol l a) (numbers-at H block w m n s off cols vals b c tol v l a)
 
   -- what the tests say of a lane: what its numbers in the memory yield
   says-of : (v : List Float) (said : List Status)
-      → ((l : ℕ) → l < 4 → getD said l spoilt ≡ status (problemOf m n s off cols vals) standard (laneData C l) (numbersAt m n s v l)) → Says C (memoryAt m n s v) said
-  says-of v said h l a = h l a ∙ ap (status (problemOf m n s off cols vals) standard (laneData C l)) (sym (numbers-at m n s off cols vals b c tol v l a))
+      → ((l : ℕ) → l < w → getD said l spoilt ≡ status A H (d l) (numbersAt w m n s v l)) → Says C (memoryAt w m n s v) said
+  says-of v said h l a = h l a ∙ sym (lane-status v l a)
 
-  pub said-at : (v : List Float) (said : List Status) → Says C (memoryAt m n s v) said
-      → (l : ℕ) → l < 4 → getD said l spoilt ≡ status (problemOf m n s off cols vals) standard (laneData C l) (numbersAt m n s v l)
-  said-at v said h l a = h l a ∙ ap (status (problemOf m n s off cols vals) standard (laneData C l)) (numbers-at m n s off cols vals b c tol v l a)
+  pub said-at : (v : List Float) (said : List Status) → Says C (memoryAt w m n s v) said
+      → (l : ℕ) → l < w → getD said l spoilt ≡ status A H (d l) (numbersAt w m n s v l)
+  said-at v said h l a = h l a ∙ lane-status v l a
 
   -- ---- the test
-  yields-of : (k : ℕ) (M : Memory) → Bears C k M → (l : ℕ) → l < 4 → status (C .problem) (C .settings) (laneData C l) (numbers C M l) ≡ laneStatus C l k
+  yields-of : (k : ℕ) (M : Memory) → Bears C k M → (l : ℕ) → l < w → status (C .problem) (C .settings) (laneData C l) (numbers C M l) ≡ laneStatus C l k
   unfolding laneStatus
   yields-of k M B l a = go (laneMachine C l k) (B .reads l a) (B .shown l a)
     where
@@ -66,20 +91,20 @@ module _ (m n s : ℕ) (off cols : List ℕ) (vals b c tol : List Float) where
       go (live q) e f = ap (status (C .problem) (C .settings) (laneData C l)) e ∙ (unfold yields in refl)
       go lost e f = f refl ∙ (unfold yields in refl)
 
-  pub tested-at : (k : ℕ) (v : List Float) (said : List Status) → Bears C k (memoryAt m n s v)
-      → ((l : ℕ) → l < 4 → getD said l spoilt ≡ status (problemOf m n s off cols vals) standard (laneData C l) (numbersAt m n s v l))
-      → Tested C k (memoryAt m n s v) said
+  pub tested-at : (k : ℕ) (v : List Float) (said : List Status) → Bears C k (memoryAt w m n s v)
+      → ((l : ℕ) → l < w → getD said l spoilt ≡ status A H (d l) (numbersAt w m n s v l))
+      → Tested C k (memoryAt w m n s v) said
   tested-at k v said B h = record {
-    made = record { has = B .reads; says = λ l a. says-of v said h l a ∙ yields-of k (memoryAt m n s v) B l a };
+    made = record { has = B .reads; says = λ l a. says-of v said h l a ∙ yields-of k (memoryAt w m n s v) B l a };
     says = says-of v said h;
   }
 
   -- ---- the step
-  pub stepped-at : {top : ℕ} (v v′ : List Float) → LanesStep (problemOf m n s off cols vals) standard (laneData C) top v v′ → Stepped C (memoryAt m n s v) (memoryAt m n s v′)
+  pub stepped-at : {top : ℕ} (v v′ : List Float) → LanesStep w A H d top v v′ → Stepped C (memoryAt w m n s v) (memoryAt w m n s v′)
   stepped-at v v′ S l a =
-      numbers-at m n s off cols vals b c tol v′ l a
+      numbers-at H block w m n s off cols vals b c tol v′ l a
       ∙ S .taken l a
-      ∙ rw (numbers-at m n s off cols vals b c tol v l a)
+      ∙ rw (numbers-at H block w m n s off cols vals b c tol v l a, data-at H block w m n s off cols vals b c tol l a)
 
   module _ (N k : ℕ) (M : Memory) (g : Going C N k M) where
     four : List Status
@@ -90,9 +115,9 @@ module _ (m n s : ℕ) (off cols : List ℕ) (vals b c tol : List Float) where
 
     four-says : Says C M four
     unfolding four
-    four-says = four-lanes (λ (l : ℕ). getD four l spoilt ≡ status (C .problem) (C .settings) (laneData C l) (numbers C M l)) refl refl refl refl
+    four-says = λ l a. four-lanes (λ (l : ℕ). getD four l spoilt ≡ status (C .problem) (C .settings) (laneData C l) (numbers C M l)) refl refl refl refl l (omega (arith, W .most))
 
-    status-is : (l : ℕ) → l < 4 → status (C .problem) (C .settings) (laneData C l) (numbers C M l) ≡ laneStatus C l (k + 1)
+    status-is : (l : ℕ) → l < w → status (C .problem) (C .settings) (laneData C l) (numbers C M l) ≡ laneStatus C l (k + 1)
     status-is l a = sym (four-says l a) ∙ made-test C (k + 1) M four (made C N k M four g four-says) .says l a
 
     -- the next test's memory bears its machines' numbers
@@ -103,40 +128,40 @@ module _ (m n s : ℕ) (off cols : List ℕ) (vals b c tol : List Float) where
     }
     -- where all the machines are done the memory has their x
 
-  x-at : (k : ℕ) (v : List Float) (said : List Status) → 4 * n ≤ length v → Made C k (memoryAt m n s v) said → ((l : ℕ) → l < 4 → getD said l spoilt ≡ done)
-      → memoryAt m n s v .x ≡ xAt C k
+  x-at : (k : ℕ) (v : List Float) (said : List Status) → n ≤ room w v → Made C k (memoryAt w m n s v) said → ((l : ℕ) → l < w → getD said l spoilt ≡ done)
+      → memoryAt w m n s v .x ≡ xAt C k
   x-at k v said room mk d =
-      quads-ext n (memoryAt m n s v .x) (xAt C k) (part-length v 0 n (omega arith)) (unfold xAt in vec-length (4 * n) (λ p. xOf C (laneMachine C (p % 4) k) (p / 4)))
+      entries-ext w n (memoryAt w m n s v .x) (xAt C k) (W .some) (part-length w v 0 n (omega arith)) (unfold xAt in vec-length (w * n) (λ p. xOf C (laneMachine C (p % w) k) (p / w)))
       (λ e l h a.
-      let t = made-test C k (memoryAt m n s v) said mk in
-      let z : laneMachine C l k ≡ live (numbers C (memoryAt m n s v) l) =
-      lane-live C k (memoryAt m n s v) said t l a (done-not (laneStatus C l k) (sym (t .says l a) ∙ d l a)) in
-      sym (lane-at 4 n l (memoryAt m n s v .x) e h) ∙ sym (output-at C k l e a h ∙ ap (λ (X : Machine). xOf C X e) z))
+      let t = made-test C k (memoryAt w m n s v) said mk in
+      let z : laneMachine C l k ≡ live (numbers C (memoryAt w m n s v) l) =
+      lane-live C k (memoryAt w m n s v) said t l a (done-not (laneStatus C l k) (sym (t .says l a) ∙ d l a)) in
+      sym (lane-at w n l (memoryAt w m n s v .x) e h) ∙ sym (output-at C k l e a h ∙ ap (λ (X : Machine). xOf C X e) z))
 
   -- no lane is left behind: all are done
-  all-of : (said : List Status) (u : ℕ) → u ≡ first 4 (λ l. not (isDone (getD said l spoilt))) → u ≡ 4 → (l : ℕ) → l < 4 → getD said l spoilt ≡ done
+  all-of : (said : List Status) (u : ℕ) → u ≡ first w (λ l. not (isDone (getD said l spoilt))) → u ≡ w → (l : ℕ) → l < w → getD said l spoilt ≡ done
   all-of said u e f =
-      all-yes 4 (λ l _. getD said l spoilt) 0 (unfold allDone lowestUndone in eq-eqb (first 4 (λ l. not (isDone (getD said l spoilt)))) 4 (sym e ∙ f))
+      all-yes w (λ l _. getD said l spoilt) 0 (unfold allDone lowestUndone in eq-eqb (first w (λ l. not (isDone (getD said l spoilt)))) w (sym e ∙ f))
 
   -- ---- the end
-  module _ (N k : ℕ) (v : List Float) (said : List Status) (g : Going C N k (memoryAt m n s v)) (h : Says C (memoryAt m n s v) said) where
-    pub run-spoilt : (r : ℕ) → r ≡ first 4 (λ l. isSpoilt (getD said l spoilt)) → r < 4 → Run C N (memoryAt m n s v) (noAt11 (k + 1) r)
+  module _ (N k : ℕ) (v : List Float) (said : List Status) (g : Going C N k (memoryAt w m n s v)) (h : Says C (memoryAt w m n s v) said) where
+    pub run-spoilt : (r : ℕ) → r ≡ first w (λ l. isSpoilt (getD said l spoilt)) → r < w → Run C N (memoryAt w m n s v) (noAt11 (k + 1) r)
     run-spoilt r e l = record {
-      ran = ran-spoilt C N k (memoryAt m n s v) said g h r e l;
+      ran = ran-spoilt C N k (memoryAt w m n s v) said g h r e l;
       x = λ j z. absurd (not-accepted-11 (k + 1) r j z);
     }
 
-    module _ (r u : ℕ) (e : r ≡ first 4 (λ l. isSpoilt (getD said l spoilt))) (d : u ≡ first 4 (λ l. not (isDone (getD said l spoilt)))) (no : r < 4 → ⊥) where
-      pub run-done : 4 * n ≤ length v → u ≡ 4 → Run C N (memoryAt m n s v) (accepted (k + 1))
+    module _ (r u : ℕ) (e : r ≡ first w (λ l. isSpoilt (getD said l spoilt))) (d : u ≡ first w (λ l. not (isDone (getD said l spoilt)))) (no : r < w → ⊥) where
+      pub run-done : n ≤ room w v → u ≡ w → Run C N (memoryAt w m n s v) (accepted (k + 1))
       run-done room z = record {
-        ran = ran-done C N k (memoryAt m n s v) said g h r u e d no z;
+        ran = ran-done C N k (memoryAt w m n s v) said g h r u e d no z;
         x = λ j f.
-            x-at (k + 1) v said room (made C N k (memoryAt m n s v) said g h) (all-of said u d z)
+            x-at (k + 1) v said room (made C N k (memoryAt w m n s v) said g h) (all-of said u d z)
             ∙ ap (xAt C) (same-test (k + 1) j f);
       }
 
-      pub run-spent : (u ≡ 4 → ⊥) → k + 1 ≡ N → Run C N (memoryAt m n s v) (noAt12 (k + 1))
+      pub run-spent : (u ≡ w → ⊥) → k + 1 ≡ N → Run C N (memoryAt w m n s v) (noAt12 (k + 1))
       run-spent z q = record {
-        ran = ran-spent C N k (memoryAt m n s v) said g h r u e d no z q;
+        ran = ran-spent C N k (memoryAt w m n s v) said g h r u e d no z q;
         x = λ j f. absurd (not-accepted-12 (k + 1) j f);
       }

@@ -10,24 +10,23 @@ use lib.Ieee.{Float, lt, isNan}
 use Rattle.lanes.specs.Lists.{at, vec}
 use Rattle.lanes.specs.Arithmetic.{null}
 use Rattle.lanes.specs.Constants.{startValue}
-use Rattle.lanes.specs.Lanes.{lanes}
+use Rattle.lanes.specs.Lanes.{On}
 use Rattle.lanes.specs.Region.{reg, Kept, Fills, Apart, before}
 use Rattle.lanes.proofs.Regions.{kept-apart}
-use Rattle.lanes.proofs.Quads.{lane-of}
 use Rattle.machine.specs.Machine.{Problem, LaneData, Settings, State, R, Q, G, mu, status, direction, stepLength, stepped}
 use Rattle.machine.specs.declared.Status.{Status}
 use Rattle.machine.specs.declared.Status.the-variants.{Spoilt, Done, Step}
 use Rattle.machine.specs.Outcome.{isDone}
 use Rattle.machine.specs.Work.{stepOf, stepBy}
-use Rattle.tests.specs.Layout.{yAt, wAt, numbersAt}
-use Rattle.step.specs.Steps.{Fresh, Took, Centred, LanesStep}
+use Rattle.layout.specs.Layout.{yAt, wAt, numbersAt}
+use Rattle.step.specs.Steps.{Fresh, Took, Told, LanesStep}
 use Rattle.step.proofs.Steps.{untouched, untouched-on}
 
 -- ---- the start
-pub fresh : (m n s : ℕ) {v w0 w1 w2 w3 w4 : List Float} → v ≡ lanes (λ t. startValue)
-    → Fills 4 0 n (λ t. vec n (λ e. at v t)) w0 w1 → Fills 4 n n (λ t. vec n (λ e. at v t)) w1 w2
-    → Fills 4 (yAt n) m (λ t. vec m (λ e. at v t)) w2 w3 → Fills 4 (wAt n m) s (λ t. vec s (λ e. at v t)) w3 w4 → Fresh m n s w0 w4
-fresh m n s {v} {w0} {w1} {w2} {w3} {w4} ev F1 F2 F3 F4 =
+pub fresh : (width m n s : ℕ) {v w0 w1 w2 w3 w4 : List Float} → On width v (λ t. startValue)
+    → Fills width 0 n (λ t. vec n (λ e. at v t)) w0 w1 → Fills width n n (λ t. vec n (λ e. at v t)) w1 w2
+    → Fills width (yAt n) m (λ t. vec m (λ e. at v t)) w2 w3 → Fills width (wAt n m) s (λ t. vec s (λ e. at v t)) w3 w4 → Fresh width m n s w0 w4
+fresh width m n s {v} {w0} {w1} {w2} {w3} {w4} ev F1 F2 F3 F4 =
     record {
       frame =
           untouched-on (untouched (F1 .kept) (omega arith))
@@ -35,22 +34,22 @@ fresh m n s {v} {w0} {w1} {w2} {w3} {w4} ev F1 F2 F3 F4 =
       all = λ t b i. record { x = ex t b i; z = ez t b i; y = ey t b i; w = ew t b i };
     }
   where
-    te : (t : ℕ) → t < 4 → at v t ≡ startValue
-    te t b = lane-of (λ t. startValue) ev t b
+    te : (t : ℕ) → t < width → at v t ≡ startValue
+    te t b = ev .lane t b
 
-    still : (p j : ℕ) {o k : ℕ} {old new : List Float} → Kept 4 o k old new → Apart p j o k → (t : ℕ) → t < 4 → reg 4 new p j t ≡ reg 4 old p j t
+    still : (p j : ℕ) {o k : ℕ} {old new : List Float} → Kept width o k old new → Apart p j o k → (t : ℕ) → t < width → reg width new p j t ≡ reg width old p j t
     still p j K a t b = kept-apart K a t b
 
-    ex : (t : ℕ) → t < 4 → reg 4 w4 0 n t ≡ vec n (λ _. startValue)
+    ex : (t : ℕ) → t < width → reg width w4 0 n t ≡ vec n (λ _. startValue)
     ex t b = still 0 n (F4 .kept) (before (omega arith)) t b ∙ still 0 n (F3 .kept) (before (omega arith)) t b ∙ still 0 n (F2 .kept) (before (omega arith)) t b ∙ F1 .within t b ∙ ap (λ (x : Float). vec n (λ _. x)) (te t b)
 
-    ez : (t : ℕ) → t < 4 → reg 4 w4 n n t ≡ vec n (λ _. startValue)
+    ez : (t : ℕ) → t < width → reg width w4 n n t ≡ vec n (λ _. startValue)
     ez t b = still n n (F4 .kept) (before (omega arith)) t b ∙ still n n (F3 .kept) (before (omega arith)) t b ∙ F2 .within t b ∙ ap (λ (x : Float). vec n (λ _. x)) (te t b)
 
-    ey : (t : ℕ) → t < 4 → reg 4 w4 (yAt n) m t ≡ vec m (λ _. startValue)
+    ey : (t : ℕ) → t < width → reg width w4 (yAt n) m t ≡ vec m (λ _. startValue)
     ey t b = still (yAt n) m (F4 .kept) (before (omega arith)) t b ∙ F3 .within t b ∙ ap (λ (x : Float). vec m (λ _. x)) (te t b)
 
-    ew : (t : ℕ) → t < 4 → reg 4 w4 (wAt n m) s t ≡ vec s (λ _. startValue)
+    ew : (t : ℕ) → t < width → reg width w4 (wAt n m) s t ≡ vec s (λ _. startValue)
     ew t b = F4 .within t b ∙ ap (λ (x : Float). vec s (λ _. x)) (te t b)
 
 -- ---- the step that the statuses ask for
@@ -72,18 +71,16 @@ module _ (A : Problem) (H : Settings) (d : LaneData) (q : State) where
   by-status Done e n = refl
   by-status (Step t) e n = rw (status-mu t e)
 
-pub by-statuses : (A : Problem) (H : Settings) (d : ℕ → LaneData) {top : ℕ} {m : List Float} {done : List Bool} {old new : List Float} (statuses : List Status)
-    → Took A H d top m done old new
-    → Centred A H d m old
-    → ((t : ℕ) → t < 4 → getD done t false ≡ isDone (getD statuses t Spoilt))
-    → ((t : ℕ) → t < 4 → getD statuses t Spoilt ≡ status A H (d t) (numbersAt (A .m) (A .n) (A .s) old t))
-    → ((t : ℕ) → t < 4 → getD statuses t Spoilt ≢ Spoilt)
-    → LanesStep A H d top old new
-by-statuses A H d {top} {m} {done} {old} {new} statuses T em ed ek ns =
+pub by-statuses : (width : ℕ) (A : Problem) (H : Settings) (d : ℕ → LaneData) {top : ℕ} {m : List Float} {done : List Bool} {old new : List Float} (statuses : List Status)
+    → Took width A H d top m done old new
+    → Told width A H d statuses m old
+    → ((t : ℕ) → t < width → getD done t false ≡ isDone (getD statuses t Spoilt))
+    → LanesStep width A H d top old new
+by-statuses width A H d {top} {m} {done} {old} {new} statuses T K ed =
     record {
       frame = T .frame;
       taken = λ t b.
           T .taken t b
-          ∙ rw (em t b, ed t b, ek t b)
-          (by-status A H (d t) (numbersAt (A .m) (A .n) (A .s) old t) (status A H (d t) (numbersAt (A .m) (A .n) (A .s) old t)) refl (λ z. ns t b (ek t b ∙ z)));
+          ∙ rw (K .centred t b, ed t b, K .says t b)
+          (by-status A H (d t) (numbersAt width (A .m) (A .n) (A .s) old t) (status A H (d t) (numbersAt width (A .m) (A .n) (A .s) old t)) refl (λ z. K .sound t b (K .says t b ∙ z)));
     }

@@ -1,35 +1,48 @@
 -- What the functions of a step leave in the working memory, lane by lane. Definitions only.
-use Prim.Native.Nat.{ℕ, _*_, _≤_, _<_}
+use Prim.Native.Nat.{ℕ, _+_, _*_, _≤_, _<_}
 use mathlib.Core.Path.{_≡_}
 use mathlib.Core.Bool.{Bool, cond, false}
+use mathlib.Core.Logic.{_≢_}
 use mathlib.Core.List.{List}
 use lib.ListN.{getD, length}
 use lib.Ieee.{Float}
 use Rattle.lanes.specs.Lists.{at, vec}
+use Rattle.lanes.specs.Lanes.{Width, room}
 use Rattle.lanes.specs.Region.{reg}
 use Rattle.lanes.specs.Arithmetic.{_⊖_, _⊘_, null, one, smaller}
-use Rattle.lanes.specs.Constants.{startValue, dampingValue}
+use Rattle.lanes.specs.Constants.{startValue}
 use Rattle.machine.specs.Machine.{Problem, LaneData, Settings, State, Direction, columnProduct, fOf, dxOf, complement, theta, direction, stepLength, moved, mu, status}
+use Rattle.machine.specs.declared.Status.{Status}
+use Rattle.machine.specs.declared.Status.the-variants.{Spoilt}
 use Rattle.machine.specs.Work.{stepBy, stepOf}
-use Rattle.tests.specs.Layout.{dyAt, rhsAt, lAt, numbersAt, directionAt}
+use Rattle.layout.specs.declared.Block.{Block}
+use Rattle.layout.specs.Layout.{dyAt, rhsAt, lAt, numbersAt, directionAt}
+
+-- a block's lanes are among those of b and c, which are as long as stated
+pub record Fed (k : Block) (width m n s : ℕ) (b c : List Float) : Type 0 where
+  pub slack : s ≤ m
+  pub wide : Width width
+  pub within : k .first + width ≤ k .total
+  pub b-long : m ≤ room (k .total) b
+  pub c-long : n ≤ room (k .total) c
 
 -- nothing from entry `top` on has changed
-pub record Untouched (top : ℕ) (old new : List Float) : Type 0 where
+pub record Untouched (width top : ℕ) (old new : List Float) : Type 0 where
   pub size : length new ≡ length old
-  pub beyond : (j : ℕ) → 4 * top ≤ j → at new j ≡ at old j
+  pub beyond : (j : ℕ) → width * top ≤ j → at new j ≡ at old j
 
-module _ (A : Problem) where
+module _ (width : ℕ) (A : Problem) where
   -- lane t's numbers, and what its step has worked out, in a memory
   abbrev pub numbersIn : List Float → ℕ → State
-  numbersIn ws t = numbersAt (A .m) (A .n) (A .s) ws t
+  numbersIn ws t = numbersAt width (A .m) (A .n) (A .s) ws t
 
   abbrev pub directionIn : List Float → ℕ → Direction
-  directionIn ws t = directionAt (A .m) (A .n) (A .s) ws t
+  directionIn ws t = directionAt width (A .m) (A .n) (A .s) ws t
 
   -- the numbers have not changed
   pub record Still (top : ℕ) (old new : List Float) : Type 0 where
-    pub frame : Untouched top old new
-    pub kept : (t : ℕ) → t < 4 → numbersIn new t ≡ numbersIn old t
+    pub frame : Untouched width top old new
+    pub kept : (t : ℕ) → t < width → numbersIn new t ≡ numbersIn old t
 
   -- c − Aᵀy, and mu/x
   abbrev pub reducedCosts : LaneData → State → List Float
@@ -40,8 +53,8 @@ module _ (A : Problem) where
 
   -- until dx and dz are worked out, their regions have the reduced costs and mu/x
   pub record Ready (d : ℕ → LaneData) (mu ws : List Float) : Type 0 where
-    pub costs : (t : ℕ) → t < 4 → reg 4 ws (2 * A .n) (A .n) t ≡ reducedCosts (d t) (numbersIn ws t)
-    pub quotients : (t : ℕ) → t < 4 → reg 4 ws (3 * A .n) (A .n) t ≡ muOverX (at mu t) (numbersIn ws t)
+    pub costs : (t : ℕ) → t < width → reg width ws (2 * A .n) (A .n) t ≡ reducedCosts (d t) (numbersIn ws t)
+    pub quotients : (t : ℕ) → t < width → reg width ws (3 * A .n) (A .n) t ≡ muOverX (at mu t) (numbersIn ws t)
 
   module _ (H : Settings) (d : ℕ → LaneData) where
     -- dx, dz and dw of dy
@@ -53,40 +66,46 @@ module _ (A : Problem) where
     -- the right-hand side is the machine's f, and what dx needs besides dy is kept
     pub record RightSide (mu old new : List Float) : Type 0 where
       pub still : Still (lAt (A .n) (A .m) (A .s)) old new
-      pub rhs : (t : ℕ) → t < 4 → reg 4 new (rhsAt (A .n) (A .m)) (A .m) t ≡ fOf A H (d t) (numbersIn old t) (at mu t)
+      pub rhs : (t : ℕ) → t < width → reg width new (rhsAt (A .n) (A .m)) (A .m) t ≡ fOf A H (d t) (numbersIn old t) (at mu t)
       pub ready : Ready d mu new
 
     -- dx, dz and dw are those of the dy that is there, dy has not changed, and `ratios` are the lanes' thetas
     pub record Changed (mu old new ratios : List Float) : Type 0 where
       pub still : Still (lAt (A .n) (A .m) (A .s)) old new
-      pub worked : (t : ℕ) → t < 4 → directionIn new t ≡ changes t (numbersIn old t) (at mu t) (reg 4 old (dyAt (A .n) (A .m)) (A .m) t)
-      pub largest : (t : ℕ) → t < 4 → at ratios t ≡ theta A H (d t) (numbersIn new t) (directionIn new t)
+      pub worked : (t : ℕ) → t < width → directionIn new t ≡ changes t (numbersIn old t) (at mu t) (reg width old (dyAt (A .n) (A .m)) (A .m) t)
+      pub largest : (t : ℕ) → t < width → at ratios t ≡ theta A H (d t) (numbersIn new t) (directionIn new t)
 
     -- the step is worked out
     pub record Directed (top : ℕ) (mu old new ratios : List Float) : Type 0 where
       pub still : Still top old new
-      pub worked : (t : ℕ) → t < 4 → directionIn new t ≡ direction A H (d t) (numbersIn old t) (at mu t)
-      pub largest : (t : ℕ) → t < 4 → at ratios t ≡ theta A H (d t) (numbersIn new t) (directionIn new t)
+      pub worked : (t : ℕ) → t < width → directionIn new t ≡ direction A H (d t) (numbersIn old t) (at mu t)
+      pub largest : (t : ℕ) → t < width → at ratios t ≡ theta A H (d t) (numbersIn new t) (directionIn new t)
 
     -- the step is taken, by the lane's step length or, where the lane is done, by 0
     pub record Took (top : ℕ) (mu : List Float) (done : List Bool) (old new : List Float) : Type 0 where
-      pub frame : Untouched top old new
+      pub frame : Untouched width top old new
       pub taken :
           (t : ℕ)
-          → t < 4
+          → t < width
           → let q = numbersIn old t in
           let r = direction A H (d t) q (at mu t) in
           numbersIn new t ≡ stepBy A q (cond (getD done t false) null (stepLength A H (d t) q r)) r
 
     -- each lane's mu is its machine's, of the numbers in a memory
     abbrev pub Centred : List Float → List Float → Type 0
-    Centred ts ws = (t : ℕ) → t < 4 → at ts t ≡ mu A H (d t) (numbersIn ws t)
+    Centred ts ws = (t : ℕ) → t < width → at ts t ≡ mu A H (d t) (numbersIn ws t)
+
+    -- the statuses are what the lanes' numbers yield, none is spoilt, and each lane's mu is its machine's
+    pub record Told (statuses : List Status) (ts ws : List Float) : Type 0 where
+      pub says : (t : ℕ) → t < width → getD statuses t Spoilt ≡ status A H (d t) (numbersIn ws t)
+      pub sound : (t : ℕ) → t < width → getD statuses t Spoilt ≢ Spoilt
+      pub centred : Centred ts ws
 
     -- each lane takes its own step, as its own test says
     pub record LanesStep (top : ℕ) (old new : List Float) : Type 0 where
-      pub frame : Untouched top old new
+      pub frame : Untouched width top old new
       pub taken :
-          (t : ℕ) → t < 4 → let q = numbersIn old t in numbersIn new t ≡ stepOf A H (d t) q (status A H (d t) q)
+          (t : ℕ) → t < width → let q = numbersIn old t in numbersIn new t ≡ stepOf A H (d t) q (status A H (d t) q)
 
 -- each number p becomes 1·p + h·dp
 abbrev pub movedBy : ℕ → ℕ → ℕ → State → Float → Direction → State
@@ -94,19 +113,19 @@ movedBy m n s q h r =
     record { x = moved n h (q .x) (r .dx); z = moved n h (q .z) (r .dz); y = moved m h (q .y) (r .dy); w = moved s h (q .w) (r .dw) }
 
 -- the numbers are moved by what was worked out
-pub record Advanced (m n s : ℕ) (ratios : List Float) (done : List Bool) (old new : List Float) : Type 0 where
-  pub frame : Untouched (lAt n m s) old new
+pub record Advanced (width m n s : ℕ) (damping : Float) (ratios : List Float) (done : List Bool) (old new : List Float) : Type 0 where
+  pub frame : Untouched width (lAt n m s) old new
   pub taken :
       (t : ℕ)
-      → t < 4
-      → let h = cond (getD done t false) null (smaller (dampingValue ⊘ at ratios t) one) in
-      numbersAt m n s new t ≡ movedBy m n s (numbersAt m n s old t) h (directionAt m n s old t)
+      → t < width
+      → let h = cond (getD done t false) null (smaller (damping ⊘ at ratios t) one) in
+      numbersAt width m n s new t ≡ movedBy m n s (numbersAt width m n s old t) h (directionAt width m n s old t)
 
 -- every number is 1000.0
-pub record Fresh (m n s : ℕ) (old new : List Float) : Type 0 where
-  pub frame : Untouched (lAt n m s) old new
+pub record Fresh (width m n s : ℕ) (old new : List Float) : Type 0 where
+  pub frame : Untouched width (lAt n m s) old new
   pub all :
       (t : ℕ)
-      → t < 4
-      → numbersAt m n s new t
+      → t < width
+      → numbersAt width m n s new t
       ≡ record { x = vec n (λ _. startValue); z = vec n (λ _. startValue); y = vec m (λ _. startValue); w = vec s (λ _. startValue) }

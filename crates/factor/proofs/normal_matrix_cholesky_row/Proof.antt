@@ -1,106 +1,108 @@
 use mathlib.Core.Path.{_≡_, ap}
+use mathlib.Core.List.{List}
 use Prim.Native.Nat.{ℕ, _+_, _-_}
 use native.Mathlib.Omega.{arith}
-use lib.ListN.{length}
-use Rattle.lanes.proofs.Regions.{length-put}
+use Rattle.lanes.proofs.Regions.{room-le, room-put, kept-room}
+use Rattle.lanes.proofs.Quads.{on}
 use Rattle.ranks.proofs.Entry.{start-needs, normal-needs, product-needs, finish-needs}
 use Rattle.ranks.proofs.Fill.{given-still, lends-room, lcols-next, stands-next, put-room}
+use Rattle.factor.specs.Row.{RowDue}
 use Rattle.factor.proofs.Along.{Along, value-below, off-diagonal, row-some, stands-last, along-none, along-more, row-kept, row-filled, row-entry}
 use Rattle.factor.proofs.normal_matrix_cholesky_row.Statement.{statement}
 use Rattle.factor.proofs.normal_matrix_cholesky_row.Tie as tie
 
 abbrev Inv-loop : tie.InvT-loop
-Inv-loop work₀ x z y w f d lo m n s off cols values aends aleft aright acols dends dleft dright lends ldiag lcols i g diag₀ side₀ e₀ work diag side e =
-    Along off cols values m n s x z y w d lo lends lcols i work₀ diag₀ side₀ e work diag side
+Inv-loop work₀ width values aends aleft aright acols dends dleft dright lends ldiag lcols mem i g diag₀ side₀ e₀ work diag side e =
+    (off cols : List ℕ) → RowDue width off cols values work₀ mem aends aleft aright acols dends dleft dright lends ldiag lcols i → Along width off cols values (mem .m) (mem .n) (mem .s) (mem .x) (mem .z) (mem .y) (mem .w) (mem .dy) (mem .l) lends lcols i work₀ diag₀ side₀ e work diag side
 
 abbrev μ-loop : tie.MeasureT-loop
-μ-loop work₀ x z y w f d lo m n s off cols values aends aleft aright acols dends dleft dright lends ldiag lcols i g diag₀ side₀ e₀ work diag side e = g - e
+μ-loop work₀ width values aends aleft aright acols dends dleft dright lends ldiag lcols mem i g diag₀ side₀ e₀ work diag side e = g - e
 
 add-at : tie.Need-add-at Inv-loop μ-loop
-add-at c = omega (arith, c .before .before .before .before .before .before .before .before .before .before .before .before .before .before .fits .m, c .before .before .before .before .before .before .before .before .before .before .before .before .before .before .pre .1)
+add-at c = omega (arith, lends-room (c .before .before .before .before .before .before .before .before .before .before .before .before .pre .is .given) (c .before .before .before .before .before .before .before .before .before .before .before .before .pre .is .row))
 
 at-requires : tie.Need-at-requires Inv-loop μ-loop
-at-requires c κs = lends-room (c .before .before .before .before .before .before .before .before .before .before .before .before .before .before .pre .0) (c .before .before .before .before .before .before .before .before .before .before .before .before .before .before .pre .1)
+at-requires c κs = lends-room (c .before .before .before .before .before .before .before .before .before .before .before .before .pre .is .given) (c .before .before .before .before .before .before .before .before .before .before .before .before .pre .is .row)
 
 sub-g : tie.Need-sub-g Inv-loop μ-loop
-sub-g c = let s = c .before .before .before .before .before .before .before .before .before .before .before .before .before .before .before in omega (arith, row-some (s .pre .0) (s .pre .3) (s .pre .1) .0, c .at .ensures)
+sub-g c = let s = c .before .before .before .before .before .before .before .before .before .before .before .before .before in omega (arith, row-some (s .pre .is .given) (s .pre .is .solution-apart) (s .pre .is .row) .0, c .at .ensures)
 
 start-of-requires : tie.Need-start-of-requires Inv-loop μ-loop
-start-of-requires c κs = let s = c .before .before .before .before .before .before .before .before .before .before .before .before .before .before .before .before in start-needs (s .pre .0) (stands-last (s .pre .0) (s .pre .3) (s .pre .1))
+start-of-requires c κs = let s = c .before .before .before .before .before .before .before .before .before .before .before .before .before .before in start-needs (s .pre .is .given) (stands-last (s .pre .is .given) (s .pre .is .solution-apart) (s .pre .is .row))
 
 normal-sum-requires : tie.Need-normal-sum-requires Inv-loop μ-loop
 normal-sum-requires c κs =
-    let s = c .before .before .before .before .before .before .before .before .before .before .before .before .before .before .before .before .before .before in
-    rw (c .before .before .before .at .ensures) (normal-needs (s .pre .0) (stands-last (s .pre .0) (s .pre .3) (s .pre .1)))
+    let s = c .before .before .before .before .before .before .before .before .before .before .before .before .before .before .before .before in
+    rw (c .before .before .before .at .ensures) (normal-needs (s .pre .is .given) (stands-last (s .pre .is .given) (s .pre .is .solution-apart) (s .pre .is .row)))
 
-add-get4 : tie.Need-add-get4 Inv-loop μ-loop
-add-get4 c = let s = c .before .before .before .before .before .before .before .before .before .before .before .before .before .before .before .before .before .before .before .before in omega (arith, s .pre .1, s .pre .4, s .good .0)
+add-get : tie.Need-add-get Inv-loop μ-loop
+add-get c = let s = c .before .before .before .before .before .before .before .before .before .before .before .before .before .before .before .before .before .before .before in omega (arith, room-le (s .args .width) (s .args .work .now), s .pre .is .row, s .pre .is .side-in, s .good .0)
 
-get4-requires : tie.Need-get4-requires Inv-loop μ-loop
-get4-requires c κs = let s = c .before .before .before .before .before .before .before .before .before .before .before .before .before .before .before .before .before .before .before .before in omega (arith, s .pre .1, s .pre .4)
+get-requires : tie.Need-get-requires Inv-loop μ-loop
+get-requires c κs = let s = c .before .before .before .before .before .before .before .before .before .before .before .before .before .before .before .before .before .before .before in (s .pre .is .given .wide, omega (arith, s .pre .is .row, s .pre .is .side-in))
 
 at-requires-2 : tie.Need-at-requires-2 Inv-loop μ-loop
-at-requires-2 c κs = omega (arith, lends-room (c .before .before .before .before .before .before .before .before .before .before .before .before .before .before .before .before .before .before .before .before .before .pre .0) (c .before .before .before .before .before .before .before .before .before .before .before .before .before .before .before .before .before .before .before .before .before .pre .1))
+at-requires-2 c κs = omega (arith, lends-room (c .before .before .before .before .before .before .before .before .before .before .before .before .before .before .before .before .before .before .before .before .pre .is .given) (c .before .before .before .before .before .before .before .before .before .before .before .before .before .before .before .before .before .before .before .before .pre .is .row))
 
 loop-holds : tie.Need-loop-holds Inv-loop μ-loop
-loop-holds c =
-    let s = c .before .before .before .before .before .before .before .before .before .before .before .before .before .before .before .before .before .before .before .before .before .before in
-    along-none (s .pre .0) (s .pre .3) (s .pre .1) (c .before .before .before .normal-sum .result) (c .before .get4 .result) (c .at2 .ensures) (s .pre .2)
+loop-holds c = λ off cols D.
+    let s = c .before .before .before .before .before .before .before .before .before .before .before .before .before .before .before .before .before .before .before .before .before in
+    along-none (D .given) (D .solution-apart) (D .row) (c .before .before .before .before .normal-sum .result) (c .before .get .result) (c .at2 .ensures) (D .filled)
 
 at-requires-3 : tie.Need-at-requires-3 Inv-loop μ-loop
-at-requires-3 c κs = let s = c .before .before .before .before .before .before .before .before .before .before .before .before .before .before .before .before .before .before .before .before .before .before .before .before in lcols-next (s .pre .0) (s .pre .1) (c .before .loop .inv .from) (omega (arith, c .loop-test .taken, c .before .before .before .before .before .before .before .before .before .at .ensures))
+at-requires-3 c κs = let s = c .before .before .before .before .before .before .before .before .before .before .before .before .before .before .before .before .before .before .before .before .before .before .before in lcols-next (s .pre .is .given) (s .pre .is .row) (c .before .loop .inv (s .pre .off) (s .pre .cols) (s .pre .is) .from) (omega (arith, c .loop-test .taken, c .before .before .before .before .before .before .before .before .before .before .at .ensures))
 
 splat-requires : tie.Need-splat-requires Inv-loop μ-loop
 splat-requires c κs = tt
 
 normal-sum-requires-2 : tie.Need-normal-sum-requires-2 Inv-loop μ-loop
 normal-sum-requires-2 c κs =
-    let s = c .before .before .before .before .before .before .before .before .before .before .before .before .before .before .before .before .before .before .before .before .before .before .before .before .before .before .before in
+    let s = c .before .before .before .before .before .before .before .before .before .before .before .before .before .before .before .before .before .before .before .before .before .before .before .before .before .before in
     let l = c .before .before .before .before .loop in
-    let st = stands-next (s .pre .0) (s .pre .1) (l .inv .from) (omega (arith, c .before .before .before .loop-test .taken, c .before .before .before .before .before .before .before .before .before .before .before .before .at .ensures)) (c .before .before .at3 .ensures) in
-    normal-needs (given-still (s .pre .0) (l .work) (l .inv .kept .size)) st
+    let st = stands-next (s .pre .is .given) (s .pre .is .row) (l .inv (s .pre .off) (s .pre .cols) (s .pre .is) .from) (omega (arith, c .before .before .before .loop-test .taken, c .before .before .before .before .before .before .before .before .before .before .before .before .before .at .ensures)) (c .before .before .at3 .ensures) in
+    normal-needs (given-still (s .pre .is .given) (l .work) (kept-room (l .inv (s .pre .off) (s .pre .cols) (s .pre .is) .kept))) st
 
 less-products-requires : tie.Need-less-products-requires Inv-loop μ-loop
 less-products-requires c κs =
-    let s = c .before .before .before .before .before .before .before .before .before .before .before .before .before .before .before .before .before .before .before .before .before .before .before .before .before .before .before .before .before in
+    let s = c .before .before .before .before .before .before .before .before .before .before .before .before .before .before .before .before .before .before .before .before .before .before .before .before .before .before .before .before in
     let l = c .before .before .before .before .before .before .loop in
-    let st = stands-next (s .pre .0) (s .pre .1) (l .inv .from) (omega (arith, c .before .before .before .before .before .loop-test .taken, c .before .before .before .before .before .before .before .before .before .before .before .before .before .before .at .ensures)) (c .before .before .before .before .at3 .ensures) in
-    product-needs (given-still (s .pre .0) (l .work) (l .inv .kept .size)) st
+    let st = stands-next (s .pre .is .given) (s .pre .is .row) (l .inv (s .pre .off) (s .pre .cols) (s .pre .is) .from) (omega (arith, c .before .before .before .before .before .loop-test .taken, c .before .before .before .before .before .before .before .before .before .before .before .before .before .before .before .at .ensures)) (c .before .before .before .before .at3 .ensures) in
+    product-needs (given-still (s .pre .is .given) (l .work) (kept-room (l .inv (s .pre .off) (s .pre .cols) (s .pre .is) .kept))) st
 
 over-diagonal-requires : tie.Need-over-diagonal-requires Inv-loop μ-loop
 over-diagonal-requires c κs =
-    let s = c .before .before .before .before .before .before .before .before .before .before .before .before .before .before .before .before .before .before .before .before .before .before .before .before .before .before .before .before .before .before .before in
+    let s = c .before .before .before .before .before .before .before .before .before .before .before .before .before .before .before .before .before .before .before .before .before .before .before .before .before .before .before .before .before .before in
     let l = c .before .before .before .before .before .before .before .before .loop in
-    let st = stands-next (s .pre .0) (s .pre .1) (l .inv .from) (omega (arith, c .before .before .before .before .before .before .before .loop-test .taken, c .before .before .before .before .before .before .before .before .before .before .before .before .before .before .before .before .at .ensures)) (c .before .before .before .before .before .before .at3 .ensures) in
-    finish-needs (given-still (s .pre .0) (l .work) (l .inv .kept .size)) st
+    let st = stands-next (s .pre .is .given) (s .pre .is .row) (l .inv (s .pre .off) (s .pre .cols) (s .pre .is) .from) (omega (arith, c .before .before .before .before .before .before .before .loop-test .taken, c .before .before .before .before .before .before .before .before .before .before .before .before .before .before .before .before .before .at .ensures)) (c .before .before .before .before .before .before .at3 .ensures) in
+    finish-needs (given-still (s .pre .is .given) (l .work) (kept-room (l .inv (s .pre .off) (s .pre .cols) (s .pre .is) .kept))) st
 
-add-put4 : tie.Need-add-put4 Inv-loop μ-loop
-add-put4 c =
+add-put : tie.Need-add-put Inv-loop μ-loop
+add-put c =
     let s = c .before .before .before .before .before .before .before .before .before .before .before .before .before .before .before .before .before .before .before .before .before .before .before .before .before .before .before .before .before .before .before .before .before in
-    let l = c .before .before .before .before .before .before .before .before .before .before .loop in
-    let st = stands-next (s .pre .0) (s .pre .1) (l .inv .from) (omega (arith, c .before .before .before .before .before .before .before .before .before .loop-test .taken, c .before .before .before .before .before .before .before .before .before .before .before .before .before .before .before .before .before .before .at .ensures)) (c .before .before .before .before .before .before .before .before .at3 .ensures) in
-    omega (arith, put-room (s .pre .0) st, s .good .0)
+    let l = c .before .before .before .before .before .before .before .before .before .before .before .loop in
+    let st = stands-next (s .pre .is .given) (s .pre .is .row) (l .inv (s .pre .off) (s .pre .cols) (s .pre .is) .from) (omega (arith, c .before .before .before .before .before .before .before .before .before .before .loop-test .taken, c .before .before .before .before .before .before .before .before .before .before .before .before .before .before .before .before .before .before .before .before .at .ensures)) (c .before .before .before .before .before .before .before .before .before .at3 .ensures) in
+    omega (arith, room-le (s .args .width) (s .args .work .now), put-room (s .pre .is .given) st, s .good .0)
 
-put4-requires : tie.Need-put4-requires Inv-loop μ-loop
-put4-requires c κs =
+put-requires : tie.Need-put-requires Inv-loop μ-loop
+put-requires c κs =
     let s = c .before .before .before .before .before .before .before .before .before .before .before .before .before .before .before .before .before .before .before .before .before .before .before .before .before .before .before .before .before .before .before .before .before in
-    let l = c .before .before .before .before .before .before .before .before .before .before .loop in
-    let st = stands-next (s .pre .0) (s .pre .1) (l .inv .from) (omega (arith, c .before .before .before .before .before .before .before .before .before .loop-test .taken, c .before .before .before .before .before .before .before .before .before .before .before .before .before .before .before .before .before .before .at .ensures)) (c .before .before .before .before .before .before .before .before .at3 .ensures) in
-    omega (arith, put-room (s .pre .0) st, l .inv .kept .size)
+    let l = c .before .before .before .before .before .before .before .before .before .before .before .loop in
+    let st = stands-next (s .pre .is .given) (s .pre .is .row) (l .inv (s .pre .off) (s .pre .cols) (s .pre .is) .from) (omega (arith, c .before .before .before .before .before .before .before .before .before .before .loop-test .taken, c .before .before .before .before .before .before .before .before .before .before .before .before .before .before .before .before .before .before .before .before .at .ensures)) (c .before .before .before .before .before .before .before .before .before .at3 .ensures) in
+    (s .pre .is .given .wide, omega (arith, put-room (s .pre .is .given) st, kept-room (l .inv (s .pre .off) (s .pre .cols) (s .pre .is) .kept)))
 
-add-get4-2 : tie.Need-add-get4-2 Inv-loop μ-loop
-add-get4-2 c =
-    let s = c .before .before .before .before .before .before .before .before .before .before .before .before .before .before .before .before .before .before .before .before .before .before .before .before .before .before .before .before .before .before .before .before .before .before .before .before .before in
-    let l = c .before .before .before .before .before .before .before .before .before .before .before .before .before .before .loop in
-    let st = stands-next (s .pre .0) (s .pre .1) (l .inv .from) (omega (arith, c .before .before .before .before .before .before .before .before .before .before .before .before .before .loop-test .taken, c .before .before .before .before .before .before .before .before .before .before .before .before .before .before .before .before .before .before .before .before .before .before .at .ensures)) (c .before .before .before .before .before .before .before .before .before .before .before .before .at3 .ensures) in
-    omega (arith, st .row, st .low, s .pre .5, s .good .0)
+add-get-2 : tie.Need-add-get-2 Inv-loop μ-loop
+add-get-2 c =
+    let s = c .before .before .before .before .before .before .before .before .before .before .before .before .before .before .before .before .before .before .before .before .before .before .before .before .before .before .before .before .before .before .before .before .before .before .before .before .before .before in
+    let l = c .before .before .before .before .before .before .before .before .before .before .before .before .before .before .before .before .loop in
+    let st = stands-next (s .pre .is .given) (s .pre .is .row) (l .inv (s .pre .off) (s .pre .cols) (s .pre .is) .from) (omega (arith, c .before .before .before .before .before .before .before .before .before .before .before .before .before .before .before .loop-test .taken, c .before .before .before .before .before .before .before .before .before .before .before .before .before .before .before .before .before .before .before .before .before .before .before .before .before .at .ensures)) (c .before .before .before .before .before .before .before .before .before .before .before .before .before .before .at3 .ensures) in
+    omega (arith, room-le (s .args .width) (s .args .work .now), st .row, st .low, s .pre .is .solution-in, s .good .0)
 
-get4-requires-2 : tie.Need-get4-requires-2 Inv-loop μ-loop
-get4-requires-2 c κs =
-    let s = c .before .before .before .before .before .before .before .before .before .before .before .before .before .before .before .before .before .before .before .before .before .before .before .before .before .before .before .before .before .before .before .before .before .before .before .before .before in
-    let l = c .before .before .before .before .before .before .before .before .before .before .before .before .before .before .loop in
-    let st = stands-next (s .pre .0) (s .pre .1) (l .inv .from) (omega (arith, c .before .before .before .before .before .before .before .before .before .before .before .before .before .loop-test .taken, c .before .before .before .before .before .before .before .before .before .before .before .before .before .before .before .before .before .before .before .before .before .before .at .ensures)) (c .before .before .before .before .before .before .before .before .before .before .before .before .at3 .ensures) in
-    omega (arith, st .row, st .low, s .pre .5, l .inv .kept .size, length-put 4 (l .work) (s .args .lo + l .e) (c .before .before .before .before .before .over-diagonal .result), ap length (c .before .before .before .put4 .ensures))
+get-requires-2 : tie.Need-get-requires-2 Inv-loop μ-loop
+get-requires-2 c κs =
+    let s = c .before .before .before .before .before .before .before .before .before .before .before .before .before .before .before .before .before .before .before .before .before .before .before .before .before .before .before .before .before .before .before .before .before .before .before .before .before .before in
+    let l = c .before .before .before .before .before .before .before .before .before .before .before .before .before .before .before .before .loop in
+    let st = stands-next (s .pre .is .given) (s .pre .is .row) (l .inv (s .pre .off) (s .pre .cols) (s .pre .is) .from) (omega (arith, c .before .before .before .before .before .before .before .before .before .before .before .before .before .before .before .loop-test .taken, c .before .before .before .before .before .before .before .before .before .before .before .before .before .before .before .before .before .before .before .before .before .before .before .before .before .at .ensures)) (c .before .before .before .before .before .before .before .before .before .before .before .before .before .before .at3 .ensures) in
+    (s .pre .is .given .wide, omega (arith, st .row, st .low, s .pre .is .solution-in, kept-room (l .inv (s .pre .off) (s .pre .cols) (s .pre .is) .kept), room-put (s .args .width) (l .work) (s .args .mem .l + l .e) (c .before .before .before .before .before .before .before .over-diagonal .result) (c .before .before .before .before .put .ensures)))
 
 product-in-requires : tie.Need-product-in-requires Inv-loop μ-loop
 product-in-requires c κs = tt
@@ -110,37 +112,37 @@ product-in-requires-2 c κs = tt
 
 add-e : tie.Need-add-e Inv-loop μ-loop
 add-e c =
-    let s = c .before .before .before .before .before .before .before .before .before .before .before .before .before .before .before .before .before .before .before .before .before .before .before .before .before .before .before .before .before .before .before .before .before .before .before .before .before .before .before .before in
-    let l = c .before .before .before .before .before .before .before .before .before .before .before .before .before .before .before .before .before .loop in
-    let st = stands-next (s .pre .0) (s .pre .1) (l .inv .from) (omega (arith, c .before .before .before .before .before .before .before .before .before .before .before .before .before .before .before .before .loop-test .taken, c .before .before .before .before .before .before .before .before .before .before .before .before .before .before .before .before .before .before .before .before .before .before .before .before .before .at .ensures)) (c .before .before .before .before .before .before .before .before .before .before .before .before .before .before .before .at3 .ensures) in
-    omega (arith, put-room (s .pre .0) st, s .good .0)
+    let s = c .before .before .before .before .before .before .before .before .before .before .before .before .before .before .before .before .before .before .before .before .before .before .before .before .before .before .before .before .before .before .before .before .before .before .before .before .before .before .before .before .before in
+    let l = c .before .before .before .before .before .before .before .before .before .before .before .before .before .before .before .before .before .before .before .loop in
+    let st = stands-next (s .pre .is .given) (s .pre .is .row) (l .inv (s .pre .off) (s .pre .cols) (s .pre .is) .from) (omega (arith, c .before .before .before .before .before .before .before .before .before .before .before .before .before .before .before .before .before .before .loop-test .taken, c .before .before .before .before .before .before .before .before .before .before .before .before .before .before .before .before .before .before .before .before .before .before .before .before .before .before .before .before .at .ensures)) (c .before .before .before .before .before .before .before .before .before .before .before .before .before .before .before .before .before .at3 .ensures) in
+    omega (arith, room-le (s .args .width) (s .args .work .now), put-room (s .pre .is .given) st, s .good .0)
 
 loop-less : tie.Need-loop-less Inv-loop μ-loop
-loop-less c = omega (arith, c .before .before .before .before .before .before .before .before .before .before .before .before .before .before .before .before .loop-test .taken)
+loop-less c = omega (arith, c .before .before .before .before .before .before .before .before .before .before .before .before .before .before .before .before .before .before .loop-test .taken)
 
 loop-again : tie.Need-loop-again Inv-loop μ-loop
-loop-again c =
-    let s = c .before .before .before .before .before .before .before .before .before .before .before .before .before .before .before .before .before .before .before .before .before .before .before .before .before .before .before .before .before .before .before .before .before .before .before .before .before .before .before .before in
-    let l = c .before .before .before .before .before .before .before .before .before .before .before .before .before .before .before .before .before .loop in
-    let b = c .before .before .before .before .before .before .before .before .before .before .before .before .before .before .before .before .loop-test .taken in
-    let st = stands-next (s .pre .0) (s .pre .1) (l .inv .from) (omega (arith, b, c .before .before .before .before .before .before .before .before .before .before .before .before .before .before .before .before .before .before .before .before .before .before .before .before .before .at .ensures)) (c .before .before .before .before .before .before .before .before .before .before .before .before .before .before .before .at3 .ensures) in
-    let o = off-diagonal (s .pre .0) (s .pre .3) (s .pre .1) (l .inv .from) (omega (arith, b, c .before .before .before .before .before .before .before .before .before .before .before .before .before .before .before .before .before .before .before .before .before .before .before .before .before .at .ensures)) (c .before .before .before .before .before .before .before .before .before .before .before .before .before .before .before .at3 .ensures) in
-    let v = value-below (given-still (s .pre .0) (l .work) (l .inv .kept .size)) st o (c .before .before .before .before .before .before .before .before .before .before .before .before .normal-sum2 .result) (c .before .before .before .before .before .before .before .before .before .before .less-products .result) (c .before .before .before .before .before .before .before .before .before .before .before .before .before .before .splat .ensures) (c .before .before .before .before .before .before .before .before .before .before .before .before .normal-sum2 .ensures) (c .before .before .before .before .before .before .before .before .before .before .less-products .ensures) (c .before .before .before .before .before .before .before .before .over-diagonal .ensures) in
-    along-more (s .pre .0) (s .pre .3) (s .pre .1) (l .inv) (omega (arith, b, c .before .before .before .before .before .before .before .before .before .before .before .before .before .before .before .before .before .before .before .before .before .before .before .before .before .at .ensures)) (c .before .before .before .before .before .before .before .before .before .before .before .before .before .before .before .at3 .ensures) v (c .before .before .before .before .before .before .put4 .ensures) (c .before .before .get42 .ensures) (c .before .product-in .ensures) (c .product-in2 .ensures)
+loop-again c = λ off cols D.
+    let s = c .before .before .before .before .before .before .before .before .before .before .before .before .before .before .before .before .before .before .before .before .before .before .before .before .before .before .before .before .before .before .before .before .before .before .before .before .before .before .before .before .before in
+    let l = c .before .before .before .before .before .before .before .before .before .before .before .before .before .before .before .before .before .before .before .loop in
+    let b = c .before .before .before .before .before .before .before .before .before .before .before .before .before .before .before .before .before .before .loop-test .taken in
+    let st = stands-next (D .given) (D .row) (l .inv off cols D .from) (omega (arith, b, c .before .before .before .before .before .before .before .before .before .before .before .before .before .before .before .before .before .before .before .before .before .before .before .before .before .before .before .before .at .ensures)) (c .before .before .before .before .before .before .before .before .before .before .before .before .before .before .before .before .before .at3 .ensures) in
+    let o = off-diagonal (D .given) (D .solution-apart) (D .row) (l .inv off cols D .from) (omega (arith, b, c .before .before .before .before .before .before .before .before .before .before .before .before .before .before .before .before .before .before .before .before .before .before .before .before .before .before .before .before .at .ensures)) (c .before .before .before .before .before .before .before .before .before .before .before .before .before .before .before .before .before .at3 .ensures) in
+    let v = value-below (given-still (D .given) (l .work) (kept-room (l .inv off cols D .kept))) st o (c .before .before .before .before .before .before .before .before .before .before .before .before .before .before .normal-sum2 .result) (c .before .before .before .before .before .before .before .before .before .before .before .before .less-products .result) (on (D .given .wide) (c .before .before .before .before .before .before .before .before .before .before .before .before .before .before .before .before .splat .ensures)) (c .before .before .before .before .before .before .before .before .before .before .before .before .before .before .normal-sum2 .ensures) (c .before .before .before .before .before .before .before .before .before .before .before .before .less-products .ensures) (c .before .before .before .before .before .before .before .before .before .before .over-diagonal .ensures) in
+    along-more (D .given) (D .solution-apart) (D .row) (l .inv off cols D) (omega (arith, b, c .before .before .before .before .before .before .before .before .before .before .before .before .before .before .before .before .before .before .before .before .before .before .before .before .before .before .before .before .at .ensures)) (c .before .before .before .before .before .before .before .before .before .before .before .before .before .before .before .before .before .at3 .ensures) v (c .before .before .before .before .before .before .before .put .ensures) (c .before .before .get2 .ensures) (on (D .given .wide) (c .before .product-in .ensures)) (on (D .given .wide) (c .product-in2 .ensures))
 
 root-of-requires : tie.Need-root-of-requires Inv-loop μ-loop
 root-of-requires c κs = tt
 
-add-put4-2 : tie.Need-add-put4-2 Inv-loop μ-loop
-add-put4-2 c =
+add-put-2 : tie.Need-add-put-2 Inv-loop μ-loop
+add-put-2 c =
     let s = c .before .before .before .before .before .before .before .before .before .before .before .before .before .before .before .before .before .before .before .before .before .before .before .before .before .before in
-    omega (arith, put-room (s .pre .0) (stands-last (s .pre .0) (s .pre .3) (s .pre .1)), s .good .0, c .before .before .before .before .before .before .before .before .before .before .before .at .ensures)
+    omega (arith, room-le (s .args .width) (s .args .work .now), put-room (s .pre .is .given) (stands-last (s .pre .is .given) (s .pre .is .solution-apart) (s .pre .is .row)), s .good .0, c .before .before .before .before .before .before .before .before .before .before .before .before .before .at .ensures)
 
-put4-requires-2 : tie.Need-put4-requires-2 Inv-loop μ-loop
-put4-requires-2 c κs =
+put-requires-2 : tie.Need-put-requires-2 Inv-loop μ-loop
+put-requires-2 c κs =
     let s = c .before .before .before .before .before .before .before .before .before .before .before .before .before .before .before .before .before .before .before .before .before .before .before .before .before .before in
-    let l = c .before .before .before .loop in
-    omega (arith, put-room (s .pre .0) (stands-last (s .pre .0) (s .pre .3) (s .pre .1)), l .inv .kept .size, c .before .before .before .before .before .before .before .before .before .before .before .at .ensures)
+    let l = c .before .before .before .before .loop in
+    (s .pre .is .given .wide, omega (arith, put-room (s .pre .is .given) (stands-last (s .pre .is .given) (s .pre .is .solution-apart) (s .pre .is .row)), kept-room (l .inv (s .pre .off) (s .pre .cols) (s .pre .is) .kept), c .before .before .before .before .before .before .before .before .before .before .before .before .before .at .ensures))
 
 div4-requires : tie.Need-div4-requires Inv-loop μ-loop
 div4-requires c κs = tt
@@ -148,19 +150,19 @@ div4-requires c κs = tt
 same-length : tie.Need-same-length Inv-loop μ-loop
 same-length c =
     let s = c .before .before .before .before .before .before .before .before .before .before .before .before .before .before .before .before .before .before .before .before .before .before .before .before .before .before .before .before .before .before in
-    let l = c .before .before .before .before .before .before .before .loop in
-    let z : l .e ≡ c .before .before .before .before .before .before .before .before .before .before .before .before .before .before .before .at .result - 1 = omega (arith, l .inv .to, c .before .before .before .before .before .before .loop-test .left, c .before .before .before .before .before .before .before .before .before .before .before .before .before .before .before .at .ensures) in
-    row-kept (s .pre .0) (s .pre .3) (s .pre .1) (s .pre .6) (l .inv) z (ap (λ (k : ℕ). k - 1) (c .before .before .before .before .before .before .before .before .before .before .before .before .before .before .before .at .ensures)) (c .before .before .before .before .before .before .before .before .before .before .before .before .before .start-of .ensures) (c .before .before .before .before .before .before .before .before .before .before .before .normal-sum .ensures) (c .before .before .before .before .before .root-of .ensures) (c .before .before .before .put42 .ensures) .size
+    let l = c .before .before .before .before .before .before .before .before .loop in
+    let z : l .e ≡ c .before .before .before .before .before .before .before .before .before .before .before .before .before .before .before .before .before .at .result - 1 = omega (arith, l .inv (s .pre .off) (s .pre .cols) (s .pre .is) .to, c .before .before .before .before .before .before .before .loop-test .left, c .before .before .before .before .before .before .before .before .before .before .before .before .before .before .before .before .before .at .ensures) in
+    row-kept (s .pre .is .given) (s .pre .is .solution-apart) (s .pre .is .row) (s .pre .is .side-apart) (l .inv (s .pre .off) (s .pre .cols) (s .pre .is)) z (ap (λ (k : ℕ). k - 1) (c .before .before .before .before .before .before .before .before .before .before .before .before .before .before .before .before .before .at .ensures)) (c .before .before .before .before .before .before .before .before .before .before .before .before .before .before .before .start-of .ensures) (c .before .before .before .before .before .before .before .before .before .before .before .before .before .normal-sum .ensures) (on (s .pre .is .given .wide) (c .before .before .before .before .before .before .root-of .ensures)) (c .before .before .before .put2 .ensures) .size
 
 returns : tie.Need-returns Inv-loop μ-loop
-returns c =
+returns c = λ off cols D.
     let s = c .before .before .before .before .before .before .before .before .before .before .before .before .before .before .before .before .before .before .before .before .before .before .before .before .before .before .before .before .before .before in
-    let l = c .before .before .before .before .before .before .before .loop in
-    let z : l .e ≡ c .before .before .before .before .before .before .before .before .before .before .before .before .before .before .before .at .result - 1 = omega (arith, l .inv .to, c .before .before .before .before .before .before .loop-test .left, c .before .before .before .before .before .before .before .before .before .before .before .before .before .before .before .at .ensures) in (
-      row-kept (s .pre .0) (s .pre .3) (s .pre .1) (s .pre .6) (l .inv) z (ap (λ (k : ℕ). k - 1) (c .before .before .before .before .before .before .before .before .before .before .before .before .before .before .before .at .ensures)) (c .before .before .before .before .before .before .before .before .before .before .before .before .before .start-of .ensures) (c .before .before .before .before .before .before .before .before .before .before .before .normal-sum .ensures) (c .before .before .before .before .before .root-of .ensures) (c .before .before .before .put42 .ensures),
-      row-filled (s .pre .0) (s .pre .3) (s .pre .1) (s .pre .6) (l .inv) z (ap (λ (k : ℕ). k - 1) (c .before .before .before .before .before .before .before .before .before .before .before .before .before .before .before .at .ensures)) (c .before .before .before .before .before .before .before .before .before .before .before .before .before .start-of .ensures) (c .before .before .before .before .before .before .before .before .before .before .before .normal-sum .ensures) (c .before .before .before .before .before .root-of .ensures) (c .before .before .before .put42 .ensures),
-      row-entry (s .pre .0) (s .pre .3) (s .pre .1) (s .pre .6) (l .inv) z (ap (λ (k : ℕ). k - 1) (c .before .before .before .before .before .before .before .before .before .before .before .before .before .before .before .at .ensures)) (c .before .before .before .before .before .before .before .before .before .before .before .before .before .start-of .ensures) (c .before .before .before .before .before .before .before .before .before .before .before .normal-sum .ensures) (c .before .before .before .before .before .root-of .ensures) (c .before .before .before .put42 .ensures) (c .before .before .before .before .before .before .before .before .before .get4 .ensures) (c .div4 .ensures),
-    )
+    let l = c .before .before .before .before .before .before .before .before .loop in
+    let z : l .e ≡ c .before .before .before .before .before .before .before .before .before .before .before .before .before .before .before .before .before .at .result - 1 = omega (arith, l .inv off cols D .to, c .before .before .before .before .before .before .before .loop-test .left, c .before .before .before .before .before .before .before .before .before .before .before .before .before .before .before .before .before .at .ensures) in record {
+      kept = row-kept (D .given) (D .solution-apart) (D .row) (D .side-apart) (l .inv off cols D) z (ap (λ (k : ℕ). k - 1) (c .before .before .before .before .before .before .before .before .before .before .before .before .before .before .before .before .before .at .ensures)) (c .before .before .before .before .before .before .before .before .before .before .before .before .before .before .before .start-of .ensures) (c .before .before .before .before .before .before .before .before .before .before .before .before .before .normal-sum .ensures) (on (D .given .wide) (c .before .before .before .before .before .before .root-of .ensures)) (c .before .before .before .put2 .ensures);
+      filled = row-filled (D .given) (D .solution-apart) (D .row) (D .side-apart) (l .inv off cols D) z (ap (λ (k : ℕ). k - 1) (c .before .before .before .before .before .before .before .before .before .before .before .before .before .before .before .before .before .at .ensures)) (c .before .before .before .before .before .before .before .before .before .before .before .before .before .before .before .start-of .ensures) (c .before .before .before .before .before .before .before .before .before .before .before .before .before .normal-sum .ensures) (on (D .given .wide) (c .before .before .before .before .before .before .root-of .ensures)) (c .before .before .before .put2 .ensures);
+      entry = row-entry (D .given) (D .solution-apart) (D .row) (D .side-apart) (l .inv off cols D) z (ap (λ (k : ℕ). k - 1) (c .before .before .before .before .before .before .before .before .before .before .before .before .before .before .before .before .before .at .ensures)) (c .before .before .before .before .before .before .before .before .before .before .before .before .before .before .before .start-of .ensures) (c .before .before .before .before .before .before .before .before .before .before .before .before .before .normal-sum .ensures) (on (D .given .wide) (c .before .before .before .before .before .before .root-of .ensures)) (c .before .before .before .put2 .ensures) (c .before .before .before .before .before .before .before .before .before .before .get .ensures) (c .div4 .ensures);
+    }
 
 pub normal-matrix-cholesky-row-spec : {M : Type 1} → statement M
 normal-matrix-cholesky-row-spec =
@@ -173,8 +175,8 @@ normal-matrix-cholesky-row-spec =
     sub-g
     start-of-requires
     normal-sum-requires
-    add-get4
-    get4-requires
+    add-get
+    get-requires
     at-requires-2
     loop-holds
     at-requires-3
@@ -182,18 +184,18 @@ normal-matrix-cholesky-row-spec =
     normal-sum-requires-2
     less-products-requires
     over-diagonal-requires
-    add-put4
-    put4-requires
-    add-get4-2
-    get4-requires-2
+    add-put
+    put-requires
+    add-get-2
+    get-requires-2
     product-in-requires
     product-in-requires-2
     add-e
     loop-less
     loop-again
     root-of-requires
-    add-put4-2
-    put4-requires-2
+    add-put-2
+    put-requires-2
     div4-requires
     same-length
     returns)

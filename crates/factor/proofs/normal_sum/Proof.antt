@@ -1,3 +1,5 @@
+use Rattle.lanes.proofs.Regions.{room-le}
+use Rattle.lanes.proofs.Quads.{on}
 use Prim.Native.Nat.{_-_, _≤_}
 use native.Mathlib.Omega.{arith}
 use Rattle.ranks.specs.Factoring.{normalStep, Summed}
@@ -6,10 +8,10 @@ use Rattle.factor.proofs.normal_sum.Statement.{statement}
 use Rattle.factor.proofs.normal_sum.Tie as tie
 
 abbrev Inv-loop : tie.InvT-loop
-Inv-loop work x z values ends left right columns e to acc₀ p₀ acc p = (p₀ ≤ p) × (p ≤ to) × Summed (normalStep values left right columns work x z p₀) acc₀ p₀ p acc
+Inv-loop work width mem values ends left right columns e to acc₀ p₀ acc p = (p₀ ≤ p) × (p ≤ to) × Summed width (normalStep width values left right columns work (mem .x) (mem .z) p₀) acc₀ p₀ p acc
 
 abbrev μ-loop : tie.MeasureT-loop
-μ-loop work x z values ends left right columns e to acc₀ p₀ acc p = to - p
+μ-loop work width mem values ends left right columns e to acc₀ p₀ acc p = to - p
 
 add-at : tie.Need-add-at Inv-loop μ-loop
 add-at c = omega (arith, c .before .before .before .before .before .before .pre .0, c .before .before .before .before .before .before .good .1 .1 .1 .1 .0)
@@ -21,7 +23,7 @@ at-requires-2 : tie.Need-at-requires-2 Inv-loop μ-loop
 at-requires-2 c κs = omega (arith, c .before .before .before .before .before .before .before .pre .0)
 
 loop-holds : tie.Need-loop-holds Inv-loop μ-loop
-loop-holds c = (omega arith, (normal-here (c .at2 .ensures) (c .before .at .ensures) (c .before .before .before .before .before .before .before .before .pre .1)) .order, summed-none _ (c .before .before .before .before .before .before .before .before .args .start) _)
+loop-holds c = (omega arith, (normal-here (c .at2 .ensures) (c .before .at .ensures) (c .before .before .before .before .before .before .before .before .pre .1)) .order, summed-none _ _ (c .before .before .before .before .before .before .before .before .args .start) _)
 
 at-requires-3 : tie.Need-at-requires-3 Inv-loop μ-loop
 at-requires-3 c κs = omega (arith, (normal-here (c .before .before .at2 .ensures) (c .before .before .before .at .ensures) (c .before .before .before .before .before .before .before .before .before .before .pre .1)) .left-long, c .loop-test .taken)
@@ -32,52 +34,52 @@ at-requires-4 c κs = omega (arith, (normal-here (c .before .before .before .at2
 at-requires-5 : tie.Need-at-requires-5 Inv-loop μ-loop
 at-requires-5 c κs = omega (arith, (normal-here (c .before .before .before .before .at2 .ensures) (c .before .before .before .before .before .at .ensures) (c .before .before .before .before .before .before .before .before .before .before .before .before .pre .1)) .cols-long, c .before .before .loop-test .taken)
 
-add-get4 : tie.Need-add-get4 Inv-loop μ-loop
-add-get4 c = omega (arith, c .at5 .ensures, c .before .before .before .before .before .before .before .before .before .before .before .before .before .good .0, (normal-here (c .before .before .before .before .before .at2 .ensures) (c .before .before .before .before .before .before .at .ensures) (c .before .before .before .before .before .before .before .before .before .before .before .before .before .pre .1)) .x-in (c .before .before .before .before .loop .p) (c .before .before .before .before .loop .inv .0) (c .before .before .before .loop-test .taken))
+add-get : tie.Need-add-get Inv-loop μ-loop
+add-get c = omega (arith, room-le (c .before .before .before .before .before .before .before .before .before .before .before .before .before .before .args .width) (c .before .before .before .before .before .before .before .before .before .before .before .before .before .before .args .work .now), c .before .at5 .ensures, c .before .before .before .before .before .before .before .before .before .before .before .before .before .before .good .0, (normal-here (c .before .before .before .before .before .before .at2 .ensures) (c .before .before .before .before .before .before .before .at .ensures) (c .before .before .before .before .before .before .before .before .before .before .before .before .before .before .pre .1)) .x-in (c .before .before .before .before .before .loop .p) (c .before .before .before .before .before .loop .inv .0) (c .before .before .before .before .loop-test .taken))
 
-get4-requires : tie.Need-get4-requires Inv-loop μ-loop
-get4-requires c κs = omega (arith, c .at5 .ensures, (normal-here (c .before .before .before .before .before .at2 .ensures) (c .before .before .before .before .before .before .at .ensures) (c .before .before .before .before .before .before .before .before .before .before .before .before .before .pre .1)) .x-in (c .before .before .before .before .loop .p) (c .before .before .before .before .loop .inv .0) (c .before .before .before .loop-test .taken))
+get-requires : tie.Need-get-requires Inv-loop μ-loop
+get-requires c κs = (c .before .before .before .before .before .before .before .before .before .before .before .before .before .before .pre .2, omega (arith, c .before .at5 .ensures, (normal-here (c .before .before .before .before .before .before .at2 .ensures) (c .before .before .before .before .before .before .before .at .ensures) (c .before .before .before .before .before .before .before .before .before .before .before .before .before .before .pre .1)) .x-in (c .before .before .before .before .before .loop .p) (c .before .before .before .before .before .loop .inv .0) (c .before .before .before .before .loop-test .taken)))
 
-add-get4-2 : tie.Need-add-get4-2 Inv-loop μ-loop
-add-get4-2 c = omega (arith, c .before .at5 .ensures, c .before .before .before .before .before .before .before .before .before .before .before .before .before .before .good .0, (normal-here (c .before .before .before .before .before .before .at2 .ensures) (c .before .before .before .before .before .before .before .at .ensures) (c .before .before .before .before .before .before .before .before .before .before .before .before .before .before .pre .1)) .z-in (c .before .before .before .before .before .loop .p) (c .before .before .before .before .before .loop .inv .0) (c .before .before .before .before .loop-test .taken))
+add-get-2 : tie.Need-add-get-2 Inv-loop μ-loop
+add-get-2 c = omega (arith, room-le (c .before .before .before .before .before .before .before .before .before .before .before .before .before .before .before .before .args .width) (c .before .before .before .before .before .before .before .before .before .before .before .before .before .before .before .before .args .work .now), c .before .before .before .at5 .ensures, c .before .before .before .before .before .before .before .before .before .before .before .before .before .before .before .before .good .0, (normal-here (c .before .before .before .before .before .before .before .before .at2 .ensures) (c .before .before .before .before .before .before .before .before .before .at .ensures) (c .before .before .before .before .before .before .before .before .before .before .before .before .before .before .before .before .pre .1)) .z-in (c .before .before .before .before .before .before .before .loop .p) (c .before .before .before .before .before .before .before .loop .inv .0) (c .before .before .before .before .before .before .loop-test .taken))
 
-get4-requires-2 : tie.Need-get4-requires-2 Inv-loop μ-loop
-get4-requires-2 c κs = omega (arith, c .before .at5 .ensures, (normal-here (c .before .before .before .before .before .before .at2 .ensures) (c .before .before .before .before .before .before .before .at .ensures) (c .before .before .before .before .before .before .before .before .before .before .before .before .before .before .pre .1)) .z-in (c .before .before .before .before .before .loop .p) (c .before .before .before .before .before .loop .inv .0) (c .before .before .before .before .loop-test .taken))
+get-requires-2 : tie.Need-get-requires-2 Inv-loop μ-loop
+get-requires-2 c κs = (c .before .before .before .before .before .before .before .before .before .before .before .before .before .before .before .before .pre .2, omega (arith, c .before .before .before .at5 .ensures, (normal-here (c .before .before .before .before .before .before .before .before .at2 .ensures) (c .before .before .before .before .before .before .before .before .before .at .ensures) (c .before .before .before .before .before .before .before .before .before .before .before .before .before .before .before .before .pre .1)) .z-in (c .before .before .before .before .before .before .before .loop .p) (c .before .before .before .before .before .before .before .loop .inv .0) (c .before .before .before .before .before .before .loop-test .taken)))
 
 mul-normal-in : tie.Need-mul-normal-in Inv-loop μ-loop
-mul-normal-in c = omega (arith, c .before .before .before .before .at3 .ensures, c .before .before .before .before .before .before .before .before .before .before .before .before .before .before .before .good .1 .1 .1 .0, (normal-here (c .before .before .before .before .before .before .before .at2 .ensures) (c .before .before .before .before .before .before .before .before .at .ensures) (c .before .before .before .before .before .before .before .before .before .before .before .before .before .before .before .pre .1)) .left-in (c .before .before .before .before .before .before .loop .p) (c .before .before .before .before .before .before .loop .inv .0) (c .before .before .before .before .before .loop-test .taken))
+mul-normal-in c = omega (arith, c .before .before .before .before .before .before .at3 .ensures, c .before .before .before .before .before .before .before .before .before .before .before .before .before .before .before .before .before .good .1 .1 .1 .0, (normal-here (c .before .before .before .before .before .before .before .before .before .at2 .ensures) (c .before .before .before .before .before .before .before .before .before .before .at .ensures) (c .before .before .before .before .before .before .before .before .before .before .before .before .before .before .before .before .before .pre .1)) .left-in (c .before .before .before .before .before .before .before .before .loop .p) (c .before .before .before .before .before .before .before .before .loop .inv .0) (c .before .before .before .before .before .before .before .loop-test .taken))
 
 shared-slice-read-normal-in : tie.Need-shared-slice-read-normal-in Inv-loop μ-loop
-shared-slice-read-normal-in c = omega (arith, c .before .before .before .before .before .at3 .ensures, (normal-here (c .before .before .before .before .before .before .before .before .at2 .ensures) (c .before .before .before .before .before .before .before .before .before .at .ensures) (c .before .before .before .before .before .before .before .before .before .before .before .before .before .before .before .before .pre .1)) .left-in (c .before .before .before .before .before .before .before .loop .p) (c .before .before .before .before .before .before .before .loop .inv .0) (c .before .before .before .before .before .before .loop-test .taken))
+shared-slice-read-normal-in c = omega (arith, c .before .before .before .before .before .before .before .at3 .ensures, (normal-here (c .before .before .before .before .before .before .before .before .before .before .at2 .ensures) (c .before .before .before .before .before .before .before .before .before .before .before .at .ensures) (c .before .before .before .before .before .before .before .before .before .before .before .before .before .before .before .before .before .before .pre .1)) .left-in (c .before .before .before .before .before .before .before .before .before .loop .p) (c .before .before .before .before .before .before .before .before .before .loop .inv .0) (c .before .before .before .before .before .before .before .before .loop-test .taken))
 
 mul-normal-in-2 : tie.Need-mul-normal-in-2 Inv-loop μ-loop
-mul-normal-in-2 c = omega (arith, c .before .before .before .before .at4 .ensures, c .before .before .before .before .before .before .before .before .before .before .before .before .before .before .before .before .good .1 .1 .1 .0, (normal-here (c .before .before .before .before .before .before .before .before .at2 .ensures) (c .before .before .before .before .before .before .before .before .before .at .ensures) (c .before .before .before .before .before .before .before .before .before .before .before .before .before .before .before .before .pre .1)) .right-in (c .before .before .before .before .before .before .before .loop .p) (c .before .before .before .before .before .before .before .loop .inv .0) (c .before .before .before .before .before .before .loop-test .taken))
+mul-normal-in-2 c = omega (arith, c .before .before .before .before .before .before .at4 .ensures, c .before .before .before .before .before .before .before .before .before .before .before .before .before .before .before .before .before .before .good .1 .1 .1 .0, (normal-here (c .before .before .before .before .before .before .before .before .before .before .at2 .ensures) (c .before .before .before .before .before .before .before .before .before .before .before .at .ensures) (c .before .before .before .before .before .before .before .before .before .before .before .before .before .before .before .before .before .before .pre .1)) .right-in (c .before .before .before .before .before .before .before .before .before .loop .p) (c .before .before .before .before .before .before .before .before .before .loop .inv .0) (c .before .before .before .before .before .before .before .before .loop-test .taken))
 
 shared-slice-read-normal-in-2 : tie.Need-shared-slice-read-normal-in-2 Inv-loop μ-loop
-shared-slice-read-normal-in-2 c = omega (arith, c .before .before .before .before .before .at4 .ensures, (normal-here (c .before .before .before .before .before .before .before .before .before .at2 .ensures) (c .before .before .before .before .before .before .before .before .before .before .at .ensures) (c .before .before .before .before .before .before .before .before .before .before .before .before .before .before .before .before .before .pre .1)) .right-in (c .before .before .before .before .before .before .before .before .loop .p) (c .before .before .before .before .before .before .before .before .loop .inv .0) (c .before .before .before .before .before .before .before .loop-test .taken))
+shared-slice-read-normal-in-2 c = omega (arith, c .before .before .before .before .before .before .before .at4 .ensures, (normal-here (c .before .before .before .before .before .before .before .before .before .before .before .at2 .ensures) (c .before .before .before .before .before .before .before .before .before .before .before .before .at .ensures) (c .before .before .before .before .before .before .before .before .before .before .before .before .before .before .before .before .before .before .before .pre .1)) .right-in (c .before .before .before .before .before .before .before .before .before .before .loop .p) (c .before .before .before .before .before .before .before .before .before .before .loop .inv .0) (c .before .before .before .before .before .before .before .before .before .loop-test .taken))
 
 normal-in-requires : tie.Need-normal-in-requires Inv-loop μ-loop
 normal-in-requires c κs = tt
 
 add-p : tie.Need-add-p Inv-loop μ-loop
-add-p c = omega (arith, c .before .before .before .before .before .before .before .before .loop-test .taken)
+add-p c = omega (arith, c .before .before .before .before .before .before .before .before .before .before .loop-test .taken)
 
 loop-less : tie.Need-loop-less Inv-loop μ-loop
-loop-less c = omega (arith, c .before .before .before .before .before .before .before .before .loop-test .taken)
+loop-less c = omega (arith, c .before .before .before .before .before .before .before .before .before .before .loop-test .taken)
 
 loop-again : tie.Need-loop-again Inv-loop μ-loop
 loop-again c =
-    let s = c .before .before .before .before .before .before .before .before .before .before .before .before .before .before .before .before .before .before in
-    let r = c .before .before .before .before .before .before .before .before .before in (
-      omega (arith, r .loop .inv .0),
-      omega (arith, c .before .before .before .before .before .before .before .before .loop-test .taken),
-      normal-turn (r .loop .acc) (s .args .values .now) (s .args .left .now) (s .args .right .now) (s .args .columns .now) (s .args .work .now) (s .args .x) (s .args .z) (c .before .before .before .before .before .before .before .before .before .before .at2 .result) (r .loop .p) (c .before .before .before .before .before .before .before .at3 .result) (c .before .before .before .before .before .before .at4 .result) (c .before .before .before .before .before .at5 .result) (s .args .start) (r .loop .inv .0) (r .loop .inv .2) (c .before .before .before .before .before .before .before .at3 .ensures) (c .before .before .before .before .before .before .at4 .ensures) (c .before .before .before .before .before .at5 .ensures) (c .before .before .before .before .get4 .ensures) (c .before .before .before .get42 .ensures) (c .normal-in .ensures),
+    let s = c .before .before .before .before .before .before .before .before .before .before .before .before .before .before .before .before .before .before .before .before in
+    let r = c .before .before .before .before .before .before .before .before .before .before .before .loop in (
+      omega (arith, r .inv .0),
+      omega (arith, c .before .before .before .before .before .before .before .before .before .before .loop-test .taken),
+      normal-turn (r .acc) (s .args .values .now) (s .args .left .now) (s .args .right .now) (s .args .columns .now) (s .args .work .now) (s .args .mem .x) (s .args .mem .z) (c .before .before .before .before .before .before .before .before .before .before .before .before .at2 .result) (r .p) (c .before .before .before .before .before .before .before .before .before .at3 .result) (c .before .before .before .before .before .before .before .before .at4 .result) (c .before .before .before .before .before .before .before .at5 .result) (s .args .start) (r .inv .0) (r .inv .2) (c .before .before .before .before .before .before .before .before .before .at3 .ensures) (c .before .before .before .before .before .before .before .before .at4 .ensures) (c .before .before .before .before .before .before .before .at5 .ensures) (c .before .before .before .before .before .get .ensures) (c .before .before .before .get2 .ensures) (on (c .before .before .before .before .before .before .before .before .before .before .before .before .before .before .before .before .before .before .before .before .pre .2) (c .normal-in .ensures)),
     )
 
 returns : tie.Need-returns Inv-loop μ-loop
 returns c =
     let s = c .before .before .before .before .before .before .before .before .before .before in
-    summed-end (normalStep (s .args .values .now) (s .args .left .now) (s .args .right .now) (s .args .columns .now) (s .args .work .now) (s .args .x) (s .args .z)) (s .args .start) (c .before .loop .acc) (c .before .before .at2 .ensures) (c .before .before .before .at .ensures) (omega (arith, c .before .loop .inv .1, c .loop-test .left)) (c .before .loop .inv .2)
+    summed-end (s .args .width) (normalStep (s .args .width) (s .args .values .now) (s .args .left .now) (s .args .right .now) (s .args .columns .now) (s .args .work .now) (s .args .mem .x) (s .args .mem .z)) (s .args .start) (c .before .loop .acc) (c .before .before .at2 .ensures) (c .before .before .before .at .ensures) (omega (arith, c .before .loop .inv .1, c .loop-test .left)) (c .before .loop .inv .2)
 
 pub normal-sum-spec : {M : Type 1} → statement M
 normal-sum-spec =
@@ -92,10 +94,10 @@ normal-sum-spec =
     at-requires-3
     at-requires-4
     at-requires-5
-    add-get4
-    get4-requires
-    add-get4-2
-    get4-requires-2
+    add-get
+    get-requires
+    add-get-2
+    get-requires-2
     mul-normal-in
     shared-slice-read-normal-in
     mul-normal-in-2

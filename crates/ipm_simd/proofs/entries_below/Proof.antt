@@ -1,86 +1,63 @@
--- `ipm_simd::entries_below` meets its contract. Assumes nothing.
-use mathlib.Core.Path.{sym, ap, _∙_}
-use native.Mathlib.Omega.{arith}
+use mathlib.Core.Path.{sym, _∙_}
+use borrow.Author.Tests.{not-true, not-false}
+use Rattle.ipm_simd.proofs.Questions.{below-slack, below-lengths, below-limit, below-room, below-some}
 use borrow.Author.Needs.{needs}
-use Rattle.csr.specs.Verdict.{told}
-use Rattle.ipm_simd.proofs.Questions.{sizes-of, below-yes, below-no}
 use Rattle.ipm_simd.proofs.entries_below.Statement.{statement}
 use Rattle.ipm_simd.proofs.entries_below.Tie as tie
 
-ask-sizes-requires : tie.Need-ask-sizes-requires
-ask-sizes-requires c κs = (c .pre .0, c .pre .1, omega arith)
-
-enum-known-r : tie.Need-enum-known-r
-enum-known-r c = search needs
-
-enum-told : tie.Need-enum-told
-enum-told c = search needs
-
-mul-result : tie.Need-mul-result
-mul-result c =
-    let a = c .before .before .before .args in
-    let q = sizes-of 0 0 (a .m) (a .n) (a .s) 0 (a .b) (a .c) (a .tolerances) (a .output) (a .work) (a .limit) (sym (c .before .before .ask-sizes .ensures) ∙ ap told (c .enum-told .given .1)) in
-    omega (arith, c .before .before .before .pre, q .slack, q .work-long)
-
-mul-result-2 : tie.Need-mul-result-2
-mul-result-2 c =
-    let a = c .before .before .before .args in
-    let q = sizes-of 0 0 (a .m) (a .n) (a .s) 0 (a .b) (a .c) (a .tolerances) (a .output) (a .work) (a .limit) (sym (c .before .before .ask-sizes .ensures) ∙ ap told (c .enum-told .given .1)) in
-    omega (arith, c .before .before .before .pre, q .slack, q .work-long)
-
-add-result : tie.Need-add-result
-add-result c =
-    let a = c .before .before .before .args in
-    let q = sizes-of 0 0 (a .m) (a .n) (a .s) 0 (a .b) (a .c) (a .tolerances) (a .output) (a .work) (a .limit) (sym (c .before .before .ask-sizes .ensures) ∙ ap told (c .enum-told .given .1)) in
-    omega (arith, c .before .before .before .pre, q .slack, q .work-long)
-
-mul-result-3 : tie.Need-mul-result-3
-mul-result-3 c =
-    let a = c .before .before .before .args in
-    let q = sizes-of 0 0 (a .m) (a .n) (a .s) 0 (a .b) (a .c) (a .tolerances) (a .output) (a .work) (a .limit) (sym (c .before .before .ask-sizes .ensures) ∙ ap told (c .enum-told .given .1)) in
-    omega (arith, c .before .before .before .pre, q .slack, q .work-long)
-
-add-result-2 : tie.Need-add-result-2
-add-result-2 c =
-    let a = c .before .before .before .args in
-    let q = sizes-of 0 0 (a .m) (a .n) (a .s) 0 (a .b) (a .c) (a .tolerances) (a .output) (a .work) (a .limit) (sym (c .before .before .ask-sizes .ensures) ∙ ap told (c .enum-told .given .1)) in
-    omega (arith, c .before .before .before .pre, q .slack, q .work-long)
-
-sub-result : tie.Need-sub-result
-sub-result c =
-    let a = c .before .before .before .args in
-    let q = sizes-of 0 0 (a .m) (a .n) (a .s) 0 (a .b) (a .c) (a .tolerances) (a .output) (a .work) (a .limit) (sym (c .before .before .ask-sizes .ensures) ∙ ap told (c .enum-told .given .1)) in
-    omega (arith, c .before .before .before .pre, q .slack, q .work-long)
-
-add-result-3 : tie.Need-add-result-3
-add-result-3 c =
-    let a = c .before .before .before .args in
-    let q = sizes-of 0 0 (a .m) (a .n) (a .s) 0 (a .b) (a .c) (a .tolerances) (a .output) (a .work) (a .limit) (sym (c .before .before .ask-sizes .ensures) ∙ ap told (c .enum-told .given .1)) in
-    omega (arith, c .before .before .before .pre, q .slack, q .work-long)
-
 returns : tie.Need-returns
-returns c =
-    let a = c .before .before .before .before .args in
-    below-no (a .m) (a .n) (a .s) (a .b) (a .c) (a .tolerances) (a .output) (a .work) (a .limit) (sym (c .before .before .before .ask-sizes .ensures) ∙ ap told (c .before .r .given .1))
+returns c = let s = c .before in below-slack (s .args .m) (s .args .n) (s .args .s) (s .args .lengths .b) (s .args .lengths .c) (s .args .lengths .tolerances) (s .args .lengths .output) (s .args .lengths .work) (s .args .limit) (c .if1 .taken)
+
+lengths-right-requires : tie.Need-lengths-right-requires
+lengths-right-requires c κs = search needs
 
 returns-2 : tie.Need-returns-2
-returns-2 c =
-    let a = c .before .before .before .args in
-    below-yes (a .m) (a .n) (a .s) (a .b) (a .c) (a .tolerances) (a .output) (a .work) (a .limit) (sym (c .before .before .ask-sizes .ensures) ∙ ap told (c .enum-told .given .1))
+returns-2 c = let s = c .before .before .before in below-lengths (s .args .m) (s .args .n) (s .args .s) (s .args .lengths .b) (s .args .lengths .c) (s .args .lengths .tolerances) (s .args .lengths .output) (s .args .lengths .work) (s .args .limit) (sym (c .before .lengths-right .ensures) ∙ not-true (c .before .lengths-right .result) (c .if2 .taken))
+
+limit-right-requires : tie.Need-limit-right-requires
+limit-right-requires c κs = search needs
+
+returns-3 : tie.Need-returns-3
+returns-3 c = let s = c .before .before .before .before .before in below-limit (s .args .m) (s .args .n) (s .args .s) (s .args .lengths .b) (s .args .lengths .c) (s .args .lengths .tolerances) (s .args .lengths .output) (s .args .lengths .work) (s .args .limit) (sym (c .before .limit-right .ensures) ∙ not-true (c .before .limit-right .result) (c .if3 .taken))
+
+mul-others : tie.Need-mul-others
+mul-others c = search needs
+
+mul-others-2 : tie.Need-mul-others-2
+mul-others-2 c = search needs
+
+add-others : tie.Need-add-others
+add-others c = search needs
+
+mul-others-3 : tie.Need-mul-others-3
+mul-others-3 c = search needs
+
+add-others-2 : tie.Need-add-others-2
+add-others-2 c = search needs
+
+returns-4 : tie.Need-returns-4
+returns-4 c = let s = c .before .before .before .before .before .before .before in below-room (s .args .m) (s .args .n) (s .args .s) (s .args .lengths .b) (s .args .lengths .c) (s .args .lengths .tolerances) (s .args .lengths .output) (s .args .lengths .work) (s .args .limit) (c .if4 .taken)
+
+add-result : tie.Need-add-result
+add-result c = search needs
+
+returns-5 : tie.Need-returns-5
+returns-5 c = let s = c .before .before .before .before .before .before .before in below-some (s .args .m) (s .args .n) (s .args .s) (s .args .lengths .b) (s .args .lengths .c) (s .args .lengths .tolerances) (s .args .lengths .output) (s .args .lengths .work) (s .args .limit) (c .before .before .before .before .before .before .if1 .left) (sym (c .before .before .before .before .before .lengths-right .ensures) ∙ not-false (c .before .before .before .before .before .lengths-right .result) (c .before .before .before .before .if2 .left)) (sym (c .before .before .before .limit-right .ensures) ∙ not-false (c .before .before .before .limit-right .result) (c .before .before .if3 .left)) (c .if4 .left)
 
 pub entries-below-spec : {M : Type 1} → statement M
 entries-below-spec =
     tie.close
     (tie.spec
-    ask-sizes-requires
-    enum-known-r
-    enum-told
-    mul-result
-    mul-result-2
-    add-result
-    mul-result-3
-    add-result-2
-    sub-result
-    add-result-3
     returns
-    returns-2)
+    lengths-right-requires
+    returns-2
+    limit-right-requires
+    returns-3
+    mul-others
+    mul-others-2
+    add-others
+    mul-others-3
+    add-others-2
+    returns-4
+    add-result
+    returns-5)

@@ -1,5 +1,6 @@
-use borrow.Author.Needs.{needs}
 use borrow.Author.Tests.{eq-eqb, ne-eqb}
+use Rattle.ipm_simd.proofs.Questions.{lengths-last}
+use borrow.Author.Needs.{needs}
 use Rattle.ipm_simd.proofs.lengths_right.Statement.{statement}
 use Rattle.ipm_simd.proofs.lengths_right.Tie as tie
 
@@ -13,16 +14,17 @@ mul-if2 : tie.Need-mul-if2
 mul-if2 c = search needs
 
 returns-2 : tie.Need-returns-2
-returns-2 c = simp (eq-eqb _ _ (c .before .if1 .left), ne-eqb _ _ (c .if2 .taken))
+returns-2 c = simp (eq-eqb _ _ (c .before .before .if1 .left), ne-eqb _ _ (c .if2 .taken))
 
 returns-3 : tie.Need-returns-3
-returns-3 c = simp (eq-eqb _ _ (c .before .before .if1 .left), eq-eqb _ _ (c .before .if2 .left), ne-eqb _ _ (c .if3 .taken))
+returns-3 c = simp (eq-eqb _ _ (c .before .before .before .before .if1 .left), eq-eqb _ _ (c .before .before .if2 .left), ne-eqb _ _ (c .if3 .taken))
 
 mul-result : tie.Need-mul-result
 mul-result c = search needs
 
 returns-4 : tie.Need-returns-4
-returns-4 c = simp (eq-eqb _ _ (c .before .before .if1 .left), eq-eqb _ _ (c .before .if2 .left), eq-eqb _ _ (c .if3 .left))
+returns-4 c = lengths-last _ _ _ _ _ _ (c .before .before .before .before .if1 .left) (c .before .before .if2 .left) (c .if3 .left)
 
 pub lengths-right-spec : {M : Type 1} → statement M
-lengths-right-spec = tie.close (tie.spec mul-if1 returns mul-if2 returns-2 returns-3 mul-result returns-4)
+lengths-right-spec =
+    tie.close (tie.spec mul-if1 returns mul-if2 returns-2 returns-3 mul-result returns-4)

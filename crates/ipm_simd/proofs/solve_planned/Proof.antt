@@ -1,44 +1,46 @@
 -- `ipm_simd::solve_planned` meets its contract. Assumes nothing.
 use borrow.Author.Needs.{needs}
 use native.Mathlib.Omega.{arith}
+use Rattle.machine.specs.Machine.{standard}
+use Rattle.run.proofs.Runs.{standard-runs}
 use Rattle.ipm_simd.specs.Solve.{given, call}
-use Rattle.ipm_simd.proofs.Solves.{lane-under, finished}
+use Rattle.ipm_simd.proofs.Solves.{lane-under, lent-four, room-four, run-four, finished}
 use Rattle.ipm_simd.proofs.solve_planned.Statement.{statement}
 use Rattle.ipm_simd.proofs.solve_planned.Tie as tie
 
 mul-room : tie.Need-mul-room
-mul-room c = let p = c .before .before .before .before .before .before .before .before .before .pre .1 in omega (arith, p .work, p .lists .slack)
+mul-room c = let p = c .before .before .before .before .before .before .before .before .before .pre .1 in omega (arith, p .work, p .slack)
 
 mul-room-2 : tie.Need-mul-room-2
-mul-room-2 c = let p = c .before .before .before .before .before .before .before .before .before .pre .1 in omega (arith, p .work, p .lists .slack)
+mul-room-2 c = let p = c .before .before .before .before .before .before .before .before .before .pre .1 in omega (arith, p .work, p .slack)
 
 add-room : tie.Need-add-room
-add-room c = let p = c .before .before .before .before .before .before .before .before .before .pre .1 in omega (arith, p .work, p .lists .slack)
+add-room c = let p = c .before .before .before .before .before .before .before .before .before .pre .1 in omega (arith, p .work, p .slack)
 
 mul-room-3 : tie.Need-mul-room-3
-mul-room-3 c = let p = c .before .before .before .before .before .before .before .before .before .pre .1 in omega (arith, p .work, p .lists .slack)
+mul-room-3 c = let p = c .before .before .before .before .before .before .before .before .before .pre .1 in omega (arith, p .work, p .slack)
 
 add-room-2 : tie.Need-add-room-2
-add-room-2 c = let p = c .before .before .before .before .before .before .before .before .before .pre .1 in omega (arith, p .work, p .lists .slack)
+add-room-2 c = let p = c .before .before .before .before .before .before .before .before .before .pre .1 in omega (arith, p .work, p .slack)
 
 add-room-3 : tie.Need-add-room-3
-add-room-3 c = let p = c .before .before .before .before .before .before .before .before .before .pre .1 in omega (arith, p .work, p .lists .slack)
+add-room-3 c = let p = c .before .before .before .before .before .before .before .before .before .pre .1 in omega (arith, p .work, p .slack)
 
 mul-room-4 : tie.Need-mul-room-4
-mul-room-4 c = let p = c .before .before .before .before .before .before .before .before .before .pre .1 in omega (arith, p .work, p .lists .slack)
+mul-room-4 c = let p = c .before .before .before .before .before .before .before .before .before .pre .1 in omega (arith, p .work, p .slack)
 
-run-plan-requires : tie.Need-run-plan-requires
-run-plan-requires c κs = let p = c .before .before .before .before .before .before .before .before .before .before .pre in (p .0, p .1 .lists, p .1 .work, p .1 .from)
+run-requires : tie.Need-run-requires
+run-requires c κs = let e = c .before .before .before .before .before .before .before .before .before .before in let p = e .pre in (p .0, lent-four (given (e .args .plan .m) (e .args .plan .n) (e .args .plan .s) (e .args .offsets .now) (e .args .columns .now) (e .args .values .now) (e .args .b .now) (e .args .c .now) (e .args .tolerances .now) (e .args .limit)) (p .1), room-four (given (e .args .plan .m) (e .args .plan .n) (e .args .plan .s) (e .args .offsets .now) (e .args .columns .now) (e .args .values .now) (e .args .b .now) (e .args .c .now) (e .args .tolerances .now) (e .args .limit)) (p .1), p .1 .from)
 
 report-requires : tie.Need-report-requires
 report-requires c κs =
     let e = c .before .before .before .before .before .before .before .before .before .before .before .before .before .before .before in
     let p = e .pre .1 in
-    let r = c .before .before .before .before .run-plan .ensures in
-    (omega (arith, p .output, p .work, r .0 .size), lane-under (call (given (e .args .m) (e .args .n) (e .args .s) (e .args .offsets .now) (e .args .columns .now) (e .args .values .now) (e .args .b .now) (e .args .c .now) (e .args .tolerances .now) (e .args .limit))) (e .args .limit) (c .before .before .before .before .run-plan .result) (r .1 .ran .answer))
+    let r = c .before .before .before .before .run .ensures in
+    (omega (arith, p .output, p .work, r .0 .size), lane-under (call (given (e .args .plan .m) (e .args .plan .n) (e .args .plan .s) (e .args .offsets .now) (e .args .columns .now) (e .args .values .now) (e .args .b .now) (e .args .c .now) (e .args .tolerances .now) (e .args .limit))) (e .args .limit) (c .before .before .before .before .run .result) (run-four (given (e .args .plan .m) (e .args .plan .n) (e .args .plan .s) (e .args .offsets .now) (e .args .columns .now) (e .args .values .now) (e .args .b .now) (e .args .c .now) (e .args .tolerances .now) (e .args .limit)) p (r .1 standard standard-runs) .ran .answer))
 
 clear-front-requires : tie.Need-clear-front-requires
-clear-front-requires c κs = let p = c .before .before .before .before .before .before .before .before .before .before .before .before .before .before .before .before .before .before .before .pre .1 in omega (arith, p .work, c .before .before .before .before .before .before .before .before .run-plan .ensures .0 .size)
+clear-front-requires c κs = let p = c .before .before .before .before .before .before .before .before .before .before .before .before .before .before .before .before .before .before .before .pre .1 in omega (arith, p .work, c .before .before .before .before .before .before .before .before .run .ensures .0 .size)
 
 same-length : tie.Need-same-length
 same-length c = search needs
@@ -49,7 +51,7 @@ same-length-2 c = search needs
 returns : tie.Need-returns
 returns c =
     let e = c .before .before .before .before .before .before .before .before .before .before .before .before .before .before .before .before .before .before .before .before .before .before in
-    λ old asked planned. finished (given (e .args .m) (e .args .n) (e .args .s) (e .args .offsets .now) (e .args .columns .now) (e .args .values .now) (e .args .b .now) (e .args .c .now) (e .args .tolerances .now) (e .args .limit)) asked planned (c .before .before .before .before .before .before .before .before .before .before .before .run-plan .ensures .0) (c .before .before .before .before .before .before .before .before .before .before .before .run-plan .ensures .1) (c .before .before .before .before .before .before .report .ensures .0) (c .before .before .before .before .before .before .report .ensures .1) (c .before .before .clear-front .ensures)
+    λ old asked planned. finished (given (e .args .plan .m) (e .args .plan .n) (e .args .plan .s) (e .args .offsets .now) (e .args .columns .now) (e .args .values .now) (e .args .b .now) (e .args .c .now) (e .args .tolerances .now) (e .args .limit)) asked planned (c .before .before .before .before .before .before .before .before .before .before .before .run .ensures .0) (run-four (given (e .args .plan .m) (e .args .plan .n) (e .args .plan .s) (e .args .offsets .now) (e .args .columns .now) (e .args .values .now) (e .args .b .now) (e .args .c .now) (e .args .tolerances .now) (e .args .limit)) asked (c .before .before .before .before .before .before .before .before .before .before .before .run .ensures .1 standard standard-runs)) (c .before .before .before .before .before .before .report .ensures .0) (c .before .before .before .before .before .before .report .ensures .1) (c .before .before .clear-front .ensures)
 
 pub solve-planned-spec : {M : Type 1} → statement M
 solve-planned-spec =
@@ -62,7 +64,7 @@ solve-planned-spec =
     add-room-2
     add-room-3
     mul-room-4
-    run-plan-requires
+    run-requires
     report-requires
     clear-front-requires
     same-length

@@ -1,15 +1,21 @@
-use native.Mathlib.Omega.{arith}
-use Prim.Native.Nat.{_*_}
-use Rattle.links.proofs.Follows.{rows-for, cols-for}
-use Rattle.run.proofs.Runs.{tested-at}
+use Rattle.run.proofs.Runs.{tested-at, divided}
+use borrow.Author.Needs.{needs}
 use Rattle.run.proofs.test_at.Statement.{statement}
 use Rattle.run.proofs.test_at.Tie as tie
 
+one-more-requires : tie.Need-one-more-requires
+one-more-requires c κs = search needs
+
+one-more-requires-2 : tie.Need-one-more-requires-2
+one-more-requires-2 c κs = search needs
+
 test-requires : tie.Need-test-requires
-test-requires c κs = let e = c .before .before .before .before .before .before .before .before .before .before .before .before .before .before .before .before .before .before .before .before .before .before .before in (rows-for (e .pre .0), cols-for (e .pre .0), e .pre .1, omega (arith, e .pre .2), e .pre .4)
+test-requires c κs = search needs
 
 returns : tie.Need-returns
-returns c = let e = c .before .before .before .before .before .before .before .before .before .before .before .before .before .before .before .before .before .before .before .before .before .before .before .before in tested-at (e .args .m) (e .args .n) (e .args .s) (e .args .off .now) (e .args .cols .now) (e .args .vals .now) (e .args .b .now) (e .args .c .now) (e .args .tol .now) (e .args .k) (e .args .work .now) _ (e .pre .3) (c .test .ensures)
+returns c =
+    let s = c .before .before .before .before .before .before .before .before .before .before .before .before .before in
+    λ H R. tested-at H (s .args .block) (s .args .width) (s .pre .1 .wide) (s .args .plan .m) (s .args .plan .n) (s .args .plan .s) (s .args .off .now) (s .args .cols .now) (s .args .vals .now) (s .args .b .now) (s .args .c .now) (s .args .tol .now) (s .args .k) (s .args .work .now) _ (s .pre .4 H R) (c .test .ensures H (rw (R .centring) (s .pre .3)) (divided (s .pre .1 .wide) R (s .pre .3) (c .before .before .one-more .ensures) (c .before .one-more2 .ensures)))
 
 pub test-at-spec : {M : Type 1} → statement M
-test-at-spec = tie.close (tie.spec test-requires returns)
+test-at-spec = tie.close (tie.spec one-more-requires one-more-requires-2 test-requires returns)

@@ -1,43 +1,38 @@
-use borrow.Author.Needs.{needs}
+use Rattle.lanes.proofs.Quads.{on}
+use Rattle.lanes.proofs.Regions.{room-le, kept-room}
 use native.Mathlib.Omega.{arith}
 use Rattle.lanes.specs.Region.{before, after}
-use Rattle.machine.specs.Outcome.{laneData}
-use Rattle.machine.specs.Work.{callOf}
+use Rattle.links.proofs.Follows.{cols-for}
+use Rattle.layout.proofs.Plans.{indexed, prepared}
 use Rattle.step.proofs.Steps.{changed}
+use borrow.Author.Needs.{needs}
 use Rattle.step.proofs.compute_dx_dz_dw.Statement.{statement}
 use Rattle.step.proofs.compute_dx_dz_dw.Tie as tie
 
-mul-dx : tie.Need-mul-dx
-mul-dx c = search needs
+regions-requires : tie.Need-regions-requires
+regions-requires c κs = let s = c .before .before .before in omega (arith, room-le (s .args .width) (s .args .work .now), s .pre .1, s .good)
 
-mul-dz : tie.Need-mul-dz
-mul-dz c = search needs
+atindptr-requires : tie.Need-atindptr-requires
+atindptr-requires c κs = indexed (c .before .before .before .before .pre .0 .is)
 
-mul-y : tie.Need-mul-y
-mul-y c = search needs
+atindices-requires : tie.Need-atindices-requires
+atindices-requires c κs = indexed (c .before .before .before .before .before .pre .0 .is)
 
-add-dy : tie.Need-add-dy
-add-dy c = search needs
-
-add-w : tie.Need-add-w
-add-w c = search needs
-
-add-w-2 : tie.Need-add-w-2
-add-w-2 c = search needs
-
-add-dw : tie.Need-add-dw
-add-dw c = search needs
+atmap-requires : tie.Need-atmap-requires
+atmap-requires c κs = indexed (c .before .before .before .before .before .before .pre .0 .is)
 
 column-changes-requires : tie.Need-column-changes-requires
 column-changes-requires c κs =
-    let e = c .before .before .before .before .before .before .before .before .before .before .before in
-    (e .pre .0 .ranges, omega arith, before (omega arith), before (omega arith), after (omega arith), omega (arith, e .pre .2), omega (arith, e .pre .2), omega (arith, e .pre .2), omega (arith, e .pre .2))
+    let s = c .before .before .before .before .before .before .before .before in
+    rw (c .before .before .before .before .regions .ensures, c .before .before .before .atindptr .ensures, c .before .before .atindices .ensures, c .before .atmap .ensures)
+    (cols-for (prepared (s .pre .0 .is)) .ranges, omega arith, before (omega arith), before (omega arith), after (omega arith), omega (arith, s .pre .1), omega (arith, s .pre .1), omega (arith, s .pre .1), omega (arith, s .pre .1), s .pre .2)
 
 slack-changes-requires : tie.Need-slack-changes-requires
 slack-changes-requires c κs =
-    let e = c .before .before .before .before .before .before .before .before .before .before .before .before .before .before .before in
-    let z = c .before .before .before .column-changes .ensures .0 .kept .size in
-    (before (omega arith), before (omega (arith, e .pre .1 .slack)), before (omega (arith, e .pre .1 .slack)), omega (arith, e .pre .2, e .pre .1 .slack, z), omega (arith, e .pre .2, e .pre .1 .slack, z), omega (arith, e .pre .2, e .pre .1 .slack, z), omega (arith, e .pre .2, e .pre .1 .slack, z))
+    let s = c .before .before .before .before .before .before .before .before .before .before .before .before in
+    let z = kept-room (c .before .before .before .column-changes .ensures .0 .kept) in
+    rw (c .before .before .before .before .before .before .before .before .regions .ensures)
+    (before (omega arith), before (omega (arith, s .pre .0 .is .slack)), before (omega (arith, s .pre .0 .is .slack)), omega (arith, s .pre .1, s .pre .0 .is .slack, z), omega (arith, s .pre .1, s .pre .0 .is .slack, z), omega (arith, s .pre .1, s .pre .0 .is .slack, z), omega (arith, s .pre .1, s .pre .0 .is .slack, z), s .pre .2)
 
 larger4-requires : tie.Need-larger4-requires
 larger4-requires c κs = search needs
@@ -47,8 +42,21 @@ same-length c = search needs
 
 returns : tie.Need-returns
 returns c =
-    let e = c .before .before .before .before .before .before .before .before .before .before .before .before .before .before .before .before .before .before .before in
-    changed _ _ (laneData (callOf (e .args .m) (e .args .n) (e .args .s) (e .args .off .now) (e .args .cols .now) (e .args .vals .now) (e .args .b .now) (e .args .c .now) (e .args .tol .now))) _ _ _ _ (e .pre .0) (e .pre .1 .slack) (e .pre .3) (c .before .before .before .before .before .before .before .column-changes .ensures .0) (c .before .before .before .before .before .before .before .column-changes .ensures .1) (c .before .before .before .slack-changes .ensures .0) (c .before .before .before .slack-changes .ensures .1) (c .larger4 .ensures)
+    let s = c .before .before .before .before .before .before .before .before .before .before .before .before .before .before .before .before in
+    let p = rw (c .before .before .before .before .before .before .before .before .before .before .before .before .regions .ensures, c .before .before .before .before .before .before .before .before .before .before .before .atindptr .ensures, c .before .before .before .before .before .before .before .before .before .before .atindices .ensures, c .before .before .before .before .before .before .before .before .before .atmap .ensures) at (c .before .before .before .before .before .before .before .column-changes .ensures) in
+    let q = rw (c .before .before .before .before .before .before .before .before .before .before .before .before .regions .ensures) at (c .before .before .before .slack-changes .ensures) in
+    λ off cols H d P Y. changed _ _ H d _ _ _ _ (cols-for (prepared P)) (P .slack) Y (p .0) (p .1) (q .0) (q .1) (on (s .pre .2) (c .larger4 .ensures))
 
 pub compute-dx-dz-dw-spec : {M : Type 1} → statement M
-compute-dx-dz-dw-spec = tie.close (tie.spec mul-dx mul-dz mul-y add-dy add-w add-w-2 add-dw column-changes-requires slack-changes-requires larger4-requires same-length returns)
+compute-dx-dz-dw-spec =
+    tie.close
+    (tie.spec
+    regions-requires
+    atindptr-requires
+    atindices-requires
+    atmap-requires
+    column-changes-requires
+    slack-changes-requires
+    larger4-requires
+    same-length
+    returns)

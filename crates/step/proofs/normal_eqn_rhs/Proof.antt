@@ -1,49 +1,58 @@
-use borrow.Author.Needs.{needs}
+use Rattle.lanes.proofs.Regions.{room-le, kept-room}
 use native.Mathlib.Omega.{arith}
-use Prim.Native.Nat.{_*_}
 use Rattle.lanes.specs.Region.{before, after}
-use Rattle.machine.specs.Outcome.{laneData}
-use Rattle.machine.specs.Work.{callOf}
+use Rattle.links.proofs.Follows.{rows-for, cols-for}
+use Rattle.layout.proofs.Plans.{indexed, prepared}
+use Rattle.layout.specs.Layout.{dataAt}
 use Rattle.step.proofs.Steps.{right-side}
+use borrow.Author.Needs.{needs}
 use Rattle.step.proofs.normal_eqn_rhs.Statement.{statement}
 use Rattle.step.proofs.normal_eqn_rhs.Tie as tie
 
-mul-dx : tie.Need-mul-dx
-mul-dx c = search needs
+regions-requires : tie.Need-regions-requires
+regions-requires c κs = let s = c .before .before .before .before .before .before .before in omega (arith, room-le (s .args .width) (s .args .work .now), s .pre .2, s .good)
 
-mul-dz : tie.Need-mul-dz
-mul-dz c = search needs
+atindptr-requires : tie.Need-atindptr-requires
+atindptr-requires c κs = indexed (c .before .before .before .before .before .before .before .before .pre .0)
 
-mul-tmp : tie.Need-mul-tmp
-mul-tmp c = search needs
+atindices-requires : tie.Need-atindices-requires
+atindices-requires c κs = indexed (c .before .before .before .before .before .before .before .before .before .pre .0)
 
-mul-y : tie.Need-mul-y
-mul-y c = search needs
-
-add-rhs : tie.Need-add-rhs
-add-rhs c = search needs
-
-add-rhs-2 : tie.Need-add-rhs-2
-add-rhs-2 c = search needs
+atmap-requires : tie.Need-atmap-requires
+atmap-requires c κs = indexed (c .before .before .before .before .before .before .before .before .before .before .pre .0)
 
 rhs-u-requires : tie.Need-rhs-u-requires
 rhs-u-requires c κs =
-    let e = c .before .before .before .before .before .before .before .before .before .before .before in
-    (e .pre .1 .ranges, omega (arith, e .pre .2 .c-long), omega arith, omega arith, before (omega arith), before (omega arith), after (omega arith), omega (arith, e .pre .3), omega (arith, e .pre .3), omega (arith, e .pre .3), omega (arith, e .pre .3))
+    let s = c .before .before .before .before .before .before .before .before .before .before .before .before in
+    rw (c .before .before .before .before .regions .ensures, c .before .before .before .atindptr .ensures, c .before .before .atindices .ensures, c .before .atmap .ensures)
+    (cols-for (prepared (s .pre .0)) .ranges, s .pre .1 .c-long, omega arith, omega arith, before (omega arith), before (omega arith), after (omega arith), omega (arith, s .pre .2), omega (arith, s .pre .2), omega (arith, s .pre .2), omega (arith, s .pre .2), s .pre .1 .within, s .pre .1 .wide)
 
 rhs-f-requires : tie.Need-rhs-f-requires
 rhs-f-requires c κs =
-    let e = c .before .before .before .before .before .before .before .before .before .before .before .before .before .before .before in
-    let z = c .before .before .before .rhs-u .ensures .kept .size in
-    (e .pre .0 .ranges, omega (arith, e .pre .2 .b-long), before (omega arith), before (omega arith), before (omega arith), omega (arith, e .pre .3, z), omega (arith, e .pre .3, z), omega (arith, e .pre .3, z), omega (arith, e .pre .3, z))
+    let s = c .before .before .before .before .before .before .before .before .before .before .before .before .before .before .before .before in
+    let z = kept-room (c .before .before .before .rhs-u .ensures .kept) in
+    rw (c .before .before .before .before .before .before .before .before .regions .ensures)
+    (rows-for (prepared (s .pre .0)) .ranges, s .pre .1 .b-long, before (omega arith), before (omega arith), before (omega arith), omega (arith, s .pre .2, z), omega (arith, s .pre .2, z), omega (arith, s .pre .2, z), omega (arith, s .pre .2, z), s .pre .1 .within, s .pre .1 .wide)
 
 same-length : tie.Need-same-length
 same-length c = search needs
 
 returns : tie.Need-returns
 returns c =
-    let e = c .before .before .before .before .before .before .before .before .before .before .before .before .before .before .before .before .before .before in
-    right-side _ _ (laneData (callOf (e .args .m) (e .args .n) (e .args .s) (e .args .off .now) (e .args .cols .now) (e .args .vals .now) (e .args .b .now) (e .args .c .now) (e .args .tol .now))) _ _ _ _ (e .pre .0) (e .pre .1) (c .before .before .before .before .before .before .rhs-u .ensures) (c .before .before .rhs-f .ensures)
+    let s = c .before .before .before .before .before .before .before .before .before .before .before .before .before .before .before .before .before .before .before in
+    let u = rw (c .before .before .before .before .before .before .before .before .before .before .before .regions .ensures, c .before .before .before .before .before .before .before .before .before .before .atindptr .ensures, c .before .before .before .before .before .before .before .before .before .atindices .ensures, c .before .before .before .before .before .before .before .before .atmap .ensures) at (c .before .before .before .before .before .before .rhs-u .ensures) in
+    let f = rw (c .before .before .before .before .before .before .before .before .before .before .before .regions .ensures) at (c .before .before .rhs-f .ensures) in
+    λ H tol. right-side _ _ H (dataAt (s .args .block) (s .args .plan .m) (s .args .plan .n) (s .args .b .now) (s .args .c .now) tol) _ _ _ _ (rows-for (prepared (s .pre .0))) (cols-for (prepared (s .pre .0))) u f
 
 pub normal-eqn-rhs-spec : {M : Type 1} → statement M
-normal-eqn-rhs-spec = tie.close (tie.spec mul-dx mul-dz mul-tmp mul-y add-rhs add-rhs-2 rhs-u-requires rhs-f-requires same-length returns)
+normal-eqn-rhs-spec =
+    tie.close
+    (tie.spec
+    regions-requires
+    atindptr-requires
+    atindices-requires
+    atmap-requires
+    rhs-u-requires
+    rhs-f-requires
+    same-length
+    returns)

@@ -1,7 +1,5 @@
 use native.Mathlib.Omega.{arith}
-use Prim.Native.Nat.{_*_}
-use Rattle.machine.specs.Outcome.{laneData}
-use Rattle.machine.specs.Work.{callOf}
+use Rattle.layout.specs.Layout.{dataAt}
 use Rattle.step.proofs.Statuses.{by-statuses}
 use borrow.Author.Needs.{needs}
 use Rattle.step.proofs.step_lanes.Statement.{statement}
@@ -11,18 +9,15 @@ lanes-done-requires : tie.Need-lanes-done-requires
 lanes-done-requires c κs = search needs
 
 normal-eqn-step-requires : tie.Need-normal-eqn-step-requires
-normal-eqn-step-requires c κs =
-    let e = c .before .before .before .before .before .before .before .before .before .before .before .before .before .before .before .before .before .before .before .before .before .before .before .before .before in
-    (e .pre .0, e .pre .1, e .pre .2)
+normal-eqn-step-requires c κs = search needs
 
 same-length : tie.Need-same-length
 same-length c = search needs
 
 returns : tie.Need-returns
 returns c =
-    let e = c .before .before .before .before .before .before .before .before .before .before .before .before .before .before .before .before .before .before .before .before .before .before .before .before .before .before .before .before in
-    let d = laneData (callOf (e .args .m) (e .args .n) (e .args .s) (e .args .off .now) (e .args .cols .now) (e .args .vals .now) (e .args .b .now) (e .args .c .now) (e .args .tol .now)) in
-    by-statuses _ _ d (e .args .statuses) (c .before .before .normal-eqn-step .ensures) (e .pre .5) (c .before .before .before .before .lanes-done .ensures) (e .pre .3) (e .pre .4)
+    let s = c .before .before .before .before .before .before .before .before .before .before .before .before in
+    λ H tol e K. by-statuses _ _ H (dataAt (s .args .block) (s .args .plan .m) (s .args .plan .n) (s .args .b .now) (s .args .c .now) tol) (s .args .statuses) (c .before .before .normal-eqn-step .ensures H tol e) K (λ t h. c .before .before .before .before .lanes-done .ensures t (omega (arith, h, s .pre .1 .wide .most)))
 
 pub step-lanes-spec : {M : Type 1} → statement M
 step-lanes-spec =

@@ -1,5 +1,4 @@
 use borrow.Author.Needs.{needs}
-use Rattle.lanes.proofs.Consts.{damping-bits}
 use Rattle.step.proofs.step_length4.Statement.{statement}
 use Rattle.step.proofs.step_length4.Tie as tie
 
@@ -16,7 +15,8 @@ smaller4-requires : tie.Need-smaller4-requires
 smaller4-requires c κs = search needs
 
 returns : tie.Need-returns
-returns c = rw (c .smaller4 .ensures, c .before .one4 .ensures, c .before .before .div4 .ensures, c .before .before .before .splat .ensures, damping-bits)
+returns c = rw (c .smaller4 .ensures, c .before .one4 .ensures, c .before .before .div4 .ensures, c .before .before .before .splat .ensures)
 
 pub step-length4-spec : {M : Type 1} → statement M
-step-length4-spec = tie.close (tie.spec splat-requires div4-requires one4-requires smaller4-requires returns)
+step-length4-spec =
+    tie.close (tie.spec splat-requires div4-requires one4-requires smaller4-requires returns)

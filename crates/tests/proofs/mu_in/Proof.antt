@@ -3,7 +3,6 @@ use Prim.Native.Nat.{_+_, _^_}
 use lib.Ieee.{inFloat}
 use borrow.Author.Tests.{le-leb}
 use borrow.Author.Needs.{needs}
-use Rattle.lanes.proofs.Consts.{tenth-bits}
 use Rattle.tests.proofs.mu_in.Statement.{statement}
 use Rattle.tests.proofs.mu_in.Tie as tie
 
@@ -27,7 +26,7 @@ div4-requires : tie.Need-div4-requires
 div4-requires c κs = search needs
 
 returns : tie.Need-returns
-returns c = rw (c .div4 .ensures, c .before .mul4 .ensures, c .before .before .splat2 .ensures, c .before .before .before .splat .ensures, tenth-bits)
+returns c = rw (c .div4 .ensures, c .before .mul4 .ensures, c .before .before .splat2 .ensures, c .before .before .before .splat .ensures)
 
 pub mu-in-spec : {M : Type 1} → statement M
 mu-in-spec = tie.close (tie.spec add-k int-to-float-splat splat-requires splat-requires-2 mul4-requires div4-requires returns)
