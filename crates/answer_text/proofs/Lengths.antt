@@ -9,7 +9,7 @@ use lib.ListN.{length, length-append}
 use lib.Ieee.{Float, binary64, toBits}
 use Rattle.io.specs.Digits.{glyph}
 use Rattle.lanes.specs.Lists.{at}
-use Rattle.lists.specs.Cat.{cat}
+use Rattle.base.specs.Cat.{cat}
 use Rattle.answer_text.specs.Text.{ascii, decimalTo, decimalText, hexText, wholeText, floatText, lineText, acceptedText, refusedText, inputText, wholeBytes, acceptedBytes, refusedBytes, inputBytes, space, lineFeed}
 use Rattle.answer_text.proofs.Texts.{length-digits}
 

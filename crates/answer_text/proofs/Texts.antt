@@ -11,8 +11,8 @@ use borrow.Author.Tests.{lt-ltb, le-ltb}
 use lib.ListN.{length, getD, set, take, length-append}
 use lib.Seq.{take-suc}
 use Rattle.io.specs.Digits.{glyph, digits, Fewest}
-use Rattle.lists.specs.Cat.{Wrote}
-use Rattle.lists.proofs.Write.{wrote-join, wrote-as, wrote-length}
+use Rattle.base.specs.Cat.{Wrote}
+use Rattle.base.proofs.Write.{wrote-join, wrote-as, wrote-length}
 use Rattle.answer_text.specs.Text.{decimalTo, hexText}
 
 pub length-digits : (b k n : ℕ) → length (digits b k n) ≡ k

@@ -8,7 +8,7 @@ use lib.Dec.{ltb}
 use lib.Ieee.{Float, binary64, toBits}
 use Rattle.io.specs.Digits.{glyph, digits}
 use Rattle.lanes.specs.Lists.{at}
-use Rattle.lists.specs.Cat.{cat}
+use Rattle.base.specs.Cat.{cat}
 
 -- the bytes of a text in ASCII
 unfoldable pub ascii : String → List ℕ

@@ -3,7 +3,7 @@ ghost use mathlib.Core.Path.{_≡_};
 ghost use mathlib.Core.List.{[], _∷_};
 ghost use Prim.Native.Nat.{_+_, _*_, _≤_, _<_};
 ghost use lib.ListN.{length};
-ghost use Rattle.lists.specs.Cat.{cat, Wrote};
+ghost use Rattle.base.specs.Cat.{cat, Wrote};
 ghost use Rattle.answer_text.specs.Text.{wholeBytes, floatBytes, lineBytes, acceptedBytes, refusedBytes, inputBytes, wholeText, floatText, lineText, acceptedText, refusedText, inputText};
 
 const SPACE: u8 = b' ';

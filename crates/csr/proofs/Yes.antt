@@ -8,8 +8,8 @@ use borrow.Author.Tests.{eqb-false, leb-true, leb-false, lt-ltb, not-true}
 use lib.Dec.{leb, ltb}
 use lib.ListN.{length, getD}
 use Rattle.csr.specs.Pattern.{row}
-use Rattle.csr.specs.Chain.{Below}
-use Rattle.csr.specs.Csr.{Csr, Under, Rising, Offsets, Accepted}
+use Rattle.base.specs.Numbers.{Below, Under, Rising}
+use Rattle.csr.specs.Csr.{Csr, Offsets, Accepted}
 use Rattle.csr.specs.Verdict.{Verdict, passed, refused, ask}
 use Rattle.csr.specs.Questions.{firstFrom, empty, badAt, badRow, offsetsRight, firstNo}
 use Rattle.csr.proofs.First.{none-below}

@@ -9,18 +9,14 @@ use native.Mathlib.Omega.{arith}
 use native.Mathlib.Decide.{ℕ-discrete}
 use borrow.Author.Tests.{ne-eqb, eq-eqb, eqb-true}
 use lib.Dec.{eqb}
-use Rattle.csr.specs.Bools.{or-left, or-right, or-out, and-in, and-out}
+use Rattle.base.specs.Numbers.{Below}
+use Rattle.base.proofs.Bools.{or-left, or-right, or-out, and-in, and-out}
 use Rattle.csr.specs.Pattern.{fill, stored}
 
 -- each row a neighbour of the next, from i through the rows between to j
 abbrev pub Linked : (ℕ → ℕ → Bool) → ℕ → List ℕ → ℕ → Type 0
 Linked nb i [] j = nb i j ≡ true
 Linked nb i (k ∷ ks) j = (nb i k ≡ true) × Linked nb k ks j
-
--- every row of the list is below b
-abbrev pub Below : ℕ → List ℕ → Type 0
-Below b [] = Unit {0}
-Below b (k ∷ ks) = (k < b) × Below b ks
 
 -- rows from i to j, each a neighbour of the next, those strictly between the ends below b
 pub record Walk (nb : ℕ → ℕ → Bool) (b i j : ℕ) : Type 0 where

@@ -1,19 +1,10 @@
 -- The counts E, S, D and the sizes W and F. Definitions only.
-use mathlib.Core.Bool.{Bool, true, false, _&&_}
+use mathlib.Core.Bool.{Bool, _&&_}
 use mathlib.Core.List.{List, [], _∷_}
-use Prim.Native.Nat.{ℕ, zero, suc, _+_, _*_}
+use Prim.Native.Nat.{ℕ, suc, _+_, _*_}
 use lib.ListN.{length}
+use Rattle.base.specs.Sums.{sum, one}
 use Rattle.csr.specs.Pattern.{has, row, neighbours, stored}
-
--- one for true
-abbrev pub one : Bool → ℕ
-one true = 1
-one false = 0
-
--- f 0 + .. + f (n - 1)
-unfoldable pub sum : ℕ → (ℕ → ℕ) → ℕ
-sum zero f = 0
-sum (suc n) f = sum n f + f n
 
 -- how many numbers of the first list stand in the second
 unfoldable pub common : List ℕ → List ℕ → ℕ

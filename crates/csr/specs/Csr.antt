@@ -4,16 +4,7 @@ use mathlib.Core.List.{List, [], _∷_}
 use Prim.Native.Nat.{ℕ, _+_, _<_, _≤_}
 use lib.ListN.{getD, length}
 use Rattle.csr.specs.Pattern.{row}
-use Rattle.csr.specs.Chain.{Below}
-
--- each number is below all that follow it
-abbrev pub Under : ℕ → List ℕ → Type 0
-Under x [] = Unit {0}
-Under x (y ∷ ys) = (x < y) × Under x ys
-
-abbrev pub Rising : List ℕ → Type 0
-Rising [] = Unit {0}
-Rising (x ∷ xs) = Under x xs × Rising xs
+use Rattle.base.specs.Numbers.{Below, Rising}
 
 pub record Csr (off cols : List ℕ) (m : ℕ) : Type 0 where
   pub offsets : length off ≡ m + 1

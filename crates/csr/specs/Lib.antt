@@ -1,4 +1,3 @@
-pub mod Bools
 pub mod Pattern
 pub mod Chain
 pub mod Walks

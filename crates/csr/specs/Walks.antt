@@ -9,9 +9,10 @@ use native.Mathlib.Omega.{arith}
 use native.Mathlib.Decide.{ℕ-discrete}
 use borrow.Author.Tests.{ne-eqb}
 use lib.Dec.{eqb}
-use Rattle.csr.specs.Bools.{or-left, or-right, or-out, and-in, and-out, and-comm}
+use Rattle.base.proofs.Bools.{or-left, or-right, or-out, and-in, and-out, and-comm}
 use Rattle.csr.specs.Pattern.{fill, has, shares, row, neighbours}
-use Rattle.csr.specs.Chain.{Linked, Below, Walk, fill-nb}
+use Rattle.csr.specs.Chain.{Linked, Walk, fill-nb}
+use Rattle.base.specs.Numbers.{Below}
 
 below-weaken : (b : ℕ) (ks : List ℕ) → Below b ks → Below (suc b) ks
 below-weaken b [] h = tt

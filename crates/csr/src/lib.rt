@@ -144,7 +144,7 @@ fn offsets_right(offsets: &[u32], t: usize, values: usize, m: usize) -> bool
     if offsets[m] as usize != t {
         return false;
     }
-    if lanes::Sizes::MAX_ENTRIES < t {
+    if layout::Plan::MAX_ENTRIES < t {
         return false;
     }
     values == t
@@ -154,10 +154,10 @@ fn offsets_right(offsets: &[u32], t: usize, values: usize, m: usize) -> bool
 pub fn ask(m: usize, n: usize, offsets: &[u32], columns: &[u32], values: usize) -> Asked
     ensures { λ r. ⌜ told r ≡ firstNo m n (now (offsets .entry)) (now (columns .entry)) values ⌝ }
 {
-    if !between(1, m, lanes::Sizes::MAX_ROWS) {
+    if !between(1, m, layout::Plan::MAX_ROWS) {
         return Asked::Refused(Refusal::new(Refusal::ROWS, 0, 0));
     }
-    if !between(1, n, lanes::Sizes::MAX_COLUMNS) {
+    if !between(1, n, layout::Plan::MAX_COLUMNS) {
         return Asked::Refused(Refusal::new(Refusal::COLUMNS, 0, 0));
     }
     if !offsets_right(offsets, columns.len(), values, m) {

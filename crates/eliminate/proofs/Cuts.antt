@@ -5,12 +5,12 @@ use native.Mathlib.Omega.{arith}
 use lib.Ieee.{Float}
 use Rattle.lanes.specs.Lanes.{Width, room}
 use Rattle.lanes.specs.Region.{before, after}
-use Rattle.links.proofs.Follows.{planned-for, entries-count}
+use Rattle.plan_laws.proofs.Follows.{planned-for, entries-count}
 use Rattle.layout.specs.declared.Plan.{Plan}
 use Rattle.layout.specs.Layout.{yAt, dyAt, rhsAt, wAt, lAt, regionsOf}
 use Rattle.layout.specs.Lists.{anormIndptrIn, anormIndptrIIn, anormIndptrJIn, anormIndicesIn, ldecompIndptrIn, ldecompIndptrIIn, ldecompIndptrJIn, lindptrIn, ldiagIndptrIn, lindicesIn}
-use Rattle.layout.specs.Planned.{Planned}
-use Rattle.layout.proofs.Plans.{prepared}
+use Rattle.memory.specs.Planned.{Planned}
+use Rattle.memory.proofs.Plans.{prepared}
 use Rattle.factor.specs.Row.{GivenIn}
 use Rattle.eliminate.specs.Elimination.{Sides}
 

@@ -16,10 +16,11 @@ use Rattle.lanes.proofs.Quads.{grows-turn, _▹_}
 use Rattle.machine.specs.Machine.{Problem}
 use Rattle.machine.specs.Work.{problemOf}
 use Rattle.machine.proofs.Factor.{fold-same}
-use Rattle.sparse.specs.Sparse.{cut, lessEach, frontAt, front, back, Low}
-use Rattle.ranks.specs.Factoring.{Given, Factored, stateOf, entries}
-use Rattle.ranks.proofs.Fill.{given-still, kept-part, filled-none, filled-at, filled-same, filled-still, lends-at, lends-up, lends-within}
-use Rattle.substitution.proofs.Turns.{cut-length}
+use Rattle.base.specs.Numbers.{cut}
+use Rattle.sparse.specs.Sparse.{lessEach, frontAt, front, back, Low}
+use Rattle.plan_laws.specs.Factoring.{Given, Factored, stateOf, entries}
+use Rattle.plan_laws.proofs.Fill.{given-still, kept-part, filled-none, filled-at, filled-same, filled-still, lends-at, lends-up, lends-within}
+use Rattle.eliminate.proofs.Turns.{cut-length}
 use Rattle.layout.specs.declared.Regions.{Regions}
 use Rattle.factor.specs.Row.{GivenIn, RowDue}
 use Rattle.factor.proofs.Along.{low, count}

@@ -11,10 +11,11 @@ use Rattle.lanes.specs.Region.{reg, Apart}
 use Rattle.machine.specs.Machine.{Problem, State}
 use Rattle.machine.specs.Work.{problemOf}
 use Rattle.sparse.specs.Sparse.{front, back}
-use Rattle.ranks.specs.Factoring.{Factored}
+use Rattle.plan_laws.specs.Factoring.{Factored}
 use Rattle.layout.specs.declared.Plan.{Plan}
 use Rattle.layout.specs.declared.Regions.{Regions}
-use Rattle.layout.specs.Layout.{lAt, dyAt, rhsAt, numbersAt}
+use Rattle.layout.specs.Layout.{lAt, dyAt, rhsAt}
+use Rattle.memory.specs.Numbers.{numbersAt}
 use Rattle.layout.specs.Lists.{lindptrIn, lindicesIn, ltindptrIn, ltindicesIn, ltmapIn}
 use Rattle.factor.specs.Row.{stateIn, GivenIn}
 

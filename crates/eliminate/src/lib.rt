@@ -1,15 +1,21 @@
 // The factor of the normal matrix and the two substitutions, in four lanes, by the plan's lists.
+ghost use mathlib.Core.Path.{_≡_};
 ghost use mathlib.Core.List.{List};
-ghost use Prim.Native.Nat.{ℕ, _+_, _≤_};
-ghost use Rattle.lanes.specs.Lanes.{Width, room};
+ghost use Prim.Native.Nat.{ℕ, _+_, _*_, _<_, _≤_};
+ghost use lib.ListN.{length, getD};
+ghost use Rattle.lanes.specs.Lanes.{On, Width, room};
+ghost use Rattle.lanes.specs.Region.{reg, Fills, Apart};
+ghost use Rattle.sparse.specs.Sparse.{backAt, back, High};
 ghost use Rattle.factor.specs.Row.{GivenIn};
-ghost use Rattle.layout.specs.Planned.{Planned, Begins, topIn};
+ghost use Rattle.memory.specs.Planned.{Planned, Begins, topIn};
 ghost use Rattle.eliminate.specs.Elimination.{SomeGiven, Forwarded, Solves};
 use factor::normal_matrix_cholesky_row;
+use lanes::div4;
+use lanes::get;
 use lanes::put;
 use layout::Plan;
 use layout::Regions;
-use substitution::backward;
+use sparse::less_back;
 
 // Row by row: the factor's row, and with it the forward substitution's entry, which needs no later row. The two chains of divisions overlap.
 pub fn factor_forward(
@@ -52,6 +58,62 @@ pub fn factor_forward(
         );
         put(work, mem.dy + i, width, v);
         i += 1;
+    }
+}
+
+// ---- the backward substitution
+
+fn back_entry(
+    ptr: &[u32],
+    tptr: &[u32],
+    tind: &[u32],
+    tmap: &[u32],
+    work: &[f64],
+    width: usize,
+    d: usize,
+    l: usize,
+    m: usize,
+    count: usize,
+    i: usize,
+) -> [f64; 4]
+    requires { ⌜ High m count (now tptr) (now tind) (now tmap) × (i < m) ⌝ }
+    requires { ⌜ (i + 1 < length (now ptr)) × (0 < getD (now ptr) (i + 1) 0) × (getD (now ptr) (i + 1) 0 ≤ count) ⌝ }
+    requires { ⌜ (d + m ≤ room width (now work)) × (l + count ≤ room width (now work)) × Width width ⌝ }
+    ensures { λ r. ⌜ On width r (λ t. backAt (now (ptr .entry)) (now (tptr .entry)) (now (tind .entry)) (now (tmap .entry)) (reg width (now (work .entry)) l count t) (reg width (now (work .entry)) d m t) i) ⌝ }
+{
+    let a = tptr[i] as usize + 1;
+    let e = tptr[i + 1] as usize;
+    let b = get(work, d + i, width);
+    let v = less_back(&tind[a..e], &tmap[a..e], work, width, d, m, l, count, b);
+    let g = ptr[i + 1] as usize - 1;
+    let p = get(work, l + g, width);
+    div4(v, p)
+}
+
+// The backward substitution, in place.
+pub fn backward(
+    ptr: &[u32],
+    tptr: &[u32],
+    tind: &[u32],
+    tmap: &[u32],
+    work: &mut [f64],
+    width: usize,
+    d: usize,
+    l: usize,
+    m: usize,
+    count: usize,
+)
+    requires { ⌜ High m count (now tptr) (now tind) (now tmap) × (m < length (now ptr)) ⌝ }
+    requires { ⌜ ((i : ℕ) → i < m → (0 < getD (now ptr) (i + 1) 0) × (getD (now ptr) (i + 1) 0 ≤ count)) ⌝ }
+    requires { ⌜ Apart l count d m ⌝ }
+    requires { ⌜ (d + m ≤ room width (now work)) × (l + count ≤ room width (now work)) × Width width ⌝ }
+    ensures { λ _. ⌜ Fills width d m (λ t. back (now (ptr .entry)) (now (tptr .entry)) (now (tind .entry)) (now (tmap .entry)) (reg width (now (work .entry)) l count t) m (reg width (now (work .entry)) d m t)) (now (work .entry)) (now (work .exit)) ⌝ }
+{
+    let mut i = m;
+    while 0 < i {
+        i -= 1;
+        let v = back_entry(ptr, tptr, tind, tmap, work, width, d, l, m, count, i);
+        put(work, d + i, width, v);
     }
 }
 

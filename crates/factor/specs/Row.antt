@@ -9,7 +9,7 @@ use Rattle.lanes.specs.Region.{reg, Kept, Apart}
 use Rattle.machine.specs.Machine.{State}
 use Rattle.machine.specs.Work.{problemOf}
 use Rattle.sparse.specs.Sparse.{frontAt}
-use Rattle.ranks.specs.Factoring.{Given, Factored, stateOf}
+use Rattle.plan_laws.specs.Factoring.{Given, Factored, stateOf}
 use Rattle.layout.specs.declared.Regions.{Regions}
 
 -- the numbers of lane l in a memory whose regions are these

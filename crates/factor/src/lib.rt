@@ -8,7 +8,7 @@ ghost use lib.ListN.{length, getD};
 ghost use Rattle.lanes.specs.Lists.{at as lane};
 ghost use Rattle.lanes.specs.Lanes.{lanes, cell as here, On, Width, room};
 ghost use Rattle.lanes.specs.Arithmetic.{_⊕_, _⊖_, _⊗_, _⊘_, √, magnitude, null};
-ghost use Rattle.ranks.specs.Factoring.{normalStep, productStep, NormalIn, ProductIn, Summed};
+ghost use Rattle.plan_laws.specs.Factoring.{normalStep, productStep, NormalIn, ProductIn, Summed};
 ghost use Rattle.factor.specs.Row.{RowDue, SomeDue, RowDone};
 use lanes::above_zero;
 use lanes::abs4;

@@ -7,7 +7,8 @@ use native.Mathlib.Omega.{arith}
 use lib.Dec.{eqb, leb, ltb}
 use borrow.Author.Tests.{leb-true}
 use lib.ListN.{length, getD, drop, length-take, length-drop}
-use Rattle.csr.specs.Counts.{one, sum, common, isStored, countE, countS, countD, sizeW}
+use Rattle.base.specs.Sums.{one, sum}
+use Rattle.csr.specs.Counts.{common, isStored, countE, countS, countD, sizeW}
 use Rattle.csr.specs.Pattern.{has, row}
 use Rattle.csr.specs.Verdict.{Verdict, passed, planned, accepted, refused, ask, andThen}
 use Rattle.csr.specs.Questions.{firstFrom, empty, badRow, offsetsRight, firstNo}

@@ -7,14 +7,15 @@ use native.Mathlib.Omega.{arith}
 use native.Mathlib.Decide.{decLt}
 use borrow.Author.Tests.{lt-leb}
 use Rattle.csr.specs.Pattern.{has, row, stored, neighbours}
-use Rattle.csr.specs.Counts.{sum, one, common, isStored, countE, countS, countD}
+use Rattle.base.specs.Sums.{sum, one}
+use Rattle.csr.specs.Counts.{common, isStored, countE, countS, countD}
 use Rattle.pattern.specs.Word.{bit}
-use Rattle.pattern.proofs.Digits.{sum-ext}
-use Rattle.pattern.proofs.Whole.{count-D, sum-cut}
-use Rattle.lists.specs.Cat.{cat, pick}
+use Rattle.base.proofs.Sums.{sum-ext, sum-cut}
+use Rattle.pattern.proofs.Whole.{count-D}
+use Rattle.base.specs.Cat.{cat, pick}
 use Rattle.lists.specs.Ready.{Ready}
-use Rattle.pairs.specs.Kept.{kept, Rows}
-use Rattle.pairs.proofs.Lists.{kept-has, kept-none}
+use Rattle.pair_lists.specs.Kept.{kept, Rows}
+use Rattle.pair_lists.proofs.Lists.{kept-has, kept-none}
 
 common-join : (xs ys zs : List ℕ) → common (xs ++ ys) zs ≡ common xs zs + common ys zs
 unfolding common

@@ -10,15 +10,15 @@ use lib.Dec.{ltb}
 use Rattle.csr.specs.Counts.{countE, sizeW}
 use Rattle.ipm_common.specs.Plan.{Tallied, written}
 use Rattle.pattern.specs.Word.{bit}
-use Rattle.lists.specs.Cat.{Wrote}
+use Rattle.base.specs.Cat.{Wrote}
 use Rattle.lists.specs.Lists.{shape, tenOf, sideOf, planOf, planWords, plan-parts}
 use Rattle.lists.specs.Ready.{Ready, Accepted}
 use Rattle.lists.specs.declared.Side.the-variants.{Factor, Matrix}
-use Rattle.lists.proofs.Write.{wrote-as}
+use Rattle.base.proofs.Write.{wrote-as}
 use Rattle.lists.proofs.Whole.{three, three-length}
 use Rattle.transpose.specs.Bins.{Grid, sideIn}
-use Rattle.pairs.specs.Kept.{Rows}
-use Rattle.pairs.proofs.Factor.{side-same}
+use Rattle.pair_lists.specs.Kept.{Rows}
+use Rattle.pair_lists.proofs.Factor.{side-same}
 use Rattle.ipm_common.proofs.Counted.{and-false}
 
 pub accepted-grid : (off cols : List ℕ) (m n : ℕ) → Accepted off cols m n → Grid off cols m n

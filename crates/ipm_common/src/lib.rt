@@ -3,11 +3,11 @@ ghost use mathlib.Core.Path.{_≡_};
 ghost use Prim.Native.Nat.{suc, _+_, _*_, _<_, _≤_};
 ghost use lib.ListN.{length};
 ghost use Rattle.pattern.specs.Word.{bit};
-ghost use Rattle.csr.specs.Counts.{sum};
-ghost use Rattle.lists.specs.Cat.{Wrote};
+ghost use Rattle.base.specs.Sums.{sum};
+ghost use Rattle.base.specs.Cat.{Wrote};
 ghost use Rattle.lists.specs.Lists.{shape, planOf};
 ghost use Rattle.lists.specs.Ready.{Ready, Accepted};
-ghost use Rattle.pairs.specs.Kept.{Rows};
+ghost use Rattle.pair_lists.specs.Kept.{Rows};
 ghost use Rattle.ipm_common.specs.Plan.{Room, told, planVerdict, planIndex, Answered, Tallied, Counted};
 use csr::Asked;
 use csr::Refusal;
@@ -30,7 +30,7 @@ pub fn put_plan(
     requires { ⌜ Accepted (now off) (now cols) m n × Ready (now off) (now cols) m (now p) × Rows (bit (now p)) (now lp) (now li) m × (length (planOf (shape (now off) (now cols)) m n) ≤ length (now index)) × (n ≤ length (now mark)) × Room m n (now next) × Room m n (now again) ⌝ }
     ensures { λ r. ⌜ Wrote (now (index .entry)) (now (index .exit)) 0 (planOf (shape (now (off .entry)) (now (cols .entry))) m n) r ⌝ }
 {
-    let a = pairs::put_ten(off, cols, m, p, lp, li, n, mark, index, 0);
+    let a = pair_lists::put_ten(off, cols, m, p, lp, li, n, mark, index, 0);
     let b = transpose::transpose(Side::Factor, lp, cols, li, m, m, next, again, index, a);
     transpose::transpose(Side::Matrix, off, cols, li, m, n, next, again, index, b)
 }
@@ -57,9 +57,9 @@ fn count_all(
     ensures { λ r. ⌜ Tallied (now (offsets .entry)) (now (columns .entry)) m (r .e) (r .s) (r .d) ⌝ }
 {
     let e = pattern::count(p, m);
-    lists::clear(next, n);
+    base::clear(next, n);
     let s = transpose::count_rows(Side::Matrix, offsets, columns, li, m, n, next);
-    lists::clear(next, m);
+    base::clear(next, m);
     let b = transpose::count_rows(Side::Factor, lp, columns, li, m, m, next);
     Tally {
         e,
@@ -97,7 +97,7 @@ fn plan_in(
 {
     let mut p = [0u64; 1024];
     pattern::pattern(offsets, columns, m, &mut p);
-    pairs::list_rows(&p, m, lp, li);
+    pair_lists::list_rows(&p, m, lp, li);
     let t = count_all(m, n, offsets, columns, &p, lp, li, next);
     if below <= t.e as usize {
         return t;

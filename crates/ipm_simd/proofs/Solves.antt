@@ -24,13 +24,14 @@ use Rattle.machine.specs.Machine.{standard}
 use Rattle.machine.specs.Outcome.{Call, solved, xAt}
 use Rattle.machine.specs.Demand3.{Buffers, Memory, outputAfter, leaves}
 use Rattle.machine.proofs.Demand3.{solved-ends, demand3}
-use Rattle.links.proofs.Low.{row-cut}
-use Rattle.links.proofs.Picked.{picked-has}
+use Rattle.plan_laws.proofs.Low.{row-cut}
+use Rattle.plan_laws.proofs.Picked.{picked-has}
 use Rattle.layout.specs.declared.Block.{Block}
 use Rattle.layout.specs.declared.Plan.{Plan}
-use Rattle.layout.specs.Layout.{lAt, Lent}
+use Rattle.layout.specs.Layout.{lAt}
+use Rattle.memory.specs.Numbers.{Lent}
 use Rattle.layout.specs.Lists.{wordsAt}
-use Rattle.layout.specs.Planned.{Planned, Counted}
+use Rattle.memory.specs.Planned.{Planned, Counted}
 use Rattle.step.specs.Steps.{Untouched}
 use Rattle.run.specs.Tests.{memoryAt, callBy, Run}
 use Rattle.run.proofs.Memories.{lanes-all}

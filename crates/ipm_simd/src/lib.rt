@@ -10,7 +10,7 @@ ghost use Rattle.csr.specs.Verdict.{told as toldAsked};
 ghost use Rattle.lanes.specs.Arithmetic.{null};
 ghost use Rattle.machine.specs.declared.Outcome.the-variants.{NoAt11};
 ghost use Rattle.machine.specs.Outcome.{largestLimit};
-ghost use Rattle.layout.specs.Planned.{Planned};
+ghost use Rattle.memory.specs.Planned.{Planned};
 ghost use Rattle.ipm_simd.specs.Solve.{given, lent, told, outcomeVerdict, lengthsRight, sizesVerdict, Solved};
 ghost use Rattle.ipm_simd.specs.Parts.{Asked10, EntriesBelow, written, Ends, Continued};
 use csr::Asked;

@@ -2,7 +2,7 @@
 ghost use mathlib.Core.Path.{_≡_};
 ghost use Prim.Native.Nat.{_*_, _≤_};
 ghost use lib.ListN.{length};
-ghost use Rattle.sparse.specs.Sparse.{cut};
+ghost use Rattle.base.specs.Numbers.{cut};
 ghost use Rattle.layout.specs.Layout.{lAt, regionsOf, topWord};
 ghost use Rattle.layout.specs.Lists.{anormIndptrIAt, anormIndptrJAt, anormIndicesAt, ldecompIndptrAt, ldecompIndptrIAt, ldecompIndptrJAt, lindptrAt, ldiagIndptrAt, lindicesAt, ltindptrAt, ltindicesAt, ltmapAt, atindptrAt, atindicesAt, atmapAt, wordsAt, anormIndptrIn, anormIndptrIIn, anormIndptrJIn, anormIndicesIn, ldecompIndptrIn, ldecompIndptrIIn, ldecompIndptrJIn, lindptrIn, ldiagIndptrIn, lindicesIn, ltindptrIn, ltindicesIn, ltmapIn, atindptrIn, atindicesIn, atmapIn, Indexed};
 
@@ -50,6 +50,12 @@ fn between(s: &[u32], a: usize, e: usize) -> &[u32]
 }
 
 impl Plan {
+    pub const MAX_ROWS: usize = 256;
+
+    pub const MAX_COLUMNS: usize = 1024;
+
+    pub const MAX_ENTRIES: usize = 16384;
+
     // Where each region of the working memory begins.
     pub fn regions(self) -> Regions
         requires { ⌜ lAt (self .n) (self .m) (self .s) ≤ topWord ⌝ }

@@ -7,9 +7,10 @@ use native.Mathlib.Omega.{arith}
 use native.Mathlib.Numerals.{add-one}
 use borrow.Author.Tests.{le-leb}
 use Rattle.csr.specs.Pattern.{stored, neighbours}
-use Rattle.csr.specs.Counts.{sum, one, isStored}
+use Rattle.base.specs.Sums.{sum, one}
+use Rattle.csr.specs.Counts.{isStored}
 use Rattle.pattern.specs.Word.{bit}
-use Rattle.pattern.proofs.Digits.{sum-ext}
+use Rattle.base.proofs.Sums.{sum-ext}
 use Rattle.pattern.proofs.Whole.{both-count}
 use Rattle.lists.specs.Lists.{Shape, shape, weight, lplace, before}
 use Rattle.lists.specs.Ready.{Ready}

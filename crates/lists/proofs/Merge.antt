@@ -7,9 +7,10 @@ use native.Mathlib.Omega.{arith}
 use lib.ListN.{length, getD}
 use borrow.Author.Tests.{ne-eqb, eq-eqb}
 use Rattle.csr.specs.Pattern.{has}
-use Rattle.csr.specs.Counts.{common, one}
-use Rattle.csr.specs.Csr.{Under, Rising}
-use Rattle.lists.specs.Cat.{pick}
+use Rattle.csr.specs.Counts.{common}
+use Rattle.base.specs.Sums.{one}
+use Rattle.base.specs.Numbers.{Under, Rising}
+use Rattle.base.specs.Cat.{pick}
 use Rattle.lists.specs.Lists.{both, find, zeroIf}
 
 absent : (x : ℕ) (zs : List ℕ) → Under x zs → has zs x ≡ false

@@ -4,15 +4,15 @@ use mathlib.Core.Bool.{Bool, true, false, _&&_}
 use mathlib.Core.List.{List, [], _∷_, _++_, map}
 use Prim.Native.Nat.{ℕ, zero, suc, _+_, _-_, _<_, _≤_}
 use native.Mathlib.Omega.{arith}
-use Rattle.csr.specs.Counts.{sum, one}
+use Rattle.base.specs.Sums.{sum, one}
 use Rattle.pattern.specs.Word.{bit}
-use Rattle.pattern.proofs.Digits.{sum-ext}
-use Rattle.lists.specs.Cat.{cat, pick}
+use Rattle.base.proofs.Sums.{sum-ext}
+use Rattle.base.specs.Cat.{cat, pick}
 use Rattle.lists.specs.Lists.{shape, weight, lplace, before, piece, shared, sharedOf, products, walkOf}
 use Rattle.lists.specs.Ready.{Ready}
 use Rattle.lists.specs.declared.Which.the-variants.{AnormIndptr, AnormIndptrI, AnormIndptrJ, AnormIndices, LdecompIndptr, LdecompIndptrI, LdecompIndptrJ}
 use Rattle.lists.specs.declared.Take.the-variants.{Left, Right, Column}
-use Rattle.lists.proofs.Write.{cat-ext}
+use Rattle.base.proofs.Write.{cat-ext}
 use Rattle.lists.proofs.Counts.{bit-held, lplace-from}
 
 pub map-join : (h : ℕ → ℕ) (xs ys : List ℕ) → map h (xs ++ ys) ≡ map h xs ++ map h ys

@@ -9,13 +9,14 @@ use lib.ListN.{getD, take, drop, length-drop, List·getD-append}
 use lib.Seq.{take-append-le, drop-append-le}
 use Rattle.csr.specs.Pattern.{row, stored, neighbours, fill, shares}
 use Rattle.csr.specs.Csr.{Csr}
-use Rattle.csr.specs.Counts.{sum, one, common, isStored}
-use Rattle.pattern.proofs.Digits.{sum-ext}
-use Rattle.lists.specs.Cat.{cat, pick, pairs}
+use Rattle.base.specs.Sums.{sum, one}
+use Rattle.csr.specs.Counts.{common, isStored}
+use Rattle.base.proofs.Sums.{sum-ext}
+use Rattle.base.specs.Cat.{cat, pick, pairs}
 use Rattle.lists.specs.Lists.{Shape, shape, weight, lplace, place, before, piece, listOf, begins, shared, products, find, both}
 use Rattle.lists.specs.declared.Which.{Which}
 use Rattle.lists.specs.declared.Which.the-variants.{AnormIndptr, AnormIndptrI, AnormIndptrJ, AnormIndices, LdecompIndptr, LdecompIndptrI, LdecompIndptrJ, Lindptr, LdiagIndptr, Lindices}
-use Rattle.lists.proofs.Write.{cat-ext, cat-add}
+use Rattle.base.proofs.Write.{cat-ext, cat-add}
 use Rattle.lists.proofs.Pieces.{map-cat}
 
 before-ext : (v w : ℕ → ℕ → ℕ) (i j : ℕ) → ((a b : ℕ) → a ≤ i → b ≤ a → v a b ≡ w a b) → j ≤ suc i → before v i j ≡ before w i j

@@ -10,12 +10,12 @@ use lib.Dec.{eqb, leb}
 use lib.ListN.{length, getD, length-map}
 use borrow.Author.Tests.{eq-eqb, ne-eqb, lt-leb}
 use Rattle.csr.specs.Pattern.{has, row}
-use Rattle.csr.specs.Chain.{Below}
-use Rattle.csr.specs.Csr.{Under, Rising}
-use Rattle.csr.specs.Counts.{sum, one, common, isStored, countE, countS, countD, sizeW}
-use Rattle.pattern.proofs.Digits.{sum-ext, sum-add}
+use Rattle.base.specs.Numbers.{Below, Under, Rising}
+use Rattle.base.specs.Sums.{sum, one}
+use Rattle.csr.specs.Counts.{common, isStored, countE, countS, countD, sizeW}
+use Rattle.base.proofs.Sums.{sum-ext, sum-add}
 use Rattle.pattern.proofs.Seed.{row-is}
-use Rattle.lists.specs.Cat.{cat, pick, pairs}
+use Rattle.base.specs.Cat.{cat, pick, pairs}
 use Rattle.lists.specs.Ready.{Accepted}
 use Rattle.lists.specs.Lists.{shape, weight, lplace, place, before, piece, listOf, shared, products, holds, entry, inColumn, column, columnEnds, columns, endsOf, columnsOf, sideOf, tenOf, planOf, field, plan-parts}
 use Rattle.lists.specs.declared.Which.{Which}
@@ -24,7 +24,7 @@ use Rattle.lists.specs.declared.Side.{Side}
 use Rattle.lists.specs.declared.Side.the-variants.{Factor, Matrix}
 use Rattle.lists.specs.declared.What.{What}
 use Rattle.lists.specs.declared.What.the-variants.{Numbers, Places}
-use Rattle.lists.proofs.Write.{length-cat, length-pick}
+use Rattle.base.proofs.Write.{length-cat, length-pick}
 use Rattle.lists.proofs.Merge.{length-both}
 use Rattle.lists.proofs.Spans.{span}
 use Rattle.lists.proofs.Whole.{three-length, side-is}

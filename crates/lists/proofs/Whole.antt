@@ -5,13 +5,13 @@ use Prim.Native.Nat.{ℕ, zero, suc, _+_, _<_, _≤_}
 use native.Mathlib.Omega.{arith}
 use lib.ListN.{length, length-append, drop}
 use lib.Seq.{sets-eq}
-use Rattle.lists.specs.Cat.{Wrote}
+use Rattle.base.specs.Cat.{Wrote}
 use Rattle.lists.specs.Lists.{Shape, listOf, field, sideOf, tenOf, endsOf, columnsOf}
 use Rattle.lists.specs.declared.Side.{Side}
 use Rattle.lists.specs.declared.What.the-variants.{Numbers, Places}
 use Rattle.lists.specs.declared.Which.{Which}
 use Rattle.lists.specs.declared.Which.the-variants.{Lindices}
-use Rattle.lists.proofs.Write.{wrote-join, wrote-as, cat-next, cat-room}
+use Rattle.base.proofs.Write.{wrote-join, wrote-as, cat-next, cat-room}
 
 pub field-rest : (k : ℕ) → (k ≡ 0 → ⊥) → (k ≡ 1 → ⊥) → (k ≡ 2 → ⊥) → (k ≡ 3 → ⊥) → (k ≡ 4 → ⊥) → (k ≡ 5 → ⊥) → (k ≡ 6 → ⊥) → (k ≡ 7 → ⊥) → (k ≡ 8 → ⊥) → field k ≡ Lindices
 field-rest zero n0 n1 n2 n3 n4 n5 n6 n7 n8 = absurd (n0 refl)

@@ -6,8 +6,9 @@ use Prim.Native.Nat.{ℕ, zero, suc, _+_}
 use lib.Dec.{eqb, leb}
 use lib.ListN.{length, getD}
 use Rattle.csr.specs.Pattern.{has, row}
-use Rattle.csr.specs.Counts.{sum, one, common, isStored}
-use Rattle.lists.specs.Cat.{cat, pick, pairs}
+use Rattle.base.specs.Sums.{sum, one}
+use Rattle.csr.specs.Counts.{common, isStored}
+use Rattle.base.specs.Cat.{cat, pick, pairs}
 use Rattle.lists.specs.declared.Take.{Take}
 use Rattle.lists.specs.declared.Take.the-variants.{Left, Right, Column}
 use Rattle.lists.specs.declared.Side.{Side}

@@ -3,7 +3,7 @@ ghost use mathlib.Core.Path.{_≡_};
 ghost use mathlib.Core.List.{[], _∷_};
 ghost use Prim.Native.Nat.{ℕ, _+_, _<_, _≤_};
 ghost use lib.ListN.{length, getD};
-ghost use Rattle.lists.specs.Cat.{pick, Wrote};
+ghost use Rattle.base.specs.Cat.{pick, Wrote};
 ghost use Rattle.lists.specs.Lists.{begins, field};
 
 // The ten lists that are written pair by pair, by the names of the Rust's fields.
@@ -18,35 +18,6 @@ pub enum Which {
     Lindptr,
     LdiagIndptr,
     Lindices,
-}
-
-// One word written, and the place after it.
-pub fn word(index: &mut [u32], at: usize, x: u32) -> usize
-    requires { ⌜ at < length (now index) ⌝ }
-    ensures { λ r. ⌜ Wrote (now (index .entry)) (now (index .exit)) at (x ∷ []) r ⌝ }
-{
-    index[at] = x;
-    at + 1
-}
-
-// A word written where it is wanted.
-pub fn keep(index: &mut [u32], at: usize, yes: bool, x: u32) -> usize
-    requires { ⌜ at + length (pick yes x) ≤ length (now index) ⌝ }
-    ensures { λ r. ⌜ Wrote (now (index .entry)) (now (index .exit)) at (pick yes x) r ⌝ }
-{
-    if yes { word(index, at, x) } else { at }
-}
-
-// The first n words set to 0.
-pub fn clear(s: &mut [u32], n: usize)
-    requires { ⌜ n ≤ length (now s) ⌝ }
-    ensures { λ _. ⌜ ((c : ℕ) → c < n → getD (now (s .exit)) c 0 ≡ 0) ⌝ }
-{
-    let mut i: usize = 0;
-    while i < n {
-        s[i] = 0;
-        i += 1;
-    }
 }
 
 // What a walk through two rows writes of a column that they share.

@@ -13,7 +13,8 @@ use lib.Pow.{pow-pos, pow-add, shl-shr, shl-exact, shr-shr, shr-lt, pow-lt}
 use lib.Arith.{digits-mod, lt-one}
 use lib.Count.{ones, ones-step}
 use borrow.Author.Tests.{ne-eqb, eq-eqb}
-use Rattle.csr.specs.Counts.{sum, one}
+use Rattle.base.specs.Sums.{sum, one}
+use Rattle.base.proofs.Sums.{sum-ext, sum-front}
 use Rattle.pattern.specs.Word.{digit}
 
 two-pos : 0 < 2
@@ -115,23 +116,6 @@ set-digit (suc k) n h = go (set-digit k (n / 2) (shr-lt k 1 (subst (λ (x : ℕ)
     go r (yes e) = inr (0, omega arith, low-digit n e)
     go (inl z) (no e) = inl (omega arith)
     go (inr f) (no e) = inr (suc (f .0), omega (arith, f .1), digit-suc n (f .0) ∙ f .2)
-
--- ---- sums
-
-pub sum-ext : (n : ℕ) (f g : ℕ → ℕ) → ((k : ℕ) → k < n → f k ≡ g k) → sum n f ≡ sum n g
-unfolding sum
-sum-ext zero f g h = refl
-sum-ext (suc n) f g h = ap₂ _+_ (sum-ext n f g (λ k l. h k (omega arith))) (h n (omega arith))
-
-pub sum-front : (n : ℕ) (f : ℕ → ℕ) → sum (suc n) f ≡ f 0 + sum n (λ k. f (suc k))
-unfolding sum
-sum-front zero f = omega arith
-sum-front (suc n) f = omega (arith, sum-front n f)
-
-pub sum-add : (a b : ℕ) (f : ℕ → ℕ) → sum (a + b) f ≡ sum a f + sum b (λ k. f (a + k))
-unfolding sum
-sum-add a zero f = rw (add-zero a) (omega arith)
-sum-add a (suc b) f = rw (add-suc a b) (omega (arith, sum-add a b f))
 
 -- ---- the ones of a word are the sum of its digits
 

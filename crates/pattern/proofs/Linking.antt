@@ -12,7 +12,8 @@ use lib.ListN.{length, getD, set, take, replicate}
 use lib.Seq.{take-suc, take-length, getD-set-same, getD-set-other}
 use borrow.Author.Tests.{ne-eqb, eq-eqb, lt-ltb, le-ltb, lt-leb}
 use Rattle.csr.specs.Pattern.{has, row, neighbours, stored}
-use Rattle.csr.specs.Chain.{Below, stored-diag}
+use Rattle.base.specs.Numbers.{Below}
+use Rattle.csr.specs.Chain.{stored-diag}
 use Rattle.pattern.specs.Word.{bit, Put, Done, Seeded, OtherRows, Linked, Clear}
 use Rattle.pattern.specs.Links.{orElse, linked, firstOf, links, Firsts}
 use Rattle.pattern.proofs.Links.{first-has, links-stored}

@@ -8,9 +8,10 @@ use native.Mathlib.Omega.{arith}
 use native.Mathlib.Decide.{ℕ-discrete, decLt}
 use borrow.Author.Tests.{eq-eqb, eqb-true}
 use lib.Dec.{eqb}
-use Rattle.csr.specs.Bools.{or-out, or-left, or-right}
+use Rattle.base.proofs.Bools.{or-out, or-left, or-right}
 use Rattle.csr.specs.Pattern.{has, shares, row, neighbours, stored}
-use Rattle.csr.specs.Chain.{Below, Meets, stored-rule}
+use Rattle.base.specs.Numbers.{Below}
+use Rattle.csr.specs.Chain.{Meets, stored-rule}
 use Rattle.csr.specs.Csr.{Accepted}
 use Rattle.pattern.specs.Links.{orElse, linked, firstOf, links, Inside}
 

@@ -12,12 +12,13 @@ use lib.Count.{ones}
 use lib.ListN.{length, getD, set}
 use lib.Seq.{getD-set-same, getD-set-other}
 use borrow.Author.Tests.{ne-eqb, eq-eqb, eqb-true, eqb-false, not-true, not-false, le-leb, lt-leb, lt-ltb, le-ltb, leb-true}
-use Rattle.csr.specs.Bools.{and-out}
+use Rattle.base.proofs.Bools.{and-out}
 use Rattle.csr.specs.Pattern.{stored, fill}
 use Rattle.csr.specs.Chain.{Meets, stored-diag, fill-out, fill-in, fill-nb, off-diag}
-use Rattle.csr.specs.Counts.{sum, one}
+use Rattle.base.specs.Sums.{sum, one}
 use Rattle.pattern.specs.Word.{digit, bit, Put, Done, Seeded, OtherRows, rowOnes}
-use Rattle.pattern.proofs.Digits.{digit-and, digit-or, digit-zero, digit-pow, shl-one, set-digit, sum-ext, sum-add, ones-sum}
+use Rattle.pattern.proofs.Digits.{digit-and, digit-or, digit-zero, digit-pow, shl-one, set-digit, ones-sum}
+use Rattle.base.proofs.Sums.{sum-ext, sum-add}
 
 -- ---- a bit set
 

@@ -11,10 +11,11 @@ use lib.ListN.{getD, replicate}
 use borrow.Author.Tests.{le-leb, lt-leb}
 use Rattle.csr.specs.Pattern.{stored, neighbours}
 use Rattle.csr.specs.Chain.{stored-diag}
-use Rattle.csr.specs.Counts.{sum, one, isStored, countE, countD}
-use Rattle.pattern.specs.Word.{bit, digit, Done, OtherRows, rowOnes}
-use Rattle.pattern.specs.Word.{Clear}
-use Rattle.pattern.proofs.Digits.{sum-ext, sum-add, digit-zero}
+use Rattle.base.specs.Sums.{sum, one}
+use Rattle.csr.specs.Counts.{isStored, countE, countD}
+use Rattle.pattern.specs.Word.{bit, digit, Done, OtherRows, rowOnes, Clear}
+use Rattle.base.proofs.Sums.{sum-ext, sum-add, sum-plus, sum-cut}
+use Rattle.pattern.proofs.Digits.{digit-zero}
 
 -- ---- one more row
 
@@ -28,27 +29,6 @@ module _ (nb : ℕ → ℕ → Bool) (p q r : List ℕ) (i : ℕ) (hi : i < 256)
 
   pub clear-less : ((a : ℕ) → i ≤ a → a < 256 → Clear p a) → (a : ℕ) → i + 1 ≤ a → a < 256 → Clear r a
   clear-less f a l h b g = o′ a b h g (λ e. omega arith) ∙ o a b h g (λ e. omega arith) ∙ f a (omega arith) h b g
-
--- ---- sums
-
-pub sum-zero : (n : ℕ) (f : ℕ → ℕ) → ((k : ℕ) → k < n → f k ≡ 0) → sum n f ≡ 0
-unfolding sum
-sum-zero zero f h = refl
-sum-zero (suc n) f h = omega (arith, sum-zero n f (λ k l. h k (omega arith)), h n (omega arith))
-
-sum-plus : (n : ℕ) (f g : ℕ → ℕ) → sum n (λ k. f k + g k) ≡ sum n f + sum n g
-unfolding sum
-sum-plus zero f g = refl
-sum-plus (suc n) f g = omega (arith, sum-plus n f g)
-
--- a sum whose tail is 0
-pub sum-cut : (n m : ℕ) (f g : ℕ → ℕ) → m ≤ n → ((k : ℕ) → k < m → f k ≡ g k) → ((k : ℕ) → m ≤ k → k < n → f k ≡ 0) → sum n f ≡ sum m g
-sum-cut n m f g h same tail =
-    let e : n ≡ m + (n - m) = omega arith in
-    ap (λ (x : ℕ). sum x f) e
-    ∙ sum-add m (n - m) f
-    ∙ ap₂ _+_ (sum-ext m f g same) (sum-zero (n - m) (λ k. f (m + k)) (λ k l. tail (m + k) (omega arith) (omega arith)))
-    ∙ add-zero (sum m g)
 
 and-right : (t : Bool) → t && false ≡ false
 and-right true = refl
@@ -102,10 +82,6 @@ module _ (off cols p : List ℕ) (m : ℕ) (hm : m ≤ 256) (d : (i : ℕ) → i
       ∙ sum-plus m (λ i. sum (suc i) (λ j. sum j (λ k. one (isStored off cols i k && isStored off cols j k)))) (λ i. sum (suc i) (λ j. one (isStored off cols i j)))
 
 -- ---- the loops that count
-
-pub sum-next : (n : ℕ) (f : ℕ → ℕ) → sum (n + 1) f ≡ sum n f + f n
-unfolding sum
-sum-next n f = ap (λ (x : ℕ). sum x f) (add-one n)
 
 pub zeros : (n k : ℕ) → _≡_ {A = ℕ} (getD (replicate n 0) k 0) 0
 zeros zero k = refl

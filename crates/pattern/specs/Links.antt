@@ -6,7 +6,7 @@ use Prim.Native.Nat.{ℕ, zero, suc, _<_}
 use lib.Dec.{eqb}
 use lib.ListN.{getD}
 use Rattle.csr.specs.Pattern.{has, row}
-use Rattle.csr.specs.Chain.{Below}
+use Rattle.base.specs.Numbers.{Below}
 
 -- the first, or else the second
 abbrev pub orElse : ℕ → ℕ → ℕ

@@ -7,7 +7,7 @@ use Prim.Native.Nat.{ℕ, suc, _+_, _*_, _/_, _%_, _^_, _<_}
 use lib.Dec.{eqb, leb, ltb}
 use lib.ListN.{getD}
 use Rattle.csr.specs.Pattern.{stored}
-use Rattle.csr.specs.Counts.{sum, one}
+use Rattle.base.specs.Sums.{sum, one}
 
 -- is digit k of a number set?
 unfoldable pub digit : ℕ → ℕ → Bool

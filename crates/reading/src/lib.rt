@@ -5,7 +5,7 @@ ghost use mathlib.Core.Path.{_≡_};
 ghost use Prim.Native.Nat.{_+_, _*_, _≤_};
 ghost use lib.ListN.{length, take, drop};
 ghost use Rattle.io.specs.Counts.{Counts};
-ghost use Rattle.lists.specs.Cat.{Wrote};
+ghost use Rattle.base.specs.Cat.{Wrote};
 ghost use Rattle.ipm_simd.specs.Solve.{given, lent};
 ghost use Rattle.record.specs.Record.{nOf, mostColumns};
 ghost use Rattle.reading.specs.Parts.{Whole, Parts, partsOf};

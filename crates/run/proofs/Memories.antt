@@ -13,13 +13,14 @@ use Rattle.lanes.specs.Region.{reg}
 use Rattle.lanes.specs.Constants.{startValue}
 use Rattle.lanes.proofs.Lists.{vec-length, vec-same, vec-at, lane-at}
 use Rattle.lanes.proofs.Regions.{reg-at, room-all}
-use Rattle.rows.proofs.Spans.{cut-length, cut-at}
+use Rattle.sparse.proofs.Spans.{cut-length, cut-at}
 use Rattle.machine.specs.Machine.{LaneData, Settings, State}
 use Rattle.machine.specs.Outcome.{laneData}
 use Rattle.machine.specs.Demand3.{numbers, fresh}
 use Rattle.machine.proofs.Machines.{slot}
 use Rattle.layout.specs.declared.Block.{Block}
-use Rattle.layout.specs.Layout.{yAt, wAt, lAt, numbersAt, dataAt}
+use Rattle.layout.specs.Layout.{yAt, wAt, lAt}
+use Rattle.memory.specs.Numbers.{numbersAt, dataAt}
 use Rattle.step.specs.Steps.{Fresh}
 use Rattle.run.specs.Tests.{part, memoryAt, lanesOf, callBy}
 

@@ -25,8 +25,8 @@ use Rattle.machine.proofs.Turns.{Going, steps-reads, made, ran-spoilt, ran-done
 use Rattle.lanes.specs.Arithmetic.{_⊕_, one}
 use Rattle.lanes.specs.Lanes.{lanes, Width, room}
 use Rattle.layout.specs.declared.Block.{Block}
-use Rattle.layout.specs.Layout.{numbersAt, dataAt}
-use Rattle.tests.specs.Measures.{Measured, Divided}
+use Rattle.memory.specs.Numbers.{numbersAt, dataAt}
+use Rattle.lane_test.specs.Measures.{Measured, Divided}
 use Rattle.step.specs.Steps.{LanesStep}
 use Rattle.run.specs.Tests.{memoryAt, callBy, Runs, Bears, Tested, Run}
 use Rattle.run.proofs.Memories.{entries-ext, part-length, numbers-at, data-at}

@@ -3,7 +3,7 @@ use mathlib.Core.Path.{_≡_}
 use mathlib.Core.List.{List}
 use Prim.Native.Nat.{ℕ, _+_, _*_, _/_, _%_, _<_}
 use lib.Ieee.{Float}
-use Rattle.sparse.specs.Sparse.{cut}
+use Rattle.base.specs.Numbers.{cut}
 use Rattle.lanes.specs.Lists.{at, vec}
 use Rattle.lanes.specs.Arithmetic.{_⊕_, norm, one}
 use Rattle.lanes.specs.Constants.{centringValue, dampingValue}

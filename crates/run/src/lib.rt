@@ -6,9 +6,9 @@ ghost use Rattle.lanes.specs.Lanes.{lanes, room};
 ghost use Rattle.lanes.specs.Arithmetic.{_⊕_, one};
 ghost use Rattle.lanes.specs.Constants.{centringValue};
 ghost use Rattle.machine.specs.Machine.{Settings};
-ghost use Rattle.layout.specs.Layout.{Lent};
-ghost use Rattle.layout.specs.Planned.{Planned, problemIn, topIn};
-ghost use Rattle.tests.specs.Measures.{Measured};
+ghost use Rattle.memory.specs.Numbers.{Lent};
+ghost use Rattle.memory.specs.Planned.{Planned, problemIn, topIn};
+ghost use Rattle.lane_test.specs.Measures.{Measured};
 ghost use Rattle.step.specs.Steps.{Untouched};
 ghost use Rattle.run.specs.Tests.{memoryIn, callIn, Runs, Bears, Tested, Run};
 use kernels::one4;
@@ -20,7 +20,7 @@ use machine::Outcome;
 use machine::Status;
 use step::normal_eqn_init;
 use step::step_lanes;
-use tests::Measures;
+use lane_test::Measures;
 
 fn one_more(size: [f64; 4]) -> [f64; 4]
     ensures { λ r. ⌜ r ≡ lanes (λ t. one ⊕ at size t) ⌝ }
@@ -51,7 +51,7 @@ fn test_at(
     let ny = sums.ny;
     let rdiv = one_more(nx);
     let qdiv = one_more(ny);
-    tests::test(
+    lane_test::test(
         off,
         cols,
         vals,
@@ -91,7 +91,7 @@ pub fn run(
     let mut k: usize = 0;
     loop {
         k += 1;
-        let sums = tests::measure(work, width, plan, LaneState::CENTRING);
+        let sums = lane_test::measure(work, width, plan, LaneState::CENTRING);
         let statuses = test_at(
             off,
             cols,

@@ -4,12 +4,9 @@ use mathlib.Core.Path.{_≡_}
 use mathlib.Core.List.{List}
 use lib.ListN.{getD, length, take, drop, set}
 use lib.Ieee.{Float}
+use Rattle.base.specs.Numbers.{cut}
 use Rattle.lanes.specs.Lists.{at, fold, grow}
 use Rattle.lanes.specs.Arithmetic.{_⊕_, _⊖_, _⊗_, _⊘_}
-
--- the elements from a to e - 1
-abbrev pub cut {ℓ} : {A : Type ℓ} → ℕ → ℕ → List A → List A
-cut a e xs = take (e - a) (drop a xs)
 
 -- v, and in turn plus or less a number for the turn times u at the place that the list names
 unfoldable pub plusAll : List ℕ → (ℕ → Float) → List Float → Float → Float

@@ -8,14 +8,14 @@ use Rattle.lanes.specs.Lists.{at}
 use Rattle.lanes.specs.Region.{reg}
 use Rattle.machine.specs.Machine.{State, cell, factor}
 use Rattle.machine.specs.Work.{problemOf}
-use Rattle.ranks.specs.Factoring.{Factored, entries}
-use Rattle.ranks.proofs.Fill.{factor-held, filled-at}
-use Rattle.links.specs.Planned.{Holds}
-use Rattle.links.proofs.Follows.{entries-count}
+use Rattle.plan_laws.specs.Factoring.{Factored, entries}
+use Rattle.plan_laws.proofs.Fill.{factor-held, filled-at}
+use Rattle.plan_laws.specs.Planned.{Holds}
+use Rattle.plan_laws.proofs.Follows.{entries-count}
 use Rattle.layout.specs.declared.Plan.{Plan}
 use Rattle.layout.specs.Lists.{lindptrIn, lindicesIn}
-use Rattle.layout.specs.Planned.{Planned}
-use Rattle.layout.proofs.Plans.{prepared}
+use Rattle.memory.specs.Planned.{Planned}
+use Rattle.memory.proofs.Plans.{prepared}
 
 module _ {off cols : List ℕ} {vals : List Float} {p : Plan} {index : List ℕ} (P : Planned off cols vals p index) where
   -- the factor has E entries

@@ -18,7 +18,8 @@ use Rattle.machine.specs.declared.Status.{Status}
 use Rattle.machine.specs.declared.Status.the-variants.{Spoilt, Done, Step}
 use Rattle.machine.specs.Outcome.{isDone}
 use Rattle.machine.specs.Work.{stepOf, stepBy}
-use Rattle.layout.specs.Layout.{yAt, wAt, numbersAt}
+use Rattle.layout.specs.Layout.{yAt, wAt}
+use Rattle.memory.specs.Numbers.{numbersAt}
 use Rattle.step.specs.Steps.{Fresh, Took, Told, LanesStep}
 use Rattle.step.proofs.Steps.{untouched, untouched-on}
 

@@ -16,7 +16,8 @@ use Rattle.machine.specs.declared.Status.{Status}
 use Rattle.machine.specs.declared.Status.the-variants.{Spoilt}
 use Rattle.machine.specs.Work.{stepBy, stepOf}
 use Rattle.layout.specs.declared.Block.{Block}
-use Rattle.layout.specs.Layout.{dyAt, rhsAt, lAt, numbersAt, directionAt}
+use Rattle.layout.specs.Layout.{dyAt, rhsAt, lAt}
+use Rattle.memory.specs.Numbers.{numbersAt, directionAt}
 
 -- a block's lanes are among those of b and c, which are as long as stated
 pub record Fed (k : Block) (width m n s : ℕ) (b c : List Float) : Type 0 where

@@ -11,7 +11,7 @@ ghost use Rattle.lanes.specs.Arithmetic.{_⊘_, null, one, smaller};
 ghost use Rattle.machine.specs.Machine.{Settings, LaneData};
 ghost use Rattle.machine.specs.declared.Status.the-variants.{Spoilt};
 ghost use Rattle.machine.specs.Outcome.{isDone};
-ghost use Rattle.layout.specs.Planned.{Planned, Begins, problemIn, dataIn, lIn, topIn};
+ghost use Rattle.memory.specs.Planned.{Planned, Begins, problemIn, dataIn, lIn, topIn};
 ghost use Rattle.step.specs.Steps.{Fed, Ready, RightSide, Changed, Directed, Advanced, Took, Told, Fresh, LanesStep};
 use eliminate::factor_solve;
 use kernels::column_changes;

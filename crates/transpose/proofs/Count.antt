@@ -10,15 +10,14 @@ use lib.Dec.{eqb}
 use borrow.Author.Tests.{eq-eqb, ne-eqb}
 use lib.ListN.{length, getD, set, length-append}
 use lib.Seq.{sets, getD-set-same, getD-set-other}
-use Rattle.csr.specs.Counts.{sum, one}
-use Rattle.pattern.proofs.Digits.{sum-ext}
-use Rattle.lists.specs.Cat.{cat, pick, Wrote}
+use Rattle.base.specs.Sums.{sum, one}
+use Rattle.base.proofs.Sums.{sum-ext, sum-next}
+use Rattle.base.specs.Cat.{cat, pick, Wrote}
 use Rattle.lists.specs.Lists.{shape, holds, entry, column, columns, inColumn, columnEnds, endsOf, columnsOf}
 use Rattle.lists.specs.declared.What.{What}
 use Rattle.lists.specs.declared.What.the-variants.{Numbers, Places}
 use Rattle.lists.specs.declared.Side.the-variants.{Matrix}
-use Rattle.lists.proofs.Write.{length-cat, cat-ext, cat-next, length-pick, wrote-join, wrote-as}
-use Rattle.lists.proofs.Walk.{sum-next}
+use Rattle.base.proofs.Write.{length-cat, cat-ext, cat-next, length-pick, wrote-join, wrote-as}
 use Rattle.lists.proofs.Whole.{side-is, three, three-length}
 use Rattle.transpose.specs.Bins.{Bins, onto, putIn, rowsOf, roomOf, inRow, Outside, Grid, Tally, Starts, seen, endsFrom, sideIn}
 use Rattle.transpose.proofs.Fill.{in-step, in-room, in-start, in-end, bins-whole}

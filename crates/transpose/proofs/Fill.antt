@@ -16,16 +16,14 @@ use mathlib.Core.List.{append-nil}
 use lib.ListN.{take}
 use lib.Seq.{take-suc, take-all}
 use Rattle.csr.specs.Pattern.{has, row}
-use Rattle.csr.specs.Chain.{Below}
-use Rattle.csr.specs.Csr.{Under, Rising}
-use Rattle.lists.specs.Cat.{pick}
+use Rattle.base.specs.Numbers.{Below, Under, Rising}
+use Rattle.base.specs.Cat.{pick, cat}
 use Rattle.lists.specs.Lists.{shape, holds, entry, column, inColumn}
 use Rattle.lists.specs.declared.What.{What}
 use Rattle.lists.specs.declared.Side.the-variants.{Matrix}
-use Rattle.csr.specs.Counts.{sum, one}
-use Rattle.pattern.proofs.Digits.{sum-ext}
-use Rattle.lists.specs.Cat.{cat}
-use Rattle.lists.proofs.Write.{length-cat, cat-room, cat-next, length-pick}
+use Rattle.base.specs.Sums.{sum, one}
+use Rattle.base.proofs.Sums.{sum-ext}
+use Rattle.base.proofs.Write.{length-cat, cat-room, cat-next, length-pick}
 use Rattle.transpose.specs.Bins.{Bins, onto, putIn, rowsOf, roomOf, inRow}
 
 -- a bin and all before it end where the next begins, or before

@@ -9,9 +9,10 @@ use lib.ListN.{length, getD, take}
 use borrow.Author.Tests.{eq-eqb}
 use lib.Seq.{take-suc, take-all}
 use Rattle.csr.specs.Pattern.{has, row}
-use Rattle.csr.specs.Counts.{sum, one, common}
-use Rattle.lists.specs.Cat.{cat, pick}
-use Rattle.lists.proofs.Write.{cat-next}
+use Rattle.base.specs.Sums.{sum, one}
+use Rattle.csr.specs.Counts.{common}
+use Rattle.base.specs.Cat.{cat, pick}
+use Rattle.base.proofs.Write.{cat-next}
 use Rattle.lists.specs.Lists.{inColumn, column}
 use Rattle.lists.specs.declared.What.the-variants.{Numbers}
 use Rattle.transpose.specs.Bins.{inRow, Grid, Tally, seen}

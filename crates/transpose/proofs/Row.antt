@@ -6,7 +6,7 @@ use native.Mathlib.Omega.{arith}
 use lib.ListN.{length, getD, set, drop, length-take, length-drop}
 use lib.Seq.{getD-set-other, getD-take, getD-drop}
 use Rattle.csr.specs.Pattern.{row}
-use Rattle.csr.specs.Counts.{sum}
+use Rattle.base.specs.Sums.{sum}
 use Rattle.lists.specs.Lists.{shape, entry, told, place, find}
 use Rattle.lists.specs.declared.What.{What}
 use Rattle.lists.specs.declared.What.the-variants.{Numbers, Places}

@@ -5,18 +5,15 @@ use mathlib.Core.List.{List, [], _∷_, _++_}
 use Prim.Native.Nat.{ℕ, suc, _+_, _<_, _≤_}
 use lib.Dec.{eqb}
 use lib.ListN.{length, getD, take}
-use Rattle.csr.specs.Pattern.{has}
-use Rattle.lists.specs.Cat.{pick}
-use Rattle.csr.specs.Pattern.{row}
-use Rattle.csr.specs.Chain.{Below}
-use Rattle.csr.specs.Csr.{Rising}
-use Rattle.lists.specs.Cat.{cat}
+use Rattle.csr.specs.Pattern.{has, row}
+use Rattle.base.specs.Cat.{pick, cat}
+use Rattle.base.specs.Numbers.{Below, Rising}
 use Rattle.lists.specs.Lists.{shape, holds, entry, column, inColumn, sideOf}
 use Rattle.lists.specs.declared.What.{What}
 use Rattle.lists.specs.declared.What.the-variants.{Numbers}
 use Rattle.lists.specs.declared.Side.{Side}
 use Rattle.lists.specs.declared.Side.the-variants.{Factor, Matrix}
-use Rattle.csr.specs.Counts.{sum}
+use Rattle.base.specs.Sums.{sum}
 
 -- the columns of a side: the matrix's stand in words, the factor's in bytes
 abbrev pub colsOf : Side → List ℕ → List ℕ → List ℕ

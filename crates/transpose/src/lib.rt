@@ -2,10 +2,11 @@
 ghost use mathlib.Core.Path.{_≡_};
 ghost use Prim.Native.Nat.{ℕ, suc, _+_, _*_, _-_, _<_, _≤_};
 ghost use lib.ListN.{length, getD, set};
-ghost use Rattle.csr.specs.Counts.{sum, common, countS};
+ghost use Rattle.base.specs.Sums.{sum};
+ghost use Rattle.csr.specs.Counts.{common, countS};
 ghost use Rattle.csr.specs.Pattern.{row};
 ghost use lib.Seq.{sets};
-ghost use Rattle.lists.specs.Cat.{Wrote, cat};
+ghost use Rattle.base.specs.Cat.{Wrote, cat};
 ghost use Rattle.transpose.specs.Bins.{Bins, rowsOf, roomOf, Outside, Grid, Tally, Starts, seen, endsFrom, sideIn, colsOf};
 ghost use Rattle.lists.specs.Lists.{told};
 use lists::Side;
@@ -156,14 +157,14 @@ pub fn put_ends(
     ensures ends { λ r. ⌜ Wrote (now (index .entry)) (now (index .exit)) start (endsFrom (λ c. getD (now (next .entry)) c 0) n) r ⌝ }
     ensures starts { λ r. ⌜ Starts (now (next .exit)) n (λ c. getD (now (next .entry)) c 0) × Starts (now (again .exit)) (n + 1) (λ c. getD (now (next .entry)) c 0) ⌝ }
 {
-    let mut at = lists::word(index, start, 0);
+    let mut at = base::word(index, start, 0);
     let mut t: u32 = 0;
     let mut e: usize = 0;
     while e < n {
         let c = swap(next, e, t);
         swap(again, e, t);
         t += c;
-        at = lists::word(index, at, t);
+        at = base::word(index, at, t);
         e += 1;
     }
     swap(again, n, t);
@@ -209,7 +210,7 @@ pub fn transpose(
     requires { ⌜ Grid (now off) (colsOf side (now cols) (now bytes)) m n × (start + length (sideIn (now off) (colsOf side (now cols) (now bytes)) m n) ≤ length (now index)) × (n < length (now next)) × (n < length (now again)) ⌝ }
     ensures { λ r. ⌜ Wrote (now (index .entry)) (now (index .exit)) start (sideIn (now (off .entry)) (colsOf side (now (cols .entry)) (now (bytes .entry))) m n) r ⌝ }
 {
-    lists::clear(next, n);
+    base::clear(next, n);
     count_rows(side, off, cols, bytes, m, n, next);
     let a = put_ends(n, index, next, again, start);
     let t = at(again, n);

@@ -1,7 +1,7 @@
 use Prim.Native.Nat.{_+_, _-_, _≤_}
 use native.Mathlib.Omega.{arith}
 use lib.ListN.{length, take}
-use Rattle.lists.specs.Cat.{Wrote}
+use Rattle.base.specs.Cat.{Wrote}
 use mathlib.Core.Path.{refl}
 use lib.Seq.{take-all}
 use Rattle.answer_text.proofs.Texts.{same-text, same-long, copied}

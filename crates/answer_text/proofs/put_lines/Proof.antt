@@ -1,8 +1,8 @@
 use Prim.Native.Nat.{ℕ, _+_, _*_, _-_, _≤_}
 use mathlib.Core.Path.{_≡_, sym, ap}
 use native.Mathlib.Omega.{arith}
-use Rattle.lists.specs.Cat.{cat, Wrote}
-use Rattle.lists.proofs.Write.{wrote-none, cat-next}
+use Rattle.base.specs.Cat.{cat, Wrote}
+use Rattle.base.proofs.Write.{wrote-none, cat-next}
 use Rattle.answer_text.specs.Text.{lineText}
 use Rattle.answer_text.proofs.Texts.{join, same-text, same-long}
 use Rattle.answer_text.proofs.put_lines.Statement.{statement}

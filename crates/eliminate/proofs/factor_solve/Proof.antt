@@ -1,7 +1,7 @@
 use native.Mathlib.Omega.{arith}
 use borrow.Author.Needs.{needs}
-use Rattle.layout.proofs.Plans.{prepared, indexed, entries-plan}
-use Rattle.links.proofs.Follows.{high-for}
+use Rattle.memory.proofs.Plans.{prepared, indexed, entries-plan}
+use Rattle.plan_laws.proofs.Follows.{high-for}
 use Rattle.factor.proofs.Along.{low, count}
 use Rattle.eliminate.proofs.Cuts.{given-of, sides-of}
 use Rattle.eliminate.proofs.Rows.{two-room, solved-all}

@@ -4,8 +4,8 @@ use Prim.Native.Nat.{ℕ, _+_, _-_}
 use native.Mathlib.Omega.{arith}
 use Rattle.lanes.proofs.Regions.{room-le, room-put, kept-room}
 use Rattle.lanes.proofs.Quads.{on}
-use Rattle.ranks.proofs.Entry.{start-needs, normal-needs, product-needs, finish-needs}
-use Rattle.ranks.proofs.Fill.{given-still, lends-room, lcols-next, stands-next, put-room}
+use Rattle.plan_laws.proofs.Entry.{start-needs, normal-needs, product-needs, finish-needs}
+use Rattle.plan_laws.proofs.Fill.{given-still, lends-room, lcols-next, stands-next, put-room}
 use Rattle.factor.specs.Row.{RowDue}
 use Rattle.factor.proofs.Along.{Along, value-below, off-diagonal, row-some, stands-last, along-none, along-more, row-kept, row-filled, row-entry}
 use Rattle.factor.proofs.normal_matrix_cholesky_row.Statement.{statement}

@@ -2,7 +2,7 @@ use Rattle.lanes.proofs.Regions.{room-le}
 use Rattle.lanes.proofs.Quads.{on}
 use Prim.Native.Nat.{_-_, _≤_}
 use native.Mathlib.Omega.{arith}
-use Rattle.ranks.specs.Factoring.{normalStep, Summed}
+use Rattle.plan_laws.specs.Factoring.{normalStep, Summed}
 use Rattle.factor.proofs.Sums.{normal-here, summed-none, normal-turn, summed-end}
 use Rattle.factor.proofs.normal_sum.Statement.{statement}
 use Rattle.factor.proofs.normal_sum.Tie as tie

@@ -3,7 +3,7 @@ use mathlib.Core.Path.{_∙_}
 use native.Mathlib.Omega.{arith}
 use Rattle.pattern.specs.Word.{bit}
 use Rattle.pattern.proofs.Whole.{count-E}
-use Rattle.pairs.proofs.Lists.{rows-grid}
+use Rattle.pair_lists.proofs.Lists.{rows-grid}
 use Rattle.ipm_common.proofs.Final.{accepted-grid}
 use Rattle.ipm_common.proofs.Counted.{factor-pairs}
 use Rattle.ipm_common.proofs.count_all.Statement.{statement}

@@ -7,7 +7,7 @@ use borrow.Author.Needs.{needs}
 use borrow.Author.Tests.{le-leb, lt-leb}
 use Rattle.csr.specs.Counts.{sizeW}
 use Rattle.ipm_common.specs.Plan.{roomVerdict}
-use Rattle.pairs.proofs.Lists.{tri-le, tri-256}
+use Rattle.pair_lists.proofs.Lists.{tri-le, tri-256}
 use Rattle.ipm_common.proofs.Counted.{stored-few}
 use Rattle.ipm_common.proofs.Final as fin
 use Rattle.ipm_common.proofs.plan_accepted.Statement.{statement}

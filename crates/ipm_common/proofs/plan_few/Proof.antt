@@ -1,7 +1,7 @@
 -- `ipm_common::plan_few` meets its contract. Assumes nothing.
 use native.Mathlib.Omega.{arith}
 use borrow.Author.Needs.{needs}
-use Rattle.pairs.proofs.Lists.{tri-le, tri-16}
+use Rattle.pair_lists.proofs.Lists.{tri-le, tri-16}
 use Rattle.ipm_common.proofs.plan_few.Statement.{statement}
 use Rattle.ipm_common.proofs.plan_few.Tie as tie
 

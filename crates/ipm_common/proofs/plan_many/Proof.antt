@@ -1,7 +1,7 @@
 -- `ipm_common::plan_many` meets its contract. Assumes nothing.
 use native.Mathlib.Omega.{arith}
 use borrow.Author.Needs.{needs}
-use Rattle.pairs.proofs.Lists.{tri-le, tri-256}
+use Rattle.pair_lists.proofs.Lists.{tri-le, tri-256}
 use Rattle.ipm_common.proofs.plan_many.Statement.{statement}
 use Rattle.ipm_common.proofs.plan_many.Tie as tie
 

@@ -2,8 +2,8 @@
 use Prim.Native.Nat.{_-_}
 use native.Mathlib.Omega.{arith}
 use Rattle.pattern.specs.Word.{bit}
-use Rattle.pairs.specs.Kept.{kept}
-use Rattle.pairs.proofs.Lists as law
+use Rattle.pair_lists.specs.Kept.{kept}
+use Rattle.pair_lists.proofs.Lists as law
 use Rattle.ipm_common.proofs.Final as fin
 use borrow.Author.Needs.{needs}
 use Rattle.ipm_common.proofs.put_plan.Statement.{statement}

@@ -3,7 +3,7 @@ use Prim.Native.Nat.{ℕ, _≤_, _+_, _*_, _-_}
 use mathlib.Core.Path.{_≡_, refl, sym, ap, ap₂, _∙_}
 use native.Mathlib.Omega.{arith}
 use native.Mathlib.Numerals.{add-one}
-use Rattle.csr.specs.Counts.{sum}
+use Rattle.base.specs.Sums.{sum}
 use Rattle.pattern.specs.Word.{rowOnes}
 use Rattle.pattern.proofs.count.Statement.{statement}
 use Rattle.pattern.proofs.count.Tie as tie

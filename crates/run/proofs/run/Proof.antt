@@ -7,9 +7,10 @@ use Rattle.lanes.proofs.Consts.{tenth-bits, damping-bits}
 use Rattle.machine.specs.Machine.{Settings, standard}
 use Rattle.machine.specs.Work.{problemOf}
 use Rattle.machine.proofs.Turns.{Going, start-steps, steps-on}
-use Rattle.layout.specs.Layout.{lAt, dataAt}
-use Rattle.tests.specs.Measures.{Measured}
-use Rattle.tests.proofs.Tests.{mu-lane}
+use Rattle.layout.specs.Layout.{lAt}
+use Rattle.memory.specs.Numbers.{dataAt}
+use Rattle.lane_test.specs.Measures.{Measured}
+use Rattle.lane_test.proofs.Tests.{mu-lane}
 use Rattle.step.specs.Steps.{Untouched, Told}
 use Rattle.step.proofs.Steps.{untouched-room, untouched-on, untouched-wider}
 use Rattle.run.specs.Tests.{memoryAt, callBy, Runs}

@@ -2,8 +2,8 @@ use Rattle.lanes.proofs.Quads.{on}
 use Rattle.lanes.proofs.Regions.{room-le, kept-room}
 use native.Mathlib.Omega.{arith}
 use Rattle.lanes.specs.Region.{before, after}
-use Rattle.links.proofs.Follows.{cols-for}
-use Rattle.layout.proofs.Plans.{indexed, prepared}
+use Rattle.plan_laws.proofs.Follows.{cols-for}
+use Rattle.memory.proofs.Plans.{indexed, prepared}
 use Rattle.step.proofs.Steps.{changed}
 use borrow.Author.Needs.{needs}
 use Rattle.step.proofs.compute_dx_dz_dw.Statement.{statement}

@@ -2,9 +2,9 @@ use mathlib.Core.List.{[]}
 use Rattle.machine.specs.Machine.{standard}
 use Rattle.eliminate.proofs.Rows.{two-room}
 use native.Mathlib.Omega.{arith}
-use Rattle.links.proofs.Follows.{low-for, high-for}
-use Rattle.layout.specs.Layout.{dataAt}
-use Rattle.layout.proofs.Plans.{prepared}
+use Rattle.plan_laws.proofs.Follows.{low-for, high-for}
+use Rattle.memory.specs.Numbers.{dataAt}
+use Rattle.memory.proofs.Plans.{prepared}
 use Rattle.step.proofs.Steps.{untouched-room, directed, readied}
 use Rattle.step.proofs.Held.{held-for}
 use borrow.Author.Needs.{needs}

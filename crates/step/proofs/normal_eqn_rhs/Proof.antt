@@ -1,9 +1,9 @@
 use Rattle.lanes.proofs.Regions.{room-le, kept-room}
 use native.Mathlib.Omega.{arith}
 use Rattle.lanes.specs.Region.{before, after}
-use Rattle.links.proofs.Follows.{rows-for, cols-for}
-use Rattle.layout.proofs.Plans.{indexed, prepared}
-use Rattle.layout.specs.Layout.{dataAt}
+use Rattle.plan_laws.proofs.Follows.{rows-for, cols-for}
+use Rattle.memory.proofs.Plans.{indexed, prepared}
+use Rattle.memory.specs.Numbers.{dataAt}
 use Rattle.step.proofs.Steps.{right-side}
 use borrow.Author.Needs.{needs}
 use Rattle.step.proofs.normal_eqn_rhs.Statement.{statement}

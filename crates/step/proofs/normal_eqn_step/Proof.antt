@@ -1,7 +1,7 @@
 use mathlib.Core.List.{[]}
 use Rattle.machine.specs.Machine.{standard}
 use native.Mathlib.Omega.{arith}
-use Rattle.layout.specs.Layout.{dataAt}
+use Rattle.memory.specs.Numbers.{dataAt}
 use Rattle.step.proofs.Steps.{untouched-room, took}
 use borrow.Author.Needs.{needs}
 use Rattle.step.proofs.normal_eqn_step.Statement.{statement}

@@ -1,5 +1,5 @@
 use native.Mathlib.Omega.{arith}
-use Rattle.layout.specs.Layout.{dataAt}
+use Rattle.memory.specs.Numbers.{dataAt}
 use Rattle.step.proofs.Statuses.{by-statuses}
 use borrow.Author.Needs.{needs}
 use Rattle.step.proofs.step_lanes.Statement.{statement}

@@ -3,9 +3,10 @@ use Prim.Native.Nat.{ℕ, suc, _≤_, _<_, _+_, _*_, _-_}
 use mathlib.Core.Path.{_≡_, refl, sym, ap, ap₂, _∙_, subst}
 use native.Mathlib.Omega.{arith}
 use lib.ListN.{length, getD}
-use Rattle.csr.specs.Counts.{sum, common, countS}
+use Rattle.base.specs.Sums.{sum}
+use Rattle.csr.specs.Counts.{common, countS}
 use Rattle.csr.specs.Pattern.{row}
-use Rattle.lists.proofs.Walk.{sum-next}
+use Rattle.base.proofs.Sums.{sum-next}
 use Rattle.transpose.specs.Bins.{Tally, seen, colsOf}
 use Rattle.transpose.proofs.Count as law
 use Rattle.transpose.proofs.count_rows.Statement.{statement}

@@ -3,7 +3,7 @@ use Prim.Native.Nat.{ℕ, _≤_, _+_, _-_}
 use mathlib.Core.Path.{_≡_, refl, _∙_, subst}
 use native.Mathlib.Omega.{arith}
 use lib.ListN.{length}
-use Rattle.csr.specs.Counts.{sum}
+use Rattle.base.specs.Sums.{sum}
 use Rattle.transpose.specs.Bins.{Bins, rowsOf, roomOf, Outside, colsOf}
 use Rattle.transpose.proofs.Count as law
 use Rattle.transpose.proofs.scatter.Statement.{statement}

@@ -4,7 +4,7 @@ use mathlib.Core.Path.{_≡_, refl, sym, _∙_, subst}
 use mathlib.Core.List.{List}
 use native.Mathlib.Omega.{arith}
 use lib.ListN.{length, getD, set}
-use Rattle.csr.specs.Counts.{sum}
+use Rattle.base.specs.Sums.{sum}
 use Rattle.transpose.specs.Bins.{Bins, roomOf, inRow, Outside, colsOf}
 use Rattle.transpose.proofs.Row as law
 use Rattle.transpose.proofs.scatter_row.Statement.{statement}

@@ -4,8 +4,8 @@ use mathlib.Core.Path.{_≡_, ap, _∙_, subst}
 use mathlib.Core.List.{List}
 use native.Mathlib.Omega.{arith}
 use lib.ListN.{length}
-use Rattle.csr.specs.Counts.{sum}
-use Rattle.lists.specs.Cat.{Wrote}
+use Rattle.base.specs.Sums.{sum}
+use Rattle.base.specs.Cat.{Wrote}
 use Rattle.lists.specs.declared.What.the-variants.{Numbers}
 use Rattle.transpose.specs.Bins.{roomOf, colsOf}
 use Rattle.transpose.proofs.Count as law

@@ -1,0 +1,56 @@
+-- What a test reads of a block of lanes, and what it yields. Definitions only.
+use Prim.Native.Nat.{ℕ, _+_, _<_}
+use mathlib.Core.Path.{_≡_}
+use mathlib.Core.Bool.{cond, _&&_}
+use mathlib.Core.List.{List}
+use lib.ListN.{getD}
+use lib.Ieee.{Float, lt, isNan}
+use Rattle.machine.specs.Machine.{Problem, LaneData, Settings, status}
+use Rattle.machine.specs.declared.Status.{Status}
+use Rattle.machine.specs.declared.Status.the-variants.{Spoilt, Done, Step}
+use Rattle.lanes.specs.Lists.{at, lane}
+use Rattle.lanes.specs.Arithmetic.{_⊕_, _⊗_, _⊘_, Σ, norm, whole}
+use Rattle.lanes.specs.Region.{reg}
+use Rattle.kernels.specs.Kernels.{qAt, rAt}
+use Rattle.layout.specs.declared.Regions.{Regions}
+use Rattle.memory.specs.Numbers.{numbersAt}
+
+-- what a test yields, of R, Q, G, mu and the three tolerances
+abbrev pub judged : Float → Float → Float → Float → Float → Float → Float → Status
+judged r q g mu tr tq tg = cond (isNan g) Spoilt (cond (lt r tr && lt q tq && lt g tg) Done (Step mu))
+
+-- the lanes' norms of x and y, their g: Σ z·x + Σ w·y over the slack rows, and their mu by a centring, of the numbers in a memory
+pub record Measured (width m n s : ℕ) (centring : Float) (ws nx ny g mu : List Float) : Type 0 where
+  pub x-norm : (t : ℕ) → t < width → at nx t ≡ norm n (numbersAt width m n s ws t .x)
+  pub y-norm : (t : ℕ) → t < width → at ny t ≡ norm m (numbersAt width m n s ws t .y)
+  pub gap :
+      (t : ℕ)
+      → t < width
+      → let q = numbersAt width m n s ws t in
+      at g t ≡ Σ n (λ e. at (q .z) e ⊗ at (q .x) e) ⊕ Σ s (λ i. at (q .w) i ⊗ at (q .y) i)
+  pub centred : (t : ℕ) → t < width → at mu t ≡ centring ⊗ at g t ⊘ whole (n + s)
+
+-- the lanes' divisors of R and of Q are those of the settings
+pub record Divided (width : ℕ) (A : Problem) (H : Settings) (d : ℕ → LaneData) (ws byR byQ : List Float) : Type 0 where
+  pub primal : (t : ℕ) → t < width → at byR t ≡ (H .divisorR) A (d t) (numbersAt width (A .m) (A .n) (A .s) ws t)
+  pub dual : (t : ℕ) → t < width → at byQ t ≡ (H .divisorQ) A (d t) (numbersAt width (A .m) (A .n) (A .s) ws t)
+
+-- by the settings whose mu and divisors these are, the statuses are what the lanes' numbers yield
+abbrev pub Judges : ℕ → Problem → Settings → (ℕ → LaneData) → List Float → List Float → List Float → List Float → List Float → List Float → List Float → List Status → Type 0
+Judges width A H d ws nx ny g mu byR byQ said =
+    Measured width (A .m) (A .n) (A .s) (H .centring) ws nx ny g mu
+    → Divided width A H d ws byR byQ
+    → (l : ℕ)
+    → l < width
+    → getD said l Spoilt ≡ status A H (d l) (numbersAt width (A .m) (A .n) (A .s) ws l)
+
+-- lane t's sums of squares of the residuals, by the lists; of b and c, lane first + t of `total`
+abbrev pub primalSum : ℕ → ℕ → ℕ → List ℕ → List ℕ → List Float → List Float → List Float → Regions → ℕ → Float
+primalSum width total first off cols vals b ws g t =
+    let r = rAt off cols vals (g .s) (lane total (g .m) (first + t) b) (reg width ws (g .x) (g .n) t) (reg width ws (g .w) (g .s) t) in
+    Σ (g .m) (λ i. r i ⊗ r i)
+
+abbrev pub dualSum : ℕ → ℕ → ℕ → List ℕ → List ℕ → List ℕ → List Float → List Float → List Float → Regions → ℕ → Float
+dualSum width total first toff rows places vals c ws g t =
+    let q = qAt toff rows places vals (lane total (g .n) (first + t) c) (reg width ws (g .z) (g .n) t) (reg width ws (g .y) (g .m) t) in
+    Σ (g .n) (λ e. q e ⊗ q e)

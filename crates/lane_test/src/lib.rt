@@ -1,0 +1,280 @@
+// The test of a block of lanes, on their numbers in the working memory.
+ghost use mathlib.Core.Path.{_≡_};
+ghost use Prim.Native.Nat.{ℕ, _+_, _<_, _≤_, _*_};
+ghost use lib.ListN.{length, getD};
+ghost use Rattle.lanes.specs.Lists.{at};
+ghost use Rattle.lanes.specs.Arithmetic.{_⊕_, _⊗_, _⊘_, √, Σ, norm, one, whole};
+ghost use Rattle.lanes.specs.Lanes.{lanes, On, Width, room};
+ghost use Rattle.lanes.specs.Region.{reg};
+ghost use Rattle.sparse.specs.Parts.{Rows, Cols};
+ghost use Rattle.machine.specs.Machine.{Settings};
+ghost use Rattle.machine.specs.declared.Status.the-variants.{Spoilt};
+ghost use Rattle.memory.specs.Numbers.{Lent};
+ghost use Rattle.memory.specs.Planned.{Planned, problemIn, dataIn, lIn};
+ghost use Rattle.lane_test.specs.Measures.{judged, Measured, Judges, primalSum, dualSum};
+use kernels::dot_product;
+use kernels::dual_squares;
+use kernels::one4;
+use kernels::primal_squares;
+use kernels::squares_and_products;
+use lanes::add4;
+use lanes::div4;
+use lanes::mul4;
+use lanes::root4;
+use lanes::splat;
+use layout::Block;
+use layout::Plan;
+use layout::Regions;
+use machine::Status;
+
+fn vector_norm(work: &[f64], width: usize, o: usize, k: usize) -> [f64; 4]
+    requires { ⌜ (o + k ≤ room width (now work)) × Width width ⌝ }
+    ensures { λ r. ⌜ On width r (λ t. norm k (reg width (now (work .entry)) o k t)) ⌝ }
+{
+    root4(dot_product(work, width, o, o, k))
+}
+
+// The root of a sum of squares, over a divisor.
+fn root_over(squares: [f64; 4], by: [f64; 4]) -> [f64; 4]
+    ensures { λ r. ⌜ r ≡ lanes (λ t. √ (at squares t) ⊘ at by t) ⌝ }
+{
+    let a = root4(squares);
+    div4(a, by)
+}
+
+// R, given its divisors.
+fn primal_feasibility(
+    off: &[u32],
+    cols: &[u32],
+    vals: &[f64],
+    b: &[f64],
+    total: usize,
+    first: usize,
+    work: &[f64],
+    width: usize,
+    mem: Regions,
+    by: [f64; 4],
+) -> [f64; 4]
+    requires { ⌜ Rows (mem .m) (mem .n) (now off) (now cols) (now vals) × (mem .m ≤ room total (now b)) × (mem .x + mem .n ≤ room width (now work)) × (mem .w + mem .s ≤ room width (now work)) × (first + width ≤ total) × Width width ⌝ }
+    ensures { λ r. ⌜ On width r (λ t. √ (primalSum width total first (now (off .entry)) (now (cols .entry)) (now (vals .entry)) (now (b .entry)) (now (work .entry)) mem t) ⊘ at by t) ⌝ }
+{
+    let squares = primal_squares(
+        off,
+        cols,
+        vals,
+        b,
+        total,
+        first,
+        work,
+        width,
+        mem.x,
+        mem.w,
+        mem.m,
+        mem.n,
+        mem.s,
+    );
+    root_over(squares, by)
+}
+
+// Q, given its divisors.
+fn dual_feasibility(
+    toff: &[u32],
+    rows: &[u32],
+    places: &[u32],
+    vals: &[f64],
+    c: &[f64],
+    total: usize,
+    first: usize,
+    work: &[f64],
+    width: usize,
+    mem: Regions,
+    by: [f64; 4],
+) -> [f64; 4]
+    requires { ⌜ Cols (mem .n) (mem .m) (now toff) (now rows) (now places) (now vals) × (mem .n ≤ room total (now c)) × (mem .z + mem .n ≤ room width (now work)) × (mem .y + mem .m ≤ room width (now work)) × (first + width ≤ total) × Width width ⌝ }
+    ensures { λ r. ⌜ On width r (λ t. √ (dualSum width total first (now (toff .entry)) (now (rows .entry)) (now (places .entry)) (now (vals .entry)) (now (c .entry)) (now (work .entry)) mem t) ⊘ at by t) ⌝ }
+{
+    let squares = dual_squares(
+        toff,
+        rows,
+        places,
+        vals,
+        c,
+        total,
+        first,
+        work,
+        width,
+        mem.z,
+        mem.y,
+        mem.n,
+        mem.m,
+    );
+    root_over(squares, by)
+}
+
+// g: Σ z·x, given, + Σ w·y over the slack rows.
+fn gamma(work: &[f64], width: usize, mem: Regions, zx: [f64; 4]) -> [f64; 4]
+    requires { ⌜ (mem .w + mem .s ≤ room width (now work)) × (mem .y + mem .s ≤ room width (now work)) × Width width ⌝ }
+    ensures { λ r. ⌜ On width r (λ t. at zx t ⊕ Σ (mem .s) (λ i. at (reg width (now (work .entry)) (mem .w) (mem .s) t) i ⊗ at (reg width (now (work .entry)) (mem .y) (mem .s) t) i)) ⌝ }
+{
+    let b = dot_product(work, width, mem.w, mem.y, mem.s);
+    add4(zx, b)
+}
+
+// G, given g and the norms of x and y.
+fn gap_in(g: [f64; 4], nx: [f64; 4], ny: [f64; 4]) -> [f64; 4]
+    ensures { λ r. ⌜ r ≡ lanes (λ t. at g t ⊘ (one ⊕ at nx t ⊕ at ny t)) ⌝ }
+{
+    let a = add4(one4(), nx);
+    div4(g, add4(a, ny))
+}
+
+// mu, given g, by a centring.
+fn mu_in(g: [f64; 4], n: usize, s: usize, centring: f64) -> [f64; 4]
+    requires { ⌜ (n ≤ 1024) × (s ≤ 256) ⌝ }
+    ensures { λ r. ⌜ r ≡ lanes (λ t. centring ⊗ at g t ⊘ whole (n + s)) ⌝ }
+{
+    let k = n + s;
+    let d = splat(k as f64);
+    let a = mul4(splat(centring), g);
+    div4(a, d)
+}
+
+// What the test and the step both read, of the lanes: the norms of x and y, g and mu.
+pub struct Measures {
+    pub nx: [f64; 4],
+    pub ny: [f64; 4],
+    pub g: [f64; 4],
+    pub mu: [f64; 4],
+}
+
+pub fn measure(work: &[f64], width: usize, plan: Plan, centring: f64) -> Measures
+    requires { ⌜ (plan .m ≤ 256) × (plan .n ≤ 1024) × (plan .s ≤ plan .m) × (lIn plan ≤ room width (now work)) × Width width ⌝ }
+    ensures { λ r. ⌜ Measured width (plan .m) (plan .n) (plan .s) centring (now (work .entry)) (r .nx) (r .ny) (r .g) (r .mu) ⌝ }
+{
+    let mem = plan.regions();
+    let sums = squares_and_products(work, width, mem.x, mem.z, mem.n);
+    let xx = sums.squares;
+    let zx = sums.products;
+    let nx = root4(xx);
+    let ny = vector_norm(work, width, mem.y, mem.m);
+    let g = gamma(work, width, mem, zx);
+    let mu = mu_in(g, mem.n, mem.s, centring);
+    Measures { nx, ny, g, mu }
+}
+
+// What one lane's test yields, of R, Q, G, mu and its three tolerances.
+fn judge(r: f64, q: f64, g: f64, mu: f64, primal: f64, dual: f64, gap: f64) -> Status
+    ensures { λ k. ⌜ k ≡ judged r q g mu primal dual gap ⌝ }
+{
+    if g != g {
+        return Status::Spoilt;
+    }
+    if r < primal {
+        if q < dual {
+            if g < gap {
+                return Status::Done;
+            }
+        }
+    }
+    Status::Step(mu)
+}
+
+fn judge_lane(
+    r: [f64; 4],
+    q: [f64; 4],
+    g: [f64; 4],
+    mu: [f64; 4],
+    tol: &[f64],
+    block: Block,
+    l: usize,
+) -> Status
+    requires { ⌜ (l < 4) × (block .total ≤ 16) × (block .first + l < block .total) × (3 * block .total ≤ length (now tol)) ⌝ }
+    ensures { λ k. ⌜ k ≡ judged (at r l) (at q l) (at g l) (at mu l) (at (now (tol .entry)) (block .first + l)) (at (now (tol .entry)) (block .total + (block .first + l))) (at (now (tol .entry)) (2 * block .total + (block .first + l))) ⌝ }
+{
+    let total = block.total;
+    let p = block.first + l;
+    judge(
+        r[l],
+        q[l],
+        g[l],
+        mu[l],
+        tol[p],
+        tol[total + p],
+        tol[2 * total + p],
+    )
+}
+
+fn judge4(
+    r: [f64; 4],
+    q: [f64; 4],
+    g: [f64; 4],
+    mu: [f64; 4],
+    tol: &[f64],
+    block: Block,
+    width: usize,
+) -> [Status; 4]
+    requires { ⌜ (block .total ≤ 16) × (block .first + width ≤ block .total) × (3 * block .total ≤ length (now tol)) × Width width ⌝ }
+    ensures { λ k. ⌜ ((l : ℕ) → l < width → getD k l Spoilt ≡ judged (at r l) (at q l) (at g l) (at mu l) (at (now (tol .entry)) (block .first + l)) (at (now (tol .entry)) (block .total + (block .first + l))) (at (now (tol .entry)) (2 * block .total + (block .first + l)))) ⌝ }
+{
+    let a = judge_lane(r, q, g, mu, tol, block, 0);
+    if width == 1 {
+        return [a, a, a, a];
+    }
+    let b = judge_lane(r, q, g, mu, tol, block, 1);
+    if width == 2 {
+        return [a, b, b, b];
+    }
+    let c = judge_lane(r, q, g, mu, tol, block, 2);
+    if width == 3 {
+        return [a, b, c, c];
+    }
+    let d = judge_lane(r, q, g, mu, tol, block, 3);
+    [a, b, c, d]
+}
+
+// The test: of each lane, what its numbers yield, given what `measure` says of them and the divisors of R and of Q.
+pub fn test(
+    off: &[u32],
+    cols: &[u32],
+    vals: &[f64],
+    index: &[u32],
+    plan: Plan,
+    b: &[f64],
+    c: &[f64],
+    tol: &[f64],
+    block: Block,
+    work: &[f64],
+    width: usize,
+    sums: Measures,
+    rdiv: [f64; 4],
+    qdiv: [f64; 4],
+) -> [Status; 4]
+    requires { ⌜ Planned (now off) (now cols) (now vals) plan (now index) × Lent block width (plan .m) (plan .n) (plan .s) (now b) (now c) (now tol) × (lIn plan ≤ room width (now work)) ⌝ }
+    ensures { λ k. ⌜ ((H : Settings) → Judges width (problemIn plan (now (off .entry)) (now (cols .entry)) (now (vals .entry))) H (dataIn plan block (now (b .entry)) (now (c .entry)) (now (tol .entry))) (now (work .entry)) (sums .nx) (sums .ny) (sums .g) (sums .mu) rdiv qdiv k) ⌝ }
+{
+    let nx = sums.nx;
+    let ny = sums.ny;
+    let g = sums.g;
+    let mu = sums.mu;
+    let total = block.total;
+    let first = block.first;
+    let mem = plan.regions();
+    let toff = plan.atindptr(index);
+    let rows = plan.atindices(index);
+    let places = plan.atmap(index);
+    let r = primal_feasibility(off, cols, vals, b, total, first, work, width, mem, rdiv);
+    let q = dual_feasibility(
+        toff,
+        rows,
+        places,
+        vals,
+        c,
+        total,
+        first,
+        work,
+        width,
+        mem,
+        qdiv,
+    );
+    judge4(r, q, gap_in(g, nx, ny), mu, tol, block, width)
+}

@@ -1,9 +1,0 @@
-pub mod Parts
-pub mod Picked
-pub mod Rows
-pub mod Cols
-pub mod Low
-pub mod High
-pub mod Cuts
-pub mod Follows
-pub mod Few

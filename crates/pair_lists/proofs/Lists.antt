@@ -1,0 +1,292 @@
+-- Laws of the rows as lists. Assumes nothing.
+use mathlib.Core.Path.{_≡_, refl, sym, ap, ap₂, _∙_, subst}
+use mathlib.Core.Bool.{Bool, true, false, _||_}
+use mathlib.Core.List.{List, [], _∷_, _++_, append-assoc, append-nil}
+use Prim.Native.Nat.{ℕ, zero, suc, _+_, _-_, _<_, _≤_}
+use native.Mathlib.Omega.{arith}
+use native.Mathlib.Decide.{ℕ-discrete}
+use lib.Dec.{eqb}
+use borrow.Author.Tests.{eq-eqb, ne-eqb}
+use lib.ListN.{length, getD, set, take, drop, length-append}
+use lib.Seq.{sets, sets-eq, take-at, drop-at, getD-set-same, getD-set-other}
+use Rattle.csr.specs.Pattern.{has, row}
+use Rattle.base.specs.Numbers.{Below, Under, Rising}
+use Rattle.base.specs.Sums.{sum, one}
+use Rattle.base.proofs.Sums.{sum-ext}
+use Rattle.base.specs.Cat.{cat, pick, Wrote}
+use Rattle.lists.specs.Lists.{find, zeroIf}
+use Rattle.base.proofs.Write.{length-cat, cat-next, length-pick, wrote-join, wrote-as}
+use Rattle.transpose.specs.Bins.{Grid}
+use Rattle.pair_lists.specs.Kept.{kept, keptRows, Rows}
+
+-- ---- one row
+module _ (h : ℕ → Bool) where
+  pub kept-next : (n : ℕ) → kept h (n + 1) ≡ kept h n ++ pick (h n) n
+  unfolding kept
+  kept-next n = cat-next n (λ k. pick (h k) k)
+
+  pub kept-long : (n : ℕ) → length (kept h n) ≡ sum n (λ k. one (h k))
+  unfolding kept
+  kept-long n = length-cat n (λ k. pick (h k) k) ∙ sum-ext n (λ k. length (pick (h k) k)) (λ k. one (h k)) (λ k l. length-pick (h k) k)
+
+  pub kept-short : (n : ℕ) → length (kept h n) ≤ n
+  unfolding kept cat
+  kept-short zero = omega arith
+  kept-short (suc n) = omega (arith, kept-short n, length-append (kept h n) (pick (h n) n), go (h n))
+    where
+      go : (t : Bool) → length (pick t n) ≤ 1
+      go true = omega arith
+      go false = omega arith
+
+  has-join : (xs ys : List ℕ) (e : ℕ) → has (xs ++ ys) e ≡ has xs e || has ys e
+  unfolding has
+  has-join [] ys e = refl
+  has-join (x ∷ xs) ys e = ap (λ (t : Bool). eqb e x || t) (has-join xs ys e) ∙ or-assoc (eqb e x) (has xs e) (has ys e)
+    where
+      or-assoc : (a b d : Bool) → a || (b || d) ≡ a || b || d
+      or-assoc true b d = refl
+      or-assoc false b d = refl
+
+  or-false : (t : Bool) → t || false ≡ t
+  or-false true = refl
+  or-false false = refl
+
+  has-pick : (t : Bool) (x e : ℕ) → (e ≡ x → ⊥) → has (pick t x) e ≡ false
+  unfolding has
+  has-pick true x e n = rw (ne-eqb e x n)
+  has-pick false x e n = refl
+
+  has-self : (t : Bool) (x : ℕ) → has (pick t x) x ≡ t
+  unfolding has
+  has-self true x = rw (eq-eqb x x refl)
+  has-self false x = refl
+
+  pub kept-none : (n e : ℕ) → n ≤ e → has (kept h n) e ≡ false
+  unfolding kept cat has
+  kept-none zero e l = refl
+  kept-none (suc n) e l = has-join (kept h n) (pick (h n) n) e ∙ ap₂ _||_ (kept-none n e (omega arith)) (has-pick (h n) n e (λ q. omega arith))
+
+  pub kept-has : (n e : ℕ) → e < n → has (kept h n) e ≡ h e
+  unfolding kept cat
+  kept-has zero e l = absurd (omega arith)
+  kept-has (suc n) e l = go (ℕ-discrete e n) (kept-has n e)
+    where
+      go : Dec (e ≡ n) → (e < n → has (kept h n) e ≡ h e) → has (kept h n ++ pick (h n) n) e ≡ h e
+      go (yes q) ih = rw q (has-join (kept h n) (pick (h n) n) n ∙ ap₂ _||_ (kept-none n n (omega arith)) (has-self (h n) n))
+      go (no q) ih = has-join (kept h n) (pick (h n) n) e ∙ ap₂ _||_ (ih (omega arith)) (has-pick (h n) n e q) ∙ or-false (h e)
+
+  find-in : (xs ys : List ℕ) (e : ℕ) → has xs e ≡ true → find e (xs ++ ys) ≡ find e xs
+  unfolding has find
+  find-in [] ys e q = absurd (let z : _≡_ {A = Bool} false true = q in let y : _≡_ {A = ℕ} 0 1 = cc in omega arith)
+  find-in (x ∷ xs) ys e q = go (eqb e x) (find-in xs ys e) q
+    where
+      go : (t : Bool) → (has xs e ≡ true → find e (xs ++ ys) ≡ find e xs) → t || has xs e ≡ true → zeroIf t (suc (find e (xs ++ ys))) ≡ zeroIf t (suc (find e xs))
+      go true ih r = refl
+      go false ih r = ap suc (ih r)
+
+  find-out : (xs ys : List ℕ) (e : ℕ) → has xs e ≡ false → find e (xs ++ ys) ≡ length xs + find e ys
+  unfolding has find
+  find-out [] ys e q = omega arith
+  find-out (x ∷ xs) ys e q = go (eqb e x) (find-out xs ys e) q
+    where
+      go : (t : Bool) → (has xs e ≡ false → find e (xs ++ ys) ≡ length xs + find e ys) → t || has xs e ≡ false → zeroIf t (suc (find e (xs ++ ys))) ≡ suc (length xs) + find e ys
+      go true ih r = absurd (let y : _≡_ {A = ℕ} 0 1 = cc in omega arith)
+      go false ih r = omega (arith, ih r)
+
+  find-one : (t : Bool) (x : ℕ) → t ≡ true → find x (pick t x) ≡ 0
+  unfolding find
+  find-one true x q = ap (λ (t : Bool). zeroIf t 1) (eq-eqb x x refl)
+  find-one false x q = refl
+
+  -- an entry stands after those below it
+  pub kept-find : (n e : ℕ) → e < n → h e ≡ true → find e (kept h n) ≡ sum e (λ k. one (h k))
+  unfolding kept cat
+  kept-find zero e l q = absurd (omega arith)
+  kept-find (suc n) e l q = go (ℕ-discrete e n) (kept-find n e)
+    where
+      go : Dec (e ≡ n) → (e < n → h e ≡ true → find e (kept h n) ≡ sum e (λ k. one (h k))) → find e (kept h n ++ pick (h n) n) ≡ sum e (λ k. one (h k))
+      go (yes r) ih = rw r (find-out (kept h n) (pick (h n) n) n (kept-none n n (omega arith)) ∙ omega (arith, find-one (h n) n (ap h (sym r) ∙ q), kept-long n))
+      go (no r) ih = find-in (kept h n) (pick (h n) n) e (kept-has n e (omega arith) ∙ q) ∙ ih (omega arith) q
+
+  below-join : (b : ℕ) (xs ys : List ℕ) → Below b xs → Below b ys → Below b (xs ++ ys)
+  below-join b [] ys p q = q
+  below-join b (x ∷ xs) ys p q = (p .0, below-join b xs ys (p .1) q)
+
+  below-more : (b d : ℕ) (xs : List ℕ) → b ≤ d → Below b xs → Below d xs
+  below-more b d [] l p = tt
+  below-more b d (x ∷ xs) l p = (omega (arith, p .0), below-more b d xs l (p .1))
+
+  below-pick : (t : Bool) (x : ℕ) → Below (suc x) (pick t x)
+  below-pick true x = (omega arith, tt)
+  below-pick false x = tt
+
+  pub kept-below : (n : ℕ) → Below n (kept h n)
+  unfolding kept cat
+  kept-below zero = tt
+  kept-below (suc n) = below-join (suc n) (kept h n) (pick (h n) n) (below-more n (suc n) (kept h n) (omega arith) (kept-below n)) (below-pick (h n) n)
+
+  pub kept-in : (n b : ℕ) → n ≤ b → Below b (kept h n)
+  kept-in n b l = below-more n b (kept h n) l (kept-below n)
+
+  under-snoc : (x : ℕ) (xs : List ℕ) (y : ℕ) → Under x xs → x < y → Under x (xs ++ (y ∷ []))
+  under-snoc x [] y u l = (l, tt)
+  under-snoc x (z ∷ xs) y u l = (u .0, under-snoc x xs y (u .1) l)
+
+  rising-snoc : (xs : List ℕ) (y : ℕ) → Rising xs → Below y xs → Rising (xs ++ (y ∷ []))
+  rising-snoc [] y r b = (tt, tt)
+  rising-snoc (x ∷ xs) y r b = (under-snoc x xs y (r .0) (b .0), rising-snoc xs y (r .1) (b .1))
+
+  pub kept-rising : (n : ℕ) → Rising (kept h n)
+  unfolding kept cat
+  kept-rising zero = tt
+  kept-rising (suc n) = go (h n) (kept-rising n)
+    where
+      go : (t : Bool) → Rising (kept h n) → Rising (kept h n ++ pick t n)
+      go true ih = rising-snoc (kept h n) n ih (kept-below n)
+      go false ih = subst Rising (sym (append-nil (kept h n))) ih
+
+-- ---- writing a row
+module _ (h : ℕ → Bool) where
+  pub row-start : (a : List ℕ) (start : ℕ) → Wrote a a start (kept h 0) start
+  unfolding kept cat
+  row-start a start = record { is = refl; next = omega arith }
+
+  pub row-next : (a b c : List ℕ) (start at r k : ℕ) (t : Bool) → Wrote a b start (kept h k) at → t ≡ h k → Wrote b c at (pick t k) r → Wrote a c start (kept h (k + 1)) r
+  row-next a b c start at r k t p e q =
+      wrote-as a c start r _ _ (ap (λ (s : Bool). kept h k ++ pick s k) e ∙ sym (kept-next h k)) (wrote-join a b c start at r _ _ p q)
+
+  pub row-room : (start l at k n x : ℕ) (t : Bool) → at ≡ start + length (kept h k) → k < n → start + n ≤ l → at + length (pick t x) ≤ l
+  row-room start l at k n x t e b r = omega (arith, kept-short h k, go t)
+    where
+      go : (s : Bool) → length (pick s x) ≤ 1
+      go true = omega arith
+      go false = omega arith
+
+-- ---- all rows
+pub tri-le : (i n : ℕ) → i ≤ n → sum i suc ≤ sum n suc
+unfolding sum
+tri-le i zero l = let e : i ≡ 0 = omega arith in omega (arith, ap (λ (k : ℕ). sum k suc) e)
+tri-le i (suc n) l = go (ℕ-discrete i (suc n)) (tri-le i n)
+  where
+    go : Dec (i ≡ suc n) → (i ≤ n → sum i suc ≤ sum n suc) → sum i suc ≤ sum n suc + suc n
+    go (yes e) ih = omega (arith, ap (λ (k : ℕ). sum k suc) e)
+    go (no q) ih = omega (arith, ih (omega arith))
+
+pub tri-16 : sum 16 suc ≡ 136
+unfolding sum
+tri-16 = refl
+
+pub tri-64 : sum 64 suc ≡ 2080
+unfolding sum
+tri-64 = refl
+
+pub tri-256 : sum 256 suc ≡ 32896
+unfolding sum
+tri-256 = refl
+
+tri-next : (i : ℕ) → sum (suc i) suc ≡ sum i suc + suc i
+unfolding sum
+tri-next i = refl
+
+cat-split : (m i : ℕ) (f : ℕ → List ℕ) → i < m → (rest : List ℕ) × (cat m f ≡ cat i f ++ (f i ++ rest))
+unfolding cat
+cat-split zero i f l = absurd (omega arith)
+cat-split (suc m) i f l = go (ℕ-discrete i m) (cat-split m i f)
+  where
+    go : Dec (i ≡ m) → (i < m → (rest : List ℕ) × (cat m f ≡ cat i f ++ (f i ++ rest))) → (rest : List ℕ) × (cat m f ++ f m ≡ cat i f ++ (f i ++ rest))
+    go (yes e) ih = ([], ap (λ (k : ℕ). cat k f ++ f k) (sym e) ∙ ap (λ (l′ : List ℕ). cat i f ++ l′) (sym (append-nil (f i))))
+    go (no n) ih =
+        let r = ih (omega arith) in
+        (r .0 ++ f m, ap (λ (l′ : List ℕ). l′ ++ f m) (r .1) ∙ append-assoc (cat i f) (f i ++ r .0) (f m) ∙ ap (λ (l′ : List ℕ). cat i f ++ l′) (append-assoc (f i) (r .0) (f m)))
+
+part-is : (xs ys zs : List ℕ) → take (length ys) (drop (length xs) (xs ++ (ys ++ zs))) ≡ ys
+part-is xs ys zs = ap (take (length ys)) (drop-at xs (ys ++ zs) (length xs) refl) ∙ take-at ys zs (length ys) refl
+
+module _ (h : ℕ → ℕ → Bool) where
+  pub all-next : (i : ℕ) → keptRows h (i + 1) ≡ keptRows h i ++ kept (h i) (i + 1)
+  unfolding keptRows
+  all-next i = cat-next i (λ a. kept (h a) (a + 1))
+
+  pub all-short : (i : ℕ) → length (keptRows h i) ≤ sum i suc
+  unfolding keptRows cat sum
+  all-short zero = omega arith
+  all-short (suc i) = omega (arith, all-short i, length-append (keptRows h i) (kept (h i) (i + 1)), kept-short (h i) (i + 1))
+
+  -- the rows before i are written, and their offsets stored
+  pub record Listing (li₀ li lp : List ℕ) (at i : ℕ) : Type 0 where
+    pub wrote : Wrote li₀ li 0 (keptRows h i) at
+    pub starts : (k : ℕ) → k ≤ i → getD lp k 0 ≡ length (keptRows h k)
+
+  pub listing-start : (li lp lp′ : List ℕ) → 0 < length lp → lp′ ≡ set lp 0 0 → Listing li li lp′ 0 0
+  unfolding keptRows cat
+  listing-start li lp lp′ l e = record {
+    wrote = record { is = refl; next = refl };
+    starts = λ k b. let z : k ≡ 0 = omega arith in ap₂ (λ (x : List ℕ) (y : ℕ). getD x y 0) e z ∙ getD-set-same lp 0 0 0 l ∙ ap (λ (y : ℕ). length (keptRows h y)) (sym z);
+  }
+
+  module _ (li₀ li lp : List ℕ) (at i : ℕ) (v : Listing li₀ li lp at i) where
+    pub listing-room : (l m : ℕ) → i < m → sum m suc ≤ l → at + i + 1 ≤ l
+    listing-room l m b r = omega (arith, v .wrote .next, all-short i, tri-le (suc i) m (omega arith), tri-next i)
+
+    pub listing-small : i ≤ 256 → at ≤ 32896
+    listing-small b = omega (arith, v .wrote .next, all-short i, tri-le i 256 b, tri-256)
+
+    pub listing-next : (li′ lp′ : List ℕ) (r x : ℕ) → i + 1 < length lp → Wrote li li′ at (kept (h i) (i + 1)) r → x ≡ r → lp′ ≡ set lp (i + 1) x → Listing li₀ li′ lp′ r (i + 1)
+    listing-next li′ lp′ r x l w q e = record { wrote = u; starts = λ k b. ap (λ (y : List ℕ). getD y k 0) e ∙ go k b (ℕ-discrete k (i + 1)) }
+      where
+        u : Wrote li₀ li′ 0 (keptRows h (i + 1)) r
+        u = wrote-as li₀ li′ 0 r _ _ (sym (all-next i)) (wrote-join li₀ li li′ 0 at r _ _ (v .wrote) w)
+
+        go : (k : ℕ) → k ≤ i + 1 → Dec (k ≡ i + 1) → getD (set lp (i + 1) x) k 0 ≡ length (keptRows h k)
+        go k b (yes z) = ap (λ (y : ℕ). getD (set lp (i + 1) x) y 0) z ∙ getD-set-same lp (i + 1) x 0 l ∙ omega (arith, q, u .next) ∙ ap (λ (y : ℕ). length (keptRows h y)) (sym z)
+        go k b (no z) = getD-set-other lp (i + 1) k x 0 z ∙ v .starts k (omega arith)
+
+    pub listing-end : (m : ℕ) → i ≡ m → m ≤ 256 → m < length lp → sum m suc ≤ length li₀ → length li ≡ length li₀ → length li ≤ 65536 → Rows h lp li m
+    unfolding row keptRows
+    listing-end m e b l r len few = record {
+      offsets = l;
+      few = b;
+      starts = λ k q. v .starts k (omega arith);
+      rows = rows;
+      fits = omega (arith, v .starts m (omega arith), all-short m);
+      short = few;
+    }
+      where
+        whole : li ≡ keptRows h m ++ drop (0 + length (keptRows h m)) li₀
+        whole =
+            v .wrote .is ∙ ap (λ (k : ℕ). sets li₀ 0 (keptRows h k)) e
+            ∙ sets-eq (keptRows h m) li₀ 0 (omega (arith, all-short m))
+
+        rows : (k : ℕ) → k < m → row lp li k ≡ kept (h k) (k + 1)
+        rows k q =
+            let s = cat-split m k (λ a. kept (h a) (a + 1)) q in
+            let tail : List ℕ = drop (0 + length (keptRows h m)) li₀ in
+            let z : length (keptRows h (k + 1)) - length (keptRows h k) ≡ length (kept (h k) (k + 1)) = omega (arith, ap length (all-next k), length-append (keptRows h k) (kept (h k) (k + 1))) in
+            ap₂ (λ (x y : ℕ). take (x - y) (drop y li)) (v .starts (k + 1) (omega arith)) (v .starts k (omega arith))
+            ∙ ap₂ (λ (x : ℕ) (y : List ℕ). take x (drop (length (keptRows h k)) y)) z
+            (whole ∙ ap (λ (x : List ℕ). x ++ tail) (s .1) ∙ append-assoc (keptRows h k) (kept (h k) (k + 1) ++ s .0) tail ∙ ap (λ (x : List ℕ). keptRows h k ++ x) (append-assoc (kept (h k) (k + 1)) (s .0) tail))
+            ∙ part-is (keptRows h k) (kept (h k) (k + 1)) (s .0 ++ tail)
+
+-- ---- the lists are a grid
+module _ (h : ℕ → ℕ → Bool) (lp li : List ℕ) (m : ℕ) (v : Rows h lp li m) where
+  pub rows-up : (i : ℕ) → i < m → getD lp (i + 1) 0 ≡ getD lp i 0 + length (kept (h i) (i + 1))
+  rows-up i l = omega (arith, v .starts (i + 1) (omega arith), v .starts i (omega arith), ap length (all-next h i), length-append (keptRows h i) (kept (h i) (i + 1)))
+
+  up-to : (i k : ℕ) → i + k ≤ m → getD lp i 0 ≤ getD lp (i + k) 0
+  up-to i zero l = let e : i + 0 ≡ i = omega arith in omega (arith, ap (λ (x : ℕ). getD lp x 0) e)
+  up-to i (suc k) l = let e : i + suc k ≡ i + k + 1 = omega arith in omega (arith, ap (λ (x : ℕ). getD lp x 0) e, up-to i k (omega arith), rows-up (i + k) (omega arith))
+
+  pub rows-fit : (i : ℕ) → i ≤ m → getD lp i 0 ≤ length li
+  rows-fit i l = let e : i + (m - i) ≡ m = omega arith in omega (arith, up-to i (m - i) (omega arith), ap (λ (x : ℕ). getD lp x 0) e, v .fits)
+
+  pub rows-grid : Grid lp li m m
+  rows-grid = record {
+    offsets = v .offsets;
+    few = v .few;
+    order = λ i l. omega (arith, rows-up i l);
+    ends = rows-fit;
+    rising = λ i l. subst Rising (sym (v .rows i l)) (kept-rising (h i) (i + 1));
+    nnz = v .short;
+    wide = omega (arith, v .few);
+    within = λ i l. subst (Below m) (sym (v .rows i l)) (kept-in (h i) (i + 1) m (omega arith));
+  }

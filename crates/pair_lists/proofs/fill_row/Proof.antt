@@ -1,0 +1,137 @@
+-- `pairs::fill_row` meets its contract. Assumes nothing.
+use Prim.Native.Nat.{_≤_, _<_, _+_, _-_}
+use mathlib.Core.Path.{_≡_, refl, _∙_}
+use native.Mathlib.Omega.{arith}
+use lib.ListN.{length, getD}
+use Rattle.pattern.specs.Word.{bit}
+use Rattle.pair_lists.specs.Kept.{kept}
+use Rattle.pair_lists.proofs.Lists as law
+use Rattle.pair_lists.proofs.Through as thru
+use Rattle.pair_lists.proofs.Stored as st
+use Rattle.pair_lists.proofs.Turns as turns
+use Rattle.lists.specs.Lists.{before}
+use Rattle.pair_lists.proofs.fill_row.Statement.{statement}
+use Rattle.pair_lists.proofs.fill_row.Tie as tie
+
+abbrev Inv-loop : tie.InvT-loop
+Inv-loop which off cols m p lp li wide mark i count index₀ start b at₀ n₀ t₀ index at n t =
+    (getD lp i 0 ≤ t) × (t ≤ getD lp (i + 1) 0) × (length index ≡ length index₀) × turns.Turned off cols p which i index₀ index start at count n (t - getD lp i 0)
+
+abbrev μ-loop : tie.MeasureT-loop
+μ-loop which off cols m p lp li wide mark i count index₀ start b at₀ n₀ t₀ index at n t = b - t
+
+add-word-at : tie.Need-add-word-at Inv-loop μ-loop
+add-word-at c = let s = c .before .before .before .before .before .before .before in omega (arith, s .pre .2, s .pre .1 .few)
+
+word-at-requires : tie.Need-word-at-requires Inv-loop μ-loop
+word-at-requires c κs = let s = c .before .before .before .before .before .before .before in omega (arith, s .pre .2, s .pre .1 .offsets)
+
+word-at-requires-2 : tie.Need-word-at-requires-2 Inv-loop μ-loop
+word-at-requires-2 c κs = let s = c .before .before .before .before .before .before .before .before in omega (arith, s .pre .2, s .pre .1 .offsets)
+
+loop-holds : tie.Need-loop-holds Inv-loop μ-loop
+loop-holds c =
+    let s = c .before .before .before .before .before .before .before .before .before in
+    let a = s .args in
+    let w = c .word-at2 in (
+      omega (arith, w .ensures),
+      omega (arith, w .ensures, law.rows-up (bit (a .p .now)) (a .lp .now) (a .li .now) (a .m) (s .pre .1) (a .i) (s .pre .2)),
+      refl,
+      turns.turned-start (a .off .now) (a .cols .now) (a .m) (a .p .now) (s .pre .0) (a .lp .now) (a .li .now) (s .pre .1) (a .which) (a .i) (s .pre .2) (a .index .now) (a .start) (a .count) (w .result - getD (a .lp .now) (a .i) 0) (omega (arith, w .ensures)),
+    )
+
+byte-at-requires : tie.Need-byte-at-requires Inv-loop μ-loop
+byte-at-requires c κs =
+    let s = c .before .before .before .before .before .before .before .before .before .before .before in
+    let a = s .args in
+    let l = c .before .loop in
+    thru.t-in (bit (a .p .now)) (a .lp .now) (a .li .now) (a .m) (s .pre .1) (a .i) (l .t) (s .pre .2) (l .inv .0) (omega (arith, c .loop-test .taken, c .before .before .before .word-at .ensures))
+
+weigh-requires : tie.Need-weigh-requires Inv-loop μ-loop
+weigh-requires c κs =
+    let s = c .before .before .before .before .before .before .before .before .before .before .before .before in
+    let a = s .args in
+    let l = c .before .before .loop in
+    (s .pre .0, s .pre .2, st.le (a .off .now) (a .cols .now) (a .m) (a .p .now) (s .pre .0) (a .lp .now) (a .li .now) (s .pre .1) (a .i) (c .byte-at .result) (l .t) (s .pre .2) (l .inv .0) (omega (arith, c .before .loop-test .taken, c .before .before .before .before .word-at .ensures)) (c .byte-at .ensures), s .pre .6, s .pre .7, s .pre .8)
+
+add-n : tie.Need-add-n Inv-loop μ-loop
+add-n c =
+    let s = c .before .before .before .before .before .before .before .before .before .before .before .before .before in
+    let a = s .args in
+    let l = c .before .before .before .loop in
+    let few = turns.turn-few (a .off .now) (a .cols .now) (a .m) (a .p .now) (s .pre .0) (a .lp .now) (a .li .now) (s .pre .1) (a .which) (a .i) (s .pre .2) (l .t) (c .before .byte-at .result) (l .inv .0) (omega (arith, c .before .before .loop-test .taken, c .before .before .before .before .before .word-at .ensures)) (c .before .byte-at .ensures) (a .index .now) (l .index) (a .start) (l .at) (a .count) (l .n) (l .inv .3) (omega (arith, s .pre .2, s .pre .1 .few)) in
+    omega (arith, few, l .inv .3 .small, s .pre .4, s .pre .2, s .pre .1 .few, c .weigh .ensures .1)
+
+put-piece-requires : tie.Need-put-piece-requires Inv-loop μ-loop
+put-piece-requires c κs =
+    let s = c .before .before .before .before .before .before .before .before .before .before .before .before .before .before in
+    let a = s .args in
+    let l = c .before .before .before .before .loop in
+    let j = c .before .before .byte-at in
+    let up : l .t < getD (a .lp .now) (a .i + 1) 0 = omega (arith, c .before .before .before .loop-test .taken, c .before .before .before .before .before .before .word-at .ensures) in (
+      s .pre .0,
+      s .pre .1,
+      s .pre .2,
+      l .inv .0,
+      up,
+      j .ensures,
+      turns.turn-count (a .off .now) (a .cols .now) (a .m) (a .p .now) (s .pre .0) (a .lp .now) (a .li .now) (s .pre .1) (a .which) (a .i) (s .pre .2) (l .t) (j .result) (l .inv .0) up (j .ensures) (a .index .now) (l .index) (a .start) (l .at) (a .count) (l .n) (l .inv .3) (c .before .weigh .result) (s .pre .3) (c .before .weigh .ensures .0),
+      turns.turn-room (a .off .now) (a .cols .now) (a .m) (a .p .now) (s .pre .0) (a .lp .now) (a .li .now) (s .pre .1) (a .which) (a .i) (s .pre .2) (l .t) (j .result) (l .inv .0) up (j .ensures) (a .index .now) (l .index) (a .start) (l .at) (a .count) (l .n) (l .inv .3) (length (l .index)) (omega (arith, s .pre .5, l .inv .2)),
+      s .pre .6,
+      s .pre .7,
+      s .pre .8,
+    )
+
+add-t : tie.Need-add-t Inv-loop μ-loop
+add-t c =
+    let s = c .before .before .before .before .before .before .before .before .before .before .before .before .before .before .before .before .before in
+    let a = s .args in
+    let l = c .before .before .before .before .before .before .before .loop in
+    omega (arith, c .before .before .before .before .before .before .loop-test .taken, c .before .before .before .before .before .before .before .before .before .word-at .ensures, law.rows-fit (bit (a .p .now)) (a .lp .now) (a .li .now) (a .m) (s .pre .1) (a .i + 1) (omega (arith, s .pre .2)), s .pre .1 .short)
+
+loop-less : tie.Need-loop-less Inv-loop μ-loop
+loop-less c = omega (arith, c .before .before .before .before .before .before .loop-test .taken)
+
+loop-again : tie.Need-loop-again Inv-loop μ-loop
+loop-again c =
+    let s = c .before .before .before .before .before .before .before .before .before .before .before .before .before .before .before .before .before in
+    let a = s .args in
+    let l = c .before .before .before .before .before .before .before .loop in
+    let j = c .before .before .before .before .before .byte-at in
+    let q = c .before .before .put-piece in
+    let up : l .t < getD (a .lp .now) (a .i + 1) 0 = omega (arith, c .before .before .before .before .before .before .loop-test .taken, c .before .before .before .before .before .before .before .before .before .word-at .ensures) in (
+      omega (arith, l .inv .0),
+      omega (arith, up),
+      q .kept .1 .1 .1 .1 .1 .1 .1 .1 .1 .1 .1 .1 .1 .0 ∙ l .inv .2,
+      turns.turn-next (a .off .now) (a .cols .now) (a .m) (a .p .now) (s .pre .0) (a .lp .now) (a .li .now) (s .pre .1) (a .which) (a .i) (s .pre .2) (l .t) (j .result) (l .inv .0) up (j .ensures) (a .index .now) (l .index) (a .start) (l .at) (a .count) (l .n) (l .inv .3) (q .last .1 .1 .1 .1 .1 .1 .1 .1 .1 .1 .1 .1 .1 .0) (c .before .before .before .before .weigh .result) (q .result) (c .before .before .before .before .weigh .ensures .0) (c .before .before .before .before .weigh .ensures .1) (q .ensures),
+    )
+
+same-length : tie.Need-same-length Inv-loop μ-loop
+same-length c = c .before .loop .inv .2
+
+returns : tie.Need-returns Inv-loop μ-loop
+returns c =
+    let s = c .before .before .before .before .before .before .before .before .before .before .before in
+    let a = s .args in
+    let l = c .before .loop in
+    turns.turned-end (a .off .now) (a .cols .now) (a .m) (a .p .now) (s .pre .0) (a .lp .now) (a .li .now) (s .pre .1) (a .which) (a .i) (s .pre .2) (a .index .now) (l .index) (a .start) (l .at) (a .count) (l .n) (l .t) (omega (arith, l .inv .1, c .loop-test .left, c .before .before .before .word-at .ensures)) (s .pre .3) (s .pre .4) (l .inv .3)
+
+pub fill-row-spec : {M : Type 1} → statement M
+fill-row-spec =
+    tie.close
+    (tie.spec
+    Inv-loop
+    μ-loop
+    add-word-at
+    word-at-requires
+    word-at-requires-2
+    loop-holds
+    byte-at-requires
+    weigh-requires
+    add-n
+    put-piece-requires
+    add-t
+    loop-less
+    loop-again
+    same-length
+    returns)

@@ -1,0 +1,28 @@
+-- `pairs::mark_for` meets its contract. Assumes nothing.
+use mathlib.Core.Path.{sym, _∙_}
+use mathlib.Core.Bool.{true≢false}
+use native.Mathlib.Omega.{arith}
+use borrow.Author.Needs.{needs}
+use Rattle.pair_lists.proofs.mark_for.Statement.{statement}
+use Rattle.pair_lists.proofs.mark_for.Tie as tie
+
+reads-marks-requires : tie.Need-reads-marks-requires
+reads-marks-requires c κs = search needs
+
+mark-row-requires : tie.Need-mark-row-requires
+mark-row-requires c κs = search needs
+
+same-length : tie.Need-same-length
+same-length c = search needs
+
+returns : tie.Need-returns
+returns c = search needs
+
+returns-2 : tie.Need-returns-2
+returns-2 c =
+    let s = c .before .before .before .before .before in
+    (λ e. absurd (true≢false (sym e ∙ sym (c .before .reads-marks .ensures) ∙ c .if1 .left)), λ x h. omega (arith, s .pre .3 x h, s .pre .0 .order (s .args .i) (s .pre .1)))
+
+pub mark-for-spec : {M : Type 1} → statement M
+mark-for-spec =
+    tie.close (tie.spec reads-marks-requires mark-row-requires same-length returns returns-2)

@@ -1,0 +1,67 @@
+-- `pairs::products` meets its contract. Assumes nothing.
+use Prim.Native.Nat.{_-_}
+use mathlib.Core.Path.{ap}
+use native.Mathlib.Omega.{arith}
+use lib.ListN.{length}
+use Rattle.pair_lists.proofs.Through as thru
+use Rattle.base.proofs.Write.{wrote-as}
+use borrow.Author.Needs.{needs}
+use Rattle.pair_lists.proofs.products.Statement.{statement}
+use Rattle.pair_lists.proofs.products.Tie as tie
+
+word-at-requires : tie.Need-word-at-requires
+word-at-requires c κs = search needs
+
+sub-places : tie.Need-sub-places
+sub-places c =
+    let s = c .before .before .before .before .before in
+    let a = s .args in
+    let h = thru.cut-fits (a .p .now) (a .lp .now) (a .li .now) (a .m) (a .r) (a .q) (a .t) (c .word-at .result) (s .pre .1) (s .pre .2) (s .pre .4) (s .pre .5) (c .word-at .ensures) in
+    omega (arith, h .0, h .1, h .2)
+
+part-places-start : tie.Need-part-places-start
+part-places-start c = search needs
+
+part-places-end : tie.Need-part-places-end
+part-places-end c =
+    let s = c .before .before .before .before .before in
+    let a = s .args in
+    let h = thru.cut-fits (a .p .now) (a .lp .now) (a .li .now) (a .m) (a .r) (a .q) (a .t) (c .word-at .result) (s .pre .1) (s .pre .2) (s .pre .4) (s .pre .5) (c .word-at .ensures) in
+    omega (arith, h .0, h .1, h .2)
+
+cast-places : tie.Need-cast-places
+cast-places c =
+    let s = c .before .before .before .before .before .before in
+    let a = s .args in
+    let h = thru.cut-fits (a .p .now) (a .lp .now) (a .li .now) (a .m) (a .r) (a .q) (a .t) (c .before .word-at .result) (s .pre .1) (s .pre .2) (s .pre .4) (s .pre .5) (c .before .word-at .ensures) in
+    omega (arith, h .0, h .1, h .2)
+
+places-requires : tie.Need-places-requires
+places-requires c κs =
+    let s = c .before .before .before .before .before .before .before in
+    let a = s .args in
+    let w = c .before .before .word-at in
+    (s .pre .0, s .pre .3, thru.cut-below (a .p .now) (a .lp .now) (a .li .now) (a .m) (a .r) (a .q) (a .t) (w .result) (s .pre .1) (s .pre .2) (s .pre .4) (s .pre .5) (w .ensures), thru.cut-short (a .p .now) (a .lp .now) (a .li .now) (a .m) (a .r) (a .q) (a .t) (w .result) (s .pre .1) (s .pre .2) (s .pre .4) (s .pre .5) (w .ensures), omega (arith, s .pre .6, ap length (thru.cut-walk (a .p .now) (a .lp .now) (a .li .now) (a .m) (a .r) (a .q) (a .t) (w .result) (s .pre .1) (s .pre .2) (s .pre .4) (s .pre .5) (w .ensures))))
+
+same-length : tie.Need-same-length
+same-length c = search needs
+
+returns : tie.Need-returns
+returns c =
+    let s = c .before .before .before .before .before .before .before .before .before .before in
+    let a = s .args in
+    let w = c .before .before .before .before .before .word-at in
+    wrote-as (a .index .now) (c .before .before .places .last .1 .1 .1 .1 .0) (a .start) (c .before .before .places .result) _ _ (thru.cut-walk (a .p .now) (a .lp .now) (a .li .now) (a .m) (a .r) (a .q) (a .t) (w .result) (s .pre .1) (s .pre .2) (s .pre .4) (s .pre .5) (w .ensures)) (c .before .before .places .ensures)
+
+pub products-spec : {M : Type 1} → statement M
+products-spec =
+    tie.close
+    (tie.spec
+    word-at-requires
+    sub-places
+    part-places-start
+    part-places-end
+    cast-places
+    places-requires
+    same-length
+    returns)

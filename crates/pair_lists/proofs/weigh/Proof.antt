@@ -1,0 +1,161 @@
+-- `pairs::weigh` meets its contract. Assumes nothing.
+use Prim.Native.Nat.{_-_}
+use mathlib.Core.Path.{sym, ap, _∙_}
+use native.Mathlib.Omega.{arith}
+use Rattle.base.specs.Sums.{one}
+use Rattle.lists.specs.declared.Which.{Which}
+use Rattle.pair_lists.specs.Kept.{marksRead}
+use Rattle.lists.specs.Lists.{weight, shape}
+use Rattle.lists.proofs.Counts.{both-weight}
+use borrow.Author.Needs.{needs}
+use Rattle.pair_lists.proofs.weigh.Statement.{statement}
+use Rattle.pair_lists.proofs.weigh.Tie as tie
+
+enum-told : tie.Need-enum-told
+enum-told c = search needs
+
+count-shared-requires : tie.Need-count-shared-requires
+count-shared-requires c κs = let s = c .before .before .before .before .before .before in (s .pre .3, s .pre .1, omega (arith, s .pre .1, s .pre .2), s .pre .4, s .pre .5 (ap marksRead (c .enum-told .given .1)))
+
+cast-result : tie.Need-cast-result
+cast-result c = omega (arith, c .count-shared .ensures .1, c .before .before .before .before .before .before .before .pre .0 .csr .nnz)
+
+enum-told-2 : tie.Need-enum-told-2
+enum-told-2 c = search needs
+
+both-ones-requires : tie.Need-both-ones-requires
+both-ones-requires c κs = let s = c .before .before .before .before .before .before in (s .pre .0 .words, omega (arith, s .pre .1, s .pre .0 .csr .few), omega (arith, s .pre .1, s .pre .2, s .pre .0 .csr .few))
+
+test-requires : tie.Need-test-requires
+test-requires c κs = let s = c .before .before .before .before .before .before .before in (s .pre .0 .words, omega (arith, s .pre .1, s .pre .0 .csr .few), omega (arith, s .pre .1, s .pre .2, s .pre .0 .csr .few))
+
+sub-result : tie.Need-sub-result
+sub-result c =
+    let s = c .before .before .before .before .before .before .before .before .before in
+    let b = ap one (sym (c .before .test .ensures) ∙ c .if1 .taken) in
+    omega (arith, b, both-weight (s .args .off .now) (s .args .cols .now) (s .args .m) (s .args .p .now) (s .pre .0) (s .args .i) (s .args .j) (s .pre .1) (s .pre .2), c .before .before .both-ones .ensures .0)
+
+enum-told-3 : tie.Need-enum-told-3
+enum-told-3 c = search needs
+
+enum-told-4 : tie.Need-enum-told-4
+enum-told-4 c = search needs
+
+enum-told-5 : tie.Need-enum-told-5
+enum-told-5 c = search needs
+
+enum-told-6 : tie.Need-enum-told-6
+enum-told-6 c = search needs
+
+enum-told-7 : tie.Need-enum-told-7
+enum-told-7 c = search needs
+
+enum-told-8 : tie.Need-enum-told-8
+enum-told-8 c = search needs
+
+enum-told-9 : tie.Need-enum-told-9
+enum-told-9 c = search needs
+
+enum-told-10 : tie.Need-enum-told-10
+enum-told-10 c = search needs
+
+returns : tie.Need-returns
+unfolding weight
+returns c =
+    let s = c .before .before .before .before .before .before .before in (
+      c .count-shared .ensures .0 ∙ ap (λ (w : Which). weight (shape (s .args .off .now) (s .args .cols .now)) w (s .args .i) (s .args .j)) (sym (c .before .enum-told .given .1)),
+      omega (arith, c .count-shared .ensures .1, s .pre .0 .csr .nnz),
+    )
+
+returns-2 : tie.Need-returns-2
+returns-2 c =
+    let s = c .before .before .before .before .before .before .before .before .before in
+    let e = ap (λ (w : Which). weight (shape (s .args .off .now) (s .args .cols .now)) w (s .args .i) (s .args .j)) (c .before .before .before .enum-told2 .given .1) in
+    let b = ap one (sym (c .before .test .ensures) ∙ c .if1 .taken) in
+    (omega (arith, e, b, both-weight (s .args .off .now) (s .args .cols .now) (s .args .m) (s .args .p .now) (s .pre .0) (s .args .i) (s .args .j) (s .pre .1) (s .pre .2), c .before .before .both-ones .ensures .0), omega (arith, c .before .before .both-ones .ensures .1))
+
+returns-3 : tie.Need-returns-3
+returns-3 c =
+    let s = c .before .before .before .before .before .before .before .before .before in
+    let e = ap (λ (w : Which). weight (shape (s .args .off .now) (s .args .cols .now)) w (s .args .i) (s .args .j)) (c .before .before .before .enum-told2 .given .1) in
+    let b = ap one (sym (c .before .test .ensures) ∙ c .if1 .left) in
+    (omega (arith, e, b, both-weight (s .args .off .now) (s .args .cols .now) (s .args .m) (s .args .p .now) (s .pre .0) (s .args .i) (s .args .j) (s .pre .1) (s .pre .2), c .before .before .both-ones .ensures .0), omega (arith, c .before .before .both-ones .ensures .1))
+
+returns-4 : tie.Need-returns-4
+unfolding weight
+returns-4 c =
+    let s = c .before .before .before .before .before .before in
+    (sym (ap (λ (w : Which). weight (shape (s .args .off .now) (s .args .cols .now)) w (s .args .i) (s .args .j)) (c .enum-told3 .given .1)), omega arith)
+
+returns-5 : tie.Need-returns-5
+unfolding weight
+returns-5 c =
+    let s = c .before .before .before .before .before .before in
+    (sym (ap (λ (w : Which). weight (shape (s .args .off .now) (s .args .cols .now)) w (s .args .i) (s .args .j)) (c .enum-told4 .given .1)), omega arith)
+
+returns-6 : tie.Need-returns-6
+unfolding weight
+returns-6 c =
+    let s = c .before .before .before .before .before .before in
+    (sym (ap (λ (w : Which). weight (shape (s .args .off .now) (s .args .cols .now)) w (s .args .i) (s .args .j)) (c .enum-told5 .given .1)), omega arith)
+
+returns-7 : tie.Need-returns-7
+unfolding weight
+returns-7 c =
+    let s = c .before .before .before .before .before .before in
+    (sym (ap (λ (w : Which). weight (shape (s .args .off .now) (s .args .cols .now)) w (s .args .i) (s .args .j)) (c .enum-told6 .given .1)), omega arith)
+
+returns-8 : tie.Need-returns-8
+unfolding weight
+returns-8 c =
+    let s = c .before .before .before .before .before .before in
+    (sym (ap (λ (w : Which). weight (shape (s .args .off .now) (s .args .cols .now)) w (s .args .i) (s .args .j)) (c .enum-told7 .given .1)), omega arith)
+
+returns-9 : tie.Need-returns-9
+unfolding weight
+returns-9 c =
+    let s = c .before .before .before .before .before .before in
+    (sym (ap (λ (w : Which). weight (shape (s .args .off .now) (s .args .cols .now)) w (s .args .i) (s .args .j)) (c .enum-told8 .given .1)), omega arith)
+
+returns-10 : tie.Need-returns-10
+unfolding weight
+returns-10 c =
+    let s = c .before .before .before .before .before .before in
+    (sym (ap (λ (w : Which). weight (shape (s .args .off .now) (s .args .cols .now)) w (s .args .i) (s .args .j)) (c .enum-told9 .given .1)), omega arith)
+
+returns-11 : tie.Need-returns-11
+unfolding weight
+returns-11 c =
+    let s = c .before .before .before .before .before .before in
+    (sym (ap (λ (w : Which). weight (shape (s .args .off .now) (s .args .cols .now)) w (s .args .i) (s .args .j)) (c .enum-told10 .given .1)), omega arith)
+
+pub weigh-spec : {M : Type 1} → statement M
+weigh-spec =
+    tie.close
+    (tie.spec
+    enum-told
+    count-shared-requires
+    cast-result
+    enum-told-2
+    both-ones-requires
+    test-requires
+    sub-result
+    enum-told-3
+    enum-told-4
+    enum-told-5
+    enum-told-6
+    enum-told-7
+    enum-told-8
+    enum-told-9
+    enum-told-10
+    returns
+    returns-2
+    returns-3
+    returns-4
+    returns-5
+    returns-6
+    returns-7
+    returns-8
+    returns-9
+    returns-10
+    returns-11)

@@ -1,0 +1,349 @@
+// The ten lists that are written pair by pair, for the stored pairs of the factor.
+ghost use mathlib.Core.Path.{_≡_};
+ghost use mathlib.Core.List.{[], _∷_};
+ghost use mathlib.Core.Bool.{true, false};
+ghost use Prim.Native.Nat.{ℕ, suc, _+_, _*_, _<_, _≤_};
+ghost use lib.ListN.{length, getD};
+ghost use Rattle.pattern.specs.Word.{bit};
+ghost use Rattle.base.specs.Sums.{sum};
+ghost use Rattle.base.specs.Cat.{Wrote, cat, pick};
+ghost use Rattle.base.specs.Numbers.{Below};
+ghost use Rattle.lists.specs.Lists.{shape, walkOf, piece, weight, before, listOf, tenOf};
+ghost use Rattle.lists.specs.Ready.{Ready};
+ghost use Rattle.pair_lists.specs.Kept.{kept, Rows, placesOf, marksRead};
+ghost use Rattle.shared_columns.specs.Marked.{Marked};
+ghost use Rattle.transpose.specs.Bins.{Grid};
+ghost use Rattle.csr.specs.Pattern.{row};
+use lists::Take;
+use lists::Which;
+
+// Row i of the pattern as a list of bytes.
+pub fn list_row(p: &[u64], i: usize, li: &mut [u8], start: usize) -> usize
+    requires { ⌜ (length (now p) ≡ 1024) × (i < 256) × (start + i + 1 ≤ length (now li)) ⌝ }
+    ensures { λ r. ⌜ Wrote (now (li .entry)) (now (li .exit)) start (kept (bit (now (p .entry)) i) (i + 1)) r ⌝ }
+{
+    let mut at = start;
+    let mut k: usize = 0;
+    while k <= i {
+        at = keep_byte(li, at, pattern::test(p, i, k), k as u8);
+        k += 1;
+    }
+    at
+}
+
+// The rows of the pattern as lists: their offsets and their columns.
+pub fn list_rows(p: &[u64], m: usize, lp: &mut [u32], li: &mut [u8])
+    requires { ⌜ (length (now p) ≡ 1024) × (m ≤ 256) × (m < length (now lp)) × (sum m suc ≤ length (now li)) × (length (now li) ≤ 65536) ⌝ }
+    ensures { λ _. ⌜ Rows (bit (now (p .entry))) (now (lp .exit)) (now (li .exit)) m ⌝ }
+{
+    base::store(lp, 0, 0);
+    let mut at: usize = 0;
+    let mut i: usize = 0;
+    while i < m {
+        at = list_row(p, i, li, at);
+        i += 1;
+        base::store(lp, i, at as u32);
+    }
+}
+
+// The places, from base on, of the numbers of a list that row q of the pattern holds.
+pub fn places(p: &[u64], q: usize, l: &[u8], base: u32, index: &mut [u32], start: usize) -> usize
+    requires { ⌜ (length (now p) ≡ 1024) × (q < 256) × Below 256 (now l) × (base + length (now l) ≤ 65536) × (start + length (placesOf (bit (now p) q) base (now l)) ≤ length (now index)) ⌝ }
+    ensures { λ r. ⌜ Wrote (now (index .entry)) (now (index .exit)) start (placesOf (bit (now (p .entry)) q) base (now (l .entry))) r ⌝ }
+{
+    let mut at = start;
+    let mut t: usize = 0;
+    while t < l.len() {
+        let k = byte_at(l, t);
+        at = base::keep(index, at, pattern::test(p, q, k), base + (t as u32));
+        t += 1;
+    }
+    at
+}
+
+// What stands in row r before its entry at t, and in row q too, by its place.
+pub fn products(
+    p: &[u64],
+    lp: &[u32],
+    li: &[u8],
+    m: usize,
+    r: usize,
+    q: usize,
+    t: usize,
+    index: &mut [u32],
+    start: usize,
+) -> usize
+    requires { ⌜ (length (now p) ≡ 1024) × Rows (bit (now p)) (now lp) (now li) m × (r < m) × (q < 256) × (getD (now lp) r 0 ≤ t) × (t < getD (now lp) (r + 1) 0) × (start + length (walkOf (bit (now p)) r q (getD (now li) t 0) (getD (now lp) r 0)) ≤ length (now index)) ⌝ }
+    ensures { λ x. ⌜ Wrote (now (index .entry)) (now (index .exit)) start (walkOf (bit (now (p .entry))) r q (getD (now (li .entry)) t 0) (getD (now (lp .entry)) r 0)) x ⌝ }
+{
+    let a = base::word_at(lp, r);
+    places(p, q, &li[a..t], a as u32, index, start)
+}
+
+// Does a list read the marks of a row?
+fn reads_marks(which: Which) -> bool
+    ensures { λ r. ⌜ r ≡ marksRead which ⌝ }
+{
+    match which {
+        Which::AnormIndptr => true,
+        Which::AnormIndptrI => true,
+        Which::AnormIndptrJ => true,
+        Which::AnormIndices => true,
+        Which::LdecompIndptr => false,
+        Which::LdecompIndptrI => false,
+        Which::LdecompIndptrJ => false,
+        Which::Lindptr => false,
+        Which::LdiagIndptr => false,
+        Which::Lindices => false,
+    }
+}
+
+// Row i marked for a list that reads the marks.
+fn mark_for(
+    which: Which,
+    off: &[u32],
+    cols: &[u32],
+    m: usize,
+    wide: usize,
+    i: usize,
+    mark: &mut [u32],
+)
+    requires { ⌜ Grid (now off) (now cols) m wide × (i < m) × (wide ≤ length (now mark)) × ((c : ℕ) → c < wide → getD (now mark) c 0 ≤ getD (now off) i 0) ⌝ }
+    ensures now { λ _. ⌜ (marksRead which ≡ true → Marked (now (mark .exit)) (getD (now (off .entry)) i 0) (row (now (off .entry)) (now (cols .entry)) i) wide) ⌝ }
+    ensures next { λ _. ⌜ ((c : ℕ) → c < wide → getD (now (mark .exit)) c 0 ≤ getD (now (off .entry)) (i + 1) 0) ⌝ }
+{
+    if reads_marks(which) {
+        shared_columns::mark_row(off, cols, m, wide, i, mark);
+    }
+}
+
+// What a list of ends counts at (i, j). Row i is marked.
+pub fn weigh(
+    which: Which,
+    off: &[u32],
+    cols: &[u32],
+    m: usize,
+    p: &[u64],
+    wide: usize,
+    mark: &[u32],
+    i: usize,
+    j: usize,
+) -> u32
+    requires { ⌜ Ready (now off) (now cols) m (now p) × (i < m) × (j ≤ i) × Grid (now off) (now cols) m wide × (wide ≤ length (now mark)) × (marksRead which ≡ true → Marked (now mark) (getD (now off) i 0) (row (now off) (now cols) i) wide) ⌝ }
+    ensures { λ r. ⌜ (r ≡ weight (shape (now (off .entry)) (now (cols .entry))) which i j) × (r ≤ 16384) ⌝ }
+{
+    match which {
+        Which::AnormIndptr => shared_columns::count_shared(off, cols, m, wide, mark, i, j) as u32,
+        Which::LdecompIndptr => {
+            let t = pattern::both_ones(p, i, j);
+            if pattern::test(p, i, j) { t - 1 } else { t }
+        }
+        Which::AnormIndptrI => 0,
+        Which::AnormIndptrJ => 0,
+        Which::AnormIndices => 0,
+        Which::LdecompIndptrI => 0,
+        Which::LdecompIndptrJ => 0,
+        Which::Lindptr => 0,
+        Which::LdiagIndptr => 0,
+        Which::Lindices => 0,
+    }
+}
+
+// What the stored pair (i, j) adds to a list. t is its place among the stored, n what the list has counted.
+pub fn put_piece(
+    which: Which,
+    off: &[u32],
+    cols: &[u32],
+    m: usize,
+    p: &[u64],
+    lp: &[u32],
+    li: &[u8],
+    wide: usize,
+    mark: &[u32],
+    i: usize,
+    j: usize,
+    t: usize,
+    n: u32,
+    index: &mut [u32],
+    start: usize,
+) -> usize
+    requires { ⌜ Ready (now off) (now cols) m (now p) × Rows (bit (now p)) (now lp) (now li) m × (i < m) × (getD (now lp) i 0 ≤ t) × (t < getD (now lp) (i + 1) 0) × (j ≡ getD (now li) t 0) × (n ≡ before (weight (shape (now off) (now cols)) which) i (suc j)) × (start + length (piece (shape (now off) (now cols)) which i j) ≤ length (now index)) × Grid (now off) (now cols) m wide × (wide ≤ length (now mark)) × (marksRead which ≡ true → Marked (now mark) (getD (now off) i 0) (row (now off) (now cols) i) wide) ⌝ }
+    ensures { λ r. ⌜ Wrote (now (index .entry)) (now (index .exit)) start (piece (shape (now (off .entry)) (now (cols .entry))) which i j) r ⌝ }
+{
+    match which {
+        Which::AnormIndptr => base::word(index, start, n),
+        Which::AnormIndptrI => shared_columns::shared_marked(
+            Take::Left,
+            off,
+            cols,
+            m,
+            wide,
+            mark,
+            i,
+            j,
+            index,
+            start,
+        ),
+        Which::AnormIndptrJ => shared_columns::shared_marked(
+            Take::Right,
+            off,
+            cols,
+            m,
+            wide,
+            mark,
+            i,
+            j,
+            index,
+            start,
+        ),
+        Which::AnormIndices => shared_columns::shared_marked(
+            Take::Column,
+            off,
+            cols,
+            m,
+            wide,
+            mark,
+            i,
+            j,
+            index,
+            start,
+        ),
+        Which::LdecompIndptr => base::word(index, start, n),
+        Which::LdecompIndptrI => products(p, lp, li, m, i, j, t, index, start),
+        Which::LdecompIndptrJ => products(
+            p,
+            lp,
+            li,
+            m,
+            j,
+            i,
+            base::word_at(lp, j + 1) - 1,
+            index,
+            start,
+        ),
+        Which::Lindptr => base::keep(index, start, j == i, (t as u32) + 1),
+        Which::LdiagIndptr => base::keep(index, start, j == i, t as u32),
+        Which::Lindices => base::word(index, start, j as u32),
+    }
+}
+
+pub struct Spot {
+    pub at: usize,
+    pub n: u32,
+}
+
+// What row i adds to a list: one stored pair after the other.
+pub fn fill_row(
+    which: Which,
+    off: &[u32],
+    cols: &[u32],
+    m: usize,
+    p: &[u64],
+    lp: &[u32],
+    li: &[u8],
+    wide: usize,
+    mark: &[u32],
+    i: usize,
+    count: u32,
+    index: &mut [u32],
+    start: usize,
+) -> Spot
+    requires { ⌜ Ready (now off) (now cols) m (now p) × Rows (bit (now p)) (now lp) (now li) m × (i < m) × (count ≡ before (weight (shape (now off) (now cols)) which) i 0) × (count ≤ 4210688 * i) × (start + length (cat (i + 1) (piece (shape (now off) (now cols)) which i)) ≤ length (now index)) × Grid (now off) (now cols) m wide × (wide ≤ length (now mark)) × (marksRead which ≡ true → Marked (now mark) (getD (now off) i 0) (row (now off) (now cols) i) wide) ⌝ }
+    ensures { λ r. ⌜ Wrote (now (index .entry)) (now (index .exit)) start (cat (i + 1) (piece (shape (now (off .entry)) (now (cols .entry))) which i)) (r .at) × (r .n ≡ before (weight (shape (now (off .entry)) (now (cols .entry))) which) (i + 1) 0) × (r .n ≤ 4210688 * (i + 1)) ⌝ }
+{
+    let b = base::word_at(lp, i + 1);
+    let mut at = start;
+    let mut n = count;
+    let mut t = base::word_at(lp, i);
+    while t < b {
+        let j = byte_at(li, t);
+        n += weigh(which, off, cols, m, p, wide, mark, i, j);
+        at = put_piece(
+            which,
+            off,
+            cols,
+            m,
+            p,
+            lp,
+            li,
+            wide,
+            mark,
+            i,
+            j,
+            t,
+            n,
+            index,
+            at,
+        );
+        t += 1;
+    }
+    Spot { at, n }
+}
+
+// One of the ten lists that are written pair by pair.
+pub fn fill(
+    which: Which,
+    off: &[u32],
+    cols: &[u32],
+    m: usize,
+    p: &[u64],
+    lp: &[u32],
+    li: &[u8],
+    wide: usize,
+    mark: &mut [u32],
+    index: &mut [u32],
+    start: usize,
+) -> usize
+    requires { ⌜ Ready (now off) (now cols) m (now p) × Rows (bit (now p)) (now lp) (now li) m × (start + length (listOf (shape (now off) (now cols)) which m) ≤ length (now index)) × Grid (now off) (now cols) m wide × (wide ≤ length (now mark)) × ((c : ℕ) → c < wide → getD (now mark) c 0 ≤ getD (now off) 0 0) ⌝ }
+    ensures { λ r. ⌜ Wrote (now (index .entry)) (now (index .exit)) start (listOf (shape (now (off .entry)) (now (cols .entry))) which m) r ⌝ }
+{
+    let mut at = base::keep(index, start, lists::has_head(which), 0);
+    let mut n: u32 = 0;
+    let mut i: usize = 0;
+    while i < m {
+        mark_for(which, off, cols, m, wide, i, mark);
+        let s = fill_row(which, off, cols, m, p, lp, li, wide, mark, i, n, index, at);
+        at = s.at;
+        n = s.n;
+        i += 1;
+    }
+    at
+}
+
+// The ten lists of pairs, one after the other.
+pub fn put_ten(
+    off: &[u32],
+    cols: &[u32],
+    m: usize,
+    p: &[u64],
+    lp: &[u32],
+    li: &[u8],
+    wide: usize,
+    mark: &mut [u32],
+    index: &mut [u32],
+    start: usize,
+) -> usize
+    requires { ⌜ Ready (now off) (now cols) m (now p) × Rows (bit (now p)) (now lp) (now li) m × (start + length (tenOf (shape (now off) (now cols)) m 10) ≤ length (now index)) × Grid (now off) (now cols) m wide × (wide ≤ length (now mark)) ⌝ }
+    ensures { λ r. ⌜ Wrote (now (index .entry)) (now (index .exit)) start (tenOf (shape (now (off .entry)) (now (cols .entry))) m 10) r ⌝ }
+{
+    let mut at = start;
+    let mut k: usize = 0;
+    while k < 10 {
+        base::clear(mark, wide);
+        at = fill(
+            lists::which_field(k),
+            off,
+            cols,
+            m,
+            p,
+            lp,
+            li,
+            wide,
+            mark,
+            index,
+            at,
+        );
+        k += 1;
+    }
+    at
+}

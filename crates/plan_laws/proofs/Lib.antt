@@ -1,0 +1,16 @@
+pub mod Parts
+pub mod Picked
+pub mod Ranks
+pub mod Picks
+pub mod Meets
+pub mod Turn
+pub mod Entry
+pub mod Loop
+pub mod Fill
+pub mod Rows
+pub mod Cols
+pub mod Low
+pub mod High
+pub mod Cuts
+pub mod Follows
+pub mod Few

@@ -1,0 +1,113 @@
+-- `shared::mark_row` meets its contract. Assumes nothing.
+use Prim.Native.Nat.{ℕ, _≤_, _<_, _+_, _-_}
+use mathlib.Core.Path.{_≡_, refl, sym, _∙_, subst}
+use mathlib.Core.List.{List}
+use native.Mathlib.Omega.{arith}
+use lib.ListN.{length, getD, set}
+use Rattle.shared_columns.proofs.Marks as marks
+use Rattle.csr.specs.Pattern.{row}
+use Rattle.transpose.proofs.Row as rowlaw
+use Rattle.lists.specs.declared.What.the-variants.{Numbers}
+use Rattle.shared_columns.proofs.mark_row.Statement.{statement}
+use Rattle.shared_columns.proofs.mark_row.Tie as tie
+
+abbrev Inv-loop : tie.InvT-loop
+Inv-loop off cols m n i mark₀ a b k₀ mark k = (getD off i 0 ≤ k) × (k ≤ getD off (i + 1) 0) × (length mark ≡ length mark₀) × marks.Marking mark (getD off i 0) (row off cols i) n (k - getD off i 0)
+
+abbrev μ-loop : tie.MeasureT-loop
+μ-loop off cols m n i mark₀ a b k₀ mark k = b - k
+
+word-at-requires : tie.Need-word-at-requires Inv-loop μ-loop
+word-at-requires c κs = let s = c .before .before .before in omega (arith, s .pre .0 .offsets, s .pre .1)
+
+add-word-at : tie.Need-add-word-at Inv-loop μ-loop
+add-word-at c = let s = c .before .before .before .before in omega (arith, s .pre .0 .few, s .pre .1)
+
+word-at-requires-2 : tie.Need-word-at-requires-2 Inv-loop μ-loop
+word-at-requires-2 c κs = let s = c .before .before .before .before in omega (arith, s .pre .0 .offsets, s .pre .1)
+
+loop-holds : tie.Need-loop-holds Inv-loop μ-loop
+loop-holds c =
+    let s = c .before .before .before .before .before in
+    let a = s .args in
+    (omega (arith, c .before .word-at .ensures), omega (arith, c .before .word-at .ensures, s .pre .0 .order (a .i) (s .pre .1)), refl, marks.marking-start (a .mark .now) (getD (a .off .now) (a .i) 0) (row (a .off .now) (a .cols .now) (a .i)) (a .n) (c .before .word-at .result - getD (a .off .now) (a .i) 0) (omega (arith, c .before .word-at .ensures)) (s .pre .3))
+
+word-at-requires-3 : tie.Need-word-at-requires-3 Inv-loop μ-loop
+word-at-requires-3 c κs =
+    let s = c .before .before .before .before .before .before .before in
+    omega (arith, c .loop-test .taken, c .before .before .word-at2 .ensures, s .pre .0 .ends (s .args .i + 1) (omega (arith, s .pre .1)))
+
+cast-store : tie.Need-cast-store Inv-loop μ-loop
+cast-store c =
+    let s = c .before .before .before .before .before .before .before .before .before in
+    omega (arith, c .before .before .loop-test .taken, c .before .before .before .before .word-at2 .ensures, s .pre .0 .ends (s .args .i + 1) (omega (arith, s .pre .1)), s .pre .0 .nnz)
+
+add-store : tie.Need-add-store Inv-loop μ-loop
+add-store c =
+    let s = c .before .before .before .before .before .before .before .before .before in
+    omega (arith, c .before .before .loop-test .taken, c .before .before .before .before .word-at2 .ensures, s .pre .0 .ends (s .args .i + 1) (omega (arith, s .pre .1)), s .pre .0 .nnz)
+
+store-requires : tie.Need-store-requires Inv-loop μ-loop
+store-requires c κs =
+    let s = c .before .before .before .before .before .before .before .before .before in
+    let a = s .args in
+    let l = c .before .before .before .loop in
+    omega (arith, s .pre .2, l .inv .2, rowlaw.e-below (a .off .now) (a .cols .now) (a .m) (a .n) (a .i) (s .pre .0) (s .pre .1) Numbers (l .k) (c .before .word-at3 .result) (a .i) (l .inv .0) (omega (arith, c .before .before .loop-test .taken, c .before .before .before .before .word-at2 .ensures)) (c .before .word-at3 .ensures) refl)
+
+add-k : tie.Need-add-k Inv-loop μ-loop
+add-k c =
+    let s = c .before .before .before .before .before .before .before .before .before .before .before .before in
+    omega (arith, c .before .before .before .before .before .loop-test .taken, c .before .before .before .before .before .before .before .word-at2 .ensures, s .pre .0 .ends (s .args .i + 1) (omega (arith, s .pre .1)), s .pre .0 .nnz)
+
+loop-less : tie.Need-loop-less Inv-loop μ-loop
+loop-less c = omega (arith, c .before .before .before .before .before .loop-test .taken)
+
+loop-again : tie.Need-loop-again Inv-loop μ-loop
+loop-again c =
+    let s = c .before .before .before .before .before .before .before .before .before .before .before .before in
+    let a = s .args in
+    let l = c .before .before .before .before .before .before .loop in
+    let w = c .before .before .before .before .word-at3 in
+    let q = c .before .before .store in
+    let lt : l .k < getD (a .off .now) (a .i + 1) 0 = omega (arith, c .before .before .before .before .before .loop-test .taken, c .before .before .before .before .before .before .before .word-at2 .ensures) in
+    let z : l .k - getD (a .off .now) (a .i) 0 + 1 ≡ l .k + 1 - getD (a .off .now) (a .i) 0 = omega (arith, l .inv .0) in (
+      omega (arith, l .inv .0),
+      omega (arith, lt),
+      q .kept .0 ∙ l .inv .2,
+      subst (λ (x : List ℕ). marks.Marking x (getD (a .off .now) (a .i) 0) (row (a .off .now) (a .cols .now) (a .i)) (a .n) (l .k + 1 - getD (a .off .now) (a .i) 0)) (sym (q .ensures))
+          (subst (λ (x : ℕ). marks.Marking (set (l .mark) (w .result) (l .k + 1)) (getD (a .off .now) (a .i) 0) (row (a .off .now) (a .cols .now) (a .i)) (a .n) x) z
+          (marks.marking-next (l .mark) (getD (a .off .now) (a .i) 0) (row (a .off .now) (a .cols .now) (a .i)) (a .n) (l .k - getD (a .off .now) (a .i) 0) (w .result) (l .k + 1) (s .pre .0 .rising (a .i) (s .pre .1)) (rowlaw.in-q (a .off .now) (a .cols .now) (a .m) (a .n) (a .i) (s .pre .0) (s .pre .1) Numbers (l .k) (w .result) (a .i) (l .inv .0) lt (w .ensures) refl) (rowlaw.e-at (a .off .now) (a .cols .now) (a .m) (a .n) (a .i) (s .pre .0) (s .pre .1) Numbers (l .k) (w .result) (a .i) (l .inv .0) lt (w .ensures) refl) (omega (arith, l .inv .0)) (omega (arith, s .pre .2, l .inv .2, rowlaw.e-below (a .off .now) (a .cols .now) (a .m) (a .n) (a .i) (s .pre .0) (s .pre .1) Numbers (l .k) (w .result) (a .i) (l .inv .0) lt (w .ensures) refl)) (l .inv .3))),
+    )
+
+same-length : tie.Need-same-length Inv-loop μ-loop
+same-length c = c .before .loop .inv .2
+
+returns : tie.Need-returns Inv-loop μ-loop
+returns c =
+    let s = c .before .before .before .before .before .before .before in
+    let a = s .args in
+    let l = c .before .loop in
+    let e : l .k ≡ getD (a .off .now) (a .i + 1) 0 = omega (arith, l .inv .1, c .loop-test .left, c .before .before .word-at2 .ensures) in (
+      marks.marking-end (l .mark) (getD (a .off .now) (a .i) 0) (row (a .off .now) (a .cols .now) (a .i)) (a .n) (l .k - getD (a .off .now) (a .i) 0) (omega (arith, e, rowlaw.row-long (a .off .now) (a .cols .now) (a .m) (a .n) (a .i) (s .pre .0) (s .pre .1))) (l .inv .3),
+      λ x h. omega (arith, l .inv .3 .top x h, e, l .inv .0),
+    )
+
+pub mark-row-spec : {M : Type 1} → statement M
+mark-row-spec =
+    tie.close
+    (tie.spec
+    Inv-loop
+    μ-loop
+    word-at-requires
+    add-word-at
+    word-at-requires-2
+    loop-holds
+    word-at-requires-3
+    cast-store
+    add-store
+    store-requires
+    add-k
+    loop-less
+    loop-again
+    same-length
+    returns)

@@ -1,0 +1,130 @@
+// What rows of the matrix share, found by marks: mark[c] is above off[i] just where row i holds column c.
+ghost use mathlib.Core.Path.{_≡_};
+ghost use Prim.Native.Nat.{ℕ, _+_, _<_, _≤_};
+ghost use lib.ListN.{length, getD, set};
+ghost use Rattle.csr.specs.Pattern.{row};
+ghost use Rattle.base.specs.Numbers.{Below};
+ghost use Rattle.csr.specs.Counts.{common};
+ghost use Rattle.base.specs.Cat.{Wrote};
+ghost use Rattle.lists.specs.Lists.{shape, chosen, sharedOf};
+ghost use Rattle.transpose.specs.Bins.{Grid};
+ghost use Rattle.shared_columns.specs.Marked.{Marked, hit, alongOf, marked, countOf};
+use lists::Take;
+
+// The columns of row i marked, above what earlier rows marked.
+pub fn mark_row(off: &[u32], cols: &[u32], m: usize, n: usize, i: usize, mark: &mut [u32])
+    requires { ⌜ Grid (now off) (now cols) m n × (i < m) × (n ≤ length (now mark)) × ((c : ℕ) → c < n → getD (now mark) c 0 ≤ getD (now off) i 0) ⌝ }
+    ensures now { λ _. ⌜ Marked (now (mark .exit)) (getD (now (off .entry)) i 0) (row (now (off .entry)) (now (cols .entry)) i) n ⌝ }
+    ensures next { λ _. ⌜ ((c : ℕ) → c < n → getD (now (mark .exit)) c 0 ≤ getD (now (off .entry)) (i + 1) 0) ⌝ }
+{
+    let a = word_at(off, i);
+    let b = word_at(off, i + 1);
+    let mut k = a;
+    while k < b {
+        let e = word_at(cols, k);
+        store(mark, e, (k as u32) + 1);
+        k += 1;
+    }
+}
+
+fn choose(take: Take, x: u32, y: u32, z: u32) -> u32
+    ensures { λ r. ⌜ r ≡ chosen take x y z ⌝ }
+{
+    match take {
+        Take::Left => x,
+        Take::Right => y,
+        Take::Column => z,
+    }
+}
+
+// A word for a marked column.
+fn hit_one(take: Take, mark: &[u32], lo: u32, y: u32, v: u32, index: &mut [u32], at: usize) -> usize
+    requires { ⌜ (v < length (now mark)) × (at + length (hit take (now mark) lo y v) ≤ length (now index)) ⌝ }
+    ensures { λ r. ⌜ Wrote (now (index .entry)) (now (index .exit)) at (hit take (now (mark .entry)) lo y v) r ⌝ }
+{
+    let w = mark[v as usize];
+    if lo < w {
+        base::word(index, at, choose(take, w - 1, y, v))
+    } else {
+        at
+    }
+}
+
+// The marked columns of a list.
+pub fn hits(
+    take: Take,
+    mark: &[u32],
+    lo: u32,
+    y: u32,
+    b: &[u32],
+    index: &mut [u32],
+    start: usize,
+) -> usize
+    requires { ⌜ Below (length (now mark)) (now b) × (y + length (now b) ≤ 65536) × (start + length (alongOf (hit take (now mark) lo) y (now b)) ≤ length (now index)) ⌝ }
+    ensures { λ r. ⌜ Wrote (now (index .entry)) (now (index .exit)) start (alongOf (hit take (now (mark .entry)) lo) y (now (b .entry))) r ⌝ }
+{
+    let mut at = start;
+    let mut q: usize = 0;
+    while q < b.len() {
+        let v = b[q];
+        at = hit_one(take, mark, lo, y + (q as u32), v, index, at);
+        q += 1;
+    }
+    at
+}
+
+// What rows i and j of the matrix share, by the marks of row i.
+pub fn shared_marked(
+    take: Take,
+    off: &[u32],
+    cols: &[u32],
+    m: usize,
+    wide: usize,
+    mark: &[u32],
+    i: usize,
+    j: usize,
+    index: &mut [u32],
+    start: usize,
+) -> usize
+    requires { ⌜ Grid (now off) (now cols) m wide × (i < m) × (j < m) × (wide ≤ length (now mark)) × Marked (now mark) (getD (now off) i 0) (row (now off) (now cols) i) wide × (start + length (sharedOf (shape (now off) (now cols)) take i j) ≤ length (now index)) ⌝ }
+    ensures { λ r. ⌜ Wrote (now (index .entry)) (now (index .exit)) start (sharedOf (shape (now (off .entry)) (now (cols .entry))) take i j) r ⌝ }
+{
+    let lo = word_at(off, i);
+    let a = word_at(off, j);
+    let b = word_at(off, j + 1);
+    hits(take, mark, lo as u32, a as u32, &cols[a..b], index, start)
+}
+
+// How many columns of the list are marked.
+fn count_marked(mark: &[u32], lo: u32, b: &[u32]) -> usize
+    requires { ⌜ Below (length (now mark)) (now b) ⌝ }
+    ensures { λ r. ⌜ (r ≡ countOf (marked (now (mark .entry)) lo) (now (b .entry))) × (r ≤ length (now (b .entry))) ⌝ }
+{
+    let mut n: usize = 0;
+    let mut q: usize = 0;
+    while q < b.len() {
+        let v = word_at(b, q);
+        if lo < mark[v] {
+            n += 1;
+        }
+        q += 1;
+    }
+    n
+}
+
+// How many columns rows i and j share. Row i is marked.
+pub fn count_shared(
+    off: &[u32],
+    cols: &[u32],
+    m: usize,
+    wide: usize,
+    mark: &[u32],
+    i: usize,
+    j: usize,
+) -> usize
+    requires { ⌜ Grid (now off) (now cols) m wide × (i < m) × (j < m) × (wide ≤ length (now mark)) × Marked (now mark) (getD (now off) i 0) (row (now off) (now cols) i) wide ⌝ }
+    ensures { λ r. ⌜ (r ≡ common (row (now (off .entry)) (now (cols .entry)) i) (row (now (off .entry)) (now (cols .entry)) j)) × (r ≤ length (now (cols .entry))) ⌝ }
+{
+    let lo = word_at(off, i);
+    count_marked(mark, lo as u32, csr::get_row(off, cols, j))
+}
