@@ -14,6 +14,12 @@ ghost use Rattle.pair_lists.specs.Kept.{kept, Rows, placesOf, marksRead}
 ghost use Rattle.shared_columns.specs.Marked.{Marked};
 ghost use Rattle.transpose.specs.Bins.{Grid};
 ghost use Rattle.csr.specs.Pattern.{row};
+use base::byte_at;
+use base::keep;
+use base::keep_byte;
+use base::store;
+use base::word;
+use base::word_at;
 use lists::Take;
 use lists::Which;
 
@@ -36,13 +42,13 @@ pub fn list_rows(p: &[u64], m: usize, lp: &mut [u32], li: &mut [u8])
     requires { ⌜ (length (now p) ≡ 1024) × (m ≤ 256) × (m < length (now lp)) × (sum m suc ≤ length (now li)) × (length (now li) ≤ 65536) ⌝ }
     ensures { λ _. ⌜ Rows (bit (now (p .entry))) (now (lp .exit)) (now (li .exit)) m ⌝ }
 {
-    base::store(lp, 0, 0);
+    store(lp, 0, 0);
     let mut at: usize = 0;
     let mut i: usize = 0;
     while i < m {
         at = list_row(p, i, li, at);
         i += 1;
-        base::store(lp, i, at as u32);
+        store(lp, i, at as u32);
     }
 }
 
@@ -55,7 +61,7 @@ pub fn places(p: &[u64], q: usize, l: &[u8], base: u32, index: &mut [u32], start
     let mut t: usize = 0;
     while t < l.len() {
         let k = byte_at(l, t);
-        at = base::keep(index, at, pattern::test(p, q, k), base + (t as u32));
+        at = keep(index, at, pattern::test(p, q, k), base + (t as u32));
         t += 1;
     }
     at
@@ -76,7 +82,7 @@ pub fn products(
     requires { ⌜ (length (now p) ≡ 1024) × Rows (bit (now p)) (now lp) (now li) m × (r < m) × (q < 256) × (getD (now lp) r 0 ≤ t) × (t < getD (now lp) (r + 1) 0) × (start + length (walkOf (bit (now p)) r q (getD (now li) t 0) (getD (now lp) r 0)) ≤ length (now index)) ⌝ }
     ensures { λ x. ⌜ Wrote (now (index .entry)) (now (index .exit)) start (walkOf (bit (now (p .entry))) r q (getD (now (li .entry)) t 0) (getD (now (lp .entry)) r 0)) x ⌝ }
 {
-    let a = base::word_at(lp, r);
+    let a = word_at(lp, r);
     places(p, q, &li[a..t], a as u32, index, start)
 }
 
@@ -171,7 +177,7 @@ pub fn put_piece(
     ensures { λ r. ⌜ Wrote (now (index .entry)) (now (index .exit)) start (piece (shape (now (off .entry)) (now (cols .entry))) which i j) r ⌝ }
 {
     match which {
-        Which::AnormIndptr => base::word(index, start, n),
+        Which::AnormIndptr => word(index, start, n),
         Which::AnormIndptrI => shared_columns::shared_marked(
             Take::Left,
             off,
@@ -208,22 +214,12 @@ pub fn put_piece(
             index,
             start,
         ),
-        Which::LdecompIndptr => base::word(index, start, n),
+        Which::LdecompIndptr => word(index, start, n),
         Which::LdecompIndptrI => products(p, lp, li, m, i, j, t, index, start),
-        Which::LdecompIndptrJ => products(
-            p,
-            lp,
-            li,
-            m,
-            j,
-            i,
-            base::word_at(lp, j + 1) - 1,
-            index,
-            start,
-        ),
-        Which::Lindptr => base::keep(index, start, j == i, (t as u32) + 1),
-        Which::LdiagIndptr => base::keep(index, start, j == i, t as u32),
-        Which::Lindices => base::word(index, start, j as u32),
+        Which::LdecompIndptrJ => products(p, lp, li, m, j, i, word_at(lp, j + 1) - 1, index, start),
+        Which::Lindptr => keep(index, start, j == i, (t as u32) + 1),
+        Which::LdiagIndptr => keep(index, start, j == i, t as u32),
+        Which::Lindices => word(index, start, j as u32),
     }
 }
 
@@ -251,10 +247,10 @@ pub fn fill_row(
     requires { ⌜ Ready (now off) (now cols) m (now p) × Rows (bit (now p)) (now lp) (now li) m × (i < m) × (count ≡ before (weight (shape (now off) (now cols)) which) i 0) × (count ≤ 4210688 * i) × (start + length (cat (i + 1) (piece (shape (now off) (now cols)) which i)) ≤ length (now index)) × Grid (now off) (now cols) m wide × (wide ≤ length (now mark)) × (marksRead which ≡ true → Marked (now mark) (getD (now off) i 0) (row (now off) (now cols) i) wide) ⌝ }
     ensures { λ r. ⌜ Wrote (now (index .entry)) (now (index .exit)) start (cat (i + 1) (piece (shape (now (off .entry)) (now (cols .entry))) which i)) (r .at) × (r .n ≡ before (weight (shape (now (off .entry)) (now (cols .entry))) which) (i + 1) 0) × (r .n ≤ 4210688 * (i + 1)) ⌝ }
 {
-    let b = base::word_at(lp, i + 1);
+    let b = word_at(lp, i + 1);
     let mut at = start;
     let mut n = count;
-    let mut t = base::word_at(lp, i);
+    let mut t = word_at(lp, i);
     while t < b {
         let j = byte_at(li, t);
         n += weigh(which, off, cols, m, p, wide, mark, i, j);
@@ -297,7 +293,7 @@ pub fn fill(
     requires { ⌜ Ready (now off) (now cols) m (now p) × Rows (bit (now p)) (now lp) (now li) m × (start + length (listOf (shape (now off) (now cols)) which m) ≤ length (now index)) × Grid (now off) (now cols) m wide × (wide ≤ length (now mark)) × ((c : ℕ) → c < wide → getD (now mark) c 0 ≤ getD (now off) 0 0) ⌝ }
     ensures { λ r. ⌜ Wrote (now (index .entry)) (now (index .exit)) start (listOf (shape (now (off .entry)) (now (cols .entry))) which m) r ⌝ }
 {
-    let mut at = base::keep(index, start, lists::has_head(which), 0);
+    let mut at = keep(index, start, lists::has_head(which), 0);
     let mut n: u32 = 0;
     let mut i: usize = 0;
     while i < m {

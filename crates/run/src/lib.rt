@@ -12,6 +12,7 @@ ghost use Rattle.lane_test.specs.Measures.{Measured};
 ghost use Rattle.step.specs.Steps.{Untouched};
 ghost use Rattle.run.specs.Tests.{memoryIn, callIn, Runs, Bears, Tested, Run};
 use kernels::one4;
+use lane_test::Measures;
 use lanes::LaneState;
 use lanes::add4;
 use layout::Block;
@@ -20,7 +21,6 @@ use machine::Outcome;
 use machine::Status;
 use step::normal_eqn_init;
 use step::step_lanes;
-use lane_test::Measures;
 
 fn one_more(size: [f64; 4]) -> [f64; 4]
     ensures { λ r. ⌜ r ≡ lanes (λ t. one ⊕ at size t) ⌝ }

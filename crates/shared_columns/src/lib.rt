@@ -9,6 +9,9 @@ ghost use Rattle.base.specs.Cat.{Wrote};
 ghost use Rattle.lists.specs.Lists.{shape, chosen, sharedOf};
 ghost use Rattle.transpose.specs.Bins.{Grid};
 ghost use Rattle.shared_columns.specs.Marked.{Marked, hit, alongOf, marked, countOf};
+use base::store;
+use base::word;
+use base::word_at;
 use lists::Take;
 
 // The columns of row i marked, above what earlier rows marked.
@@ -44,7 +47,7 @@ fn hit_one(take: Take, mark: &[u32], lo: u32, y: u32, v: u32, index: &mut [u32],
 {
     let w = mark[v as usize];
     if lo < w {
-        base::word(index, at, choose(take, w - 1, y, v))
+        word(index, at, choose(take, w - 1, y, v))
     } else {
         at
     }
