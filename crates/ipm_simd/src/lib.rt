@@ -248,7 +248,7 @@ fn solve_accepted(
         shared: sizes.s,
         products: sizes.d as usize,
     };
-    match ask_sizes(plan.words_at(), plan, lengths, limit) {
+    match ask_sizes(plan.words(), plan, lengths, limit) {
         Asked::Refused(r) => SolveAnswer::Refused(r),
         Asked::Good => solve_planned(
             plan,

@@ -1,5 +1,6 @@
 -- The regions of the working memory: x, z, dx, dz, tmp of n entries; y, dy, rhs of m; w, dw of s; l of E. Definitions only.
 use Prim.Native.Nat.{ℕ, _+_, _*_}
+use Rattle.layout.specs.declared.Plan.{Plan}
 use Rattle.layout.specs.declared.Regions.{Regions}
 
 abbrev pub yAt : ℕ → ℕ
@@ -43,3 +44,17 @@ regionsOf m n s =
 -- the largest number of 64 bits
 abbrev pub topWord : ℕ
 topWord = 18446744073709551615
+
+abbrev pub planOf : ℕ → ℕ → ℕ → ℕ → ℕ → ℕ → ℕ → Plan
+planOf m n s t stored shared products = record { m = m; n = n; s = s; t = t; stored = stored; shared = shared; products = products }
+
+-- where the factor begins in the working memory, and where it ends
+abbrev pub lIn : Plan → ℕ
+lIn p = lAt (p .n) (p .m) (p .s)
+
+abbrev pub topIn : Plan → ℕ
+topIn p = lIn p + p .stored
+
+-- 'F = 4(5n + 3m + 2s + E)', for so many lanes
+abbrev pub numbersOf : Plan → ℕ → ℕ
+numbersOf p K = K * (5 * p .n + 3 * p .m + 2 * p .s + p .stored)

@@ -4,6 +4,7 @@ use Prim.Native.Nat.{ℕ, _+_, _*_, _≤_}
 use lib.ListN.{length}
 use Rattle.base.specs.Numbers.{cut}
 use Rattle.layout.specs.declared.Plan.{Plan}
+use Rattle.layout.specs.declared.Starts.{Starts}
 use Rattle.layout.specs.Layout.{topWord}
 
 abbrev pub anormIndptrAt : Plan → ℕ
@@ -56,6 +57,29 @@ atmapAt p = atindicesAt p + p .t
 
 abbrev pub wordsAt : Plan → ℕ
 wordsAt p = atmapAt p + p .t
+
+-- where each list begins, and where the last ends
+abbrev pub startsOf : Plan → Starts
+startsOf p =
+    record {
+      «anorm_indptr» = anormIndptrAt p;
+      «anorm_indptr_i» = anormIndptrIAt p;
+      «anorm_indptr_j» = anormIndptrJAt p;
+      «anorm_indices» = anormIndicesAt p;
+      «ldecomp_indptr» = ldecompIndptrAt p;
+      «ldecomp_indptr_i» = ldecompIndptrIAt p;
+      «ldecomp_indptr_j» = ldecompIndptrJAt p;
+      lindptr = lindptrAt p;
+      «ldiag_indptr» = ldiagIndptrAt p;
+      lindices = lindicesAt p;
+      ltindptr = ltindptrAt p;
+      ltindices = ltindicesAt p;
+      ltmap = ltmapAt p;
+      atindptr = atindptrAt p;
+      atindices = atindicesAt p;
+      atmap = atmapAt p;
+      words = wordsAt p;
+    }
 
 -- each list, cut out of an index memory
 

@@ -3,8 +3,8 @@ ghost use mathlib.Core.Path.{_≡_};
 ghost use Prim.Native.Nat.{_*_, _≤_};
 ghost use lib.ListN.{length};
 ghost use Rattle.base.specs.Numbers.{cut};
-ghost use Rattle.layout.specs.Layout.{lAt, regionsOf, topWord};
-ghost use Rattle.layout.specs.Lists.{anormIndptrIAt, anormIndptrJAt, anormIndicesAt, ldecompIndptrAt, ldecompIndptrIAt, ldecompIndptrJAt, lindptrAt, ldiagIndptrAt, lindicesAt, ltindptrAt, ltindicesAt, ltmapAt, atindptrAt, atindicesAt, atmapAt, wordsAt, anormIndptrIn, anormIndptrIIn, anormIndptrJIn, anormIndicesIn, ldecompIndptrIn, ldecompIndptrIIn, ldecompIndptrJIn, lindptrIn, ldiagIndptrIn, lindicesIn, ltindptrIn, ltindicesIn, ltmapIn, atindptrIn, atindicesIn, atmapIn, Indexed};
+ghost use Rattle.layout.specs.Layout.{planOf, lAt, lIn, topIn, numbersOf, regionsOf, topWord};
+ghost use Rattle.layout.specs.Lists.{startsOf, wordsAt, anormIndptrIn, anormIndptrIIn, anormIndptrJIn, anormIndicesIn, ldecompIndptrIn, ldecompIndptrIIn, ldecompIndptrJIn, lindptrIn, ldiagIndptrIn, lindicesIn, ltindptrIn, ltindicesIn, ltmapIn, atindptrIn, atindicesIn, atmapIn, Indexed};
 
 // The sizes of a problem and of its plan: m rows, n columns, s slack rows, t entries of the matrix; E stored pairs, S shared columns, D products.
 pub struct Plan {
@@ -41,6 +41,27 @@ pub struct Regions {
     pub l: usize,
 }
 
+// Where each list of the index memory begins, by the Rust's names, and where the last ends. The last three lists are the matrix's columns.
+struct Starts {
+    anorm_indptr: usize,
+    anorm_indptr_i: usize,
+    anorm_indptr_j: usize,
+    anorm_indices: usize,
+    ldecomp_indptr: usize,
+    ldecomp_indptr_i: usize,
+    ldecomp_indptr_j: usize,
+    lindptr: usize,
+    ldiag_indptr: usize,
+    lindices: usize,
+    ltindptr: usize,
+    ltindices: usize,
+    ltmap: usize,
+    atindptr: usize,
+    atindices: usize,
+    atmap: usize,
+    words: usize,
+}
+
 // The elements from a to e - 1.
 fn between(s: &[u32], a: usize, e: usize) -> &[u32]
     requires { ⌜ (a ≤ e) × (e ≤ length (now s)) × (4 * a ≤ topWord) ⌝ }
@@ -56,9 +77,39 @@ impl Plan {
 
     pub const MAX_ENTRIES: usize = 16384;
 
+    pub fn new(
+        m: usize,
+        n: usize,
+        s: usize,
+        t: usize,
+        stored: usize,
+        shared: usize,
+        products: usize,
+    ) -> Self
+        ensures { λ r. ⌜ r ≡ planOf m n s t stored shared products ⌝ }
+    {
+        Self {
+            m,
+            n,
+            s,
+            t,
+            stored,
+            shared,
+            products,
+        }
+    }
+
+    // F: how many numbers the working memory of so many lanes has.
+    pub fn numbers(self, lanes: usize) -> usize
+        requires { ⌜ (topIn self ≤ topWord) × (numbersOf self lanes ≤ topWord) ⌝ }
+        ensures { λ r. ⌜ r ≡ numbersOf self lanes ⌝ }
+    {
+        lanes * (5 * self.n + 3 * self.m + 2 * self.s + self.stored)
+    }
+
     // Where each region of the working memory begins.
     pub fn regions(self) -> Regions
-        requires { ⌜ lAt (self .n) (self .m) (self .s) ≤ topWord ⌝ }
+        requires { ⌜ lIn self ≤ topWord ⌝ }
         ensures { λ r. ⌜ r ≡ regionsOf (self .m) (self .n) (self .s) ⌝ }
     {
         let m = self.m;
@@ -87,132 +138,61 @@ impl Plan {
         }
     }
 
-    // Where anorm_indptr_i begins, in the index memory.
-    pub fn anorm_indptr_i_at(self) -> usize
+    // Where each list of the index memory begins.
+    fn starts(self) -> Starts
         requires { ⌜ wordsAt self ≤ topWord ⌝ }
-        ensures { λ r. ⌜ r ≡ anormIndptrIAt self ⌝ }
+        ensures { λ r. ⌜ r ≡ startsOf self ⌝ }
     {
-        self.stored + 1
+        let m = self.m;
+        let n = self.n;
+        let t = self.t;
+        let stored = self.stored;
+        let shared = self.shared;
+        let products = self.products;
+        let anorm_indptr_i = stored + 1;
+        let anorm_indptr_j = anorm_indptr_i + shared;
+        let anorm_indices = anorm_indptr_j + shared;
+        let ldecomp_indptr = anorm_indices + shared;
+        let ldecomp_indptr_i = ldecomp_indptr + (stored + 1);
+        let ldecomp_indptr_j = ldecomp_indptr_i + products;
+        let lindptr = ldecomp_indptr_j + products;
+        let ldiag_indptr = lindptr + (m + 1);
+        let lindices = ldiag_indptr + m;
+        let ltindptr = lindices + stored;
+        let ltindices = ltindptr + (m + 1);
+        let ltmap = ltindices + stored;
+        let atindptr = ltmap + stored;
+        let atindices = atindptr + (n + 1);
+        let atmap = atindices + t;
+        let words = atmap + t;
+        Starts {
+            anorm_indptr: 0,
+            anorm_indptr_i,
+            anorm_indptr_j,
+            anorm_indices,
+            ldecomp_indptr,
+            ldecomp_indptr_i,
+            ldecomp_indptr_j,
+            lindptr,
+            ldiag_indptr,
+            lindices,
+            ltindptr,
+            ltindices,
+            ltmap,
+            atindptr,
+            atindices,
+            atmap,
+            words,
+        }
     }
 
-    // Where anorm_indptr_j begins, in the index memory.
-    pub fn anorm_indptr_j_at(self) -> usize
-        requires { ⌜ wordsAt self ≤ topWord ⌝ }
-        ensures { λ r. ⌜ r ≡ anormIndptrJAt self ⌝ }
-    {
-        self.anorm_indptr_i_at() + self.shared
-    }
-
-    // Where anorm_indices begins, in the index memory.
-    pub fn anorm_indices_at(self) -> usize
-        requires { ⌜ wordsAt self ≤ topWord ⌝ }
-        ensures { λ r. ⌜ r ≡ anormIndicesAt self ⌝ }
-    {
-        self.anorm_indptr_j_at() + self.shared
-    }
-
-    // Where ldecomp_indptr begins, in the index memory.
-    pub fn ldecomp_indptr_at(self) -> usize
-        requires { ⌜ wordsAt self ≤ topWord ⌝ }
-        ensures { λ r. ⌜ r ≡ ldecompIndptrAt self ⌝ }
-    {
-        self.anorm_indices_at() + self.shared
-    }
-
-    // Where ldecomp_indptr_i begins, in the index memory.
-    pub fn ldecomp_indptr_i_at(self) -> usize
-        requires { ⌜ wordsAt self ≤ topWord ⌝ }
-        ensures { λ r. ⌜ r ≡ ldecompIndptrIAt self ⌝ }
-    {
-        self.ldecomp_indptr_at() + (self.stored + 1)
-    }
-
-    // Where ldecomp_indptr_j begins, in the index memory.
-    pub fn ldecomp_indptr_j_at(self) -> usize
-        requires { ⌜ wordsAt self ≤ topWord ⌝ }
-        ensures { λ r. ⌜ r ≡ ldecompIndptrJAt self ⌝ }
-    {
-        self.ldecomp_indptr_i_at() + self.products
-    }
-
-    // Where lindptr begins, in the index memory.
-    pub fn lindptr_at(self) -> usize
-        requires { ⌜ wordsAt self ≤ topWord ⌝ }
-        ensures { λ r. ⌜ r ≡ lindptrAt self ⌝ }
-    {
-        self.ldecomp_indptr_j_at() + self.products
-    }
-
-    // Where ldiag_indptr begins, in the index memory.
-    pub fn ldiag_indptr_at(self) -> usize
-        requires { ⌜ wordsAt self ≤ topWord ⌝ }
-        ensures { λ r. ⌜ r ≡ ldiagIndptrAt self ⌝ }
-    {
-        self.lindptr_at() + (self.m + 1)
-    }
-
-    // Where lindices begins, in the index memory.
-    pub fn lindices_at(self) -> usize
-        requires { ⌜ wordsAt self ≤ topWord ⌝ }
-        ensures { λ r. ⌜ r ≡ lindicesAt self ⌝ }
-    {
-        self.ldiag_indptr_at() + self.m
-    }
-
-    // Where ltindptr begins, in the index memory.
-    pub fn ltindptr_at(self) -> usize
-        requires { ⌜ wordsAt self ≤ topWord ⌝ }
-        ensures { λ r. ⌜ r ≡ ltindptrAt self ⌝ }
-    {
-        self.lindices_at() + self.stored
-    }
-
-    // Where ltindices begins, in the index memory.
-    pub fn ltindices_at(self) -> usize
-        requires { ⌜ wordsAt self ≤ topWord ⌝ }
-        ensures { λ r. ⌜ r ≡ ltindicesAt self ⌝ }
-    {
-        self.ltindptr_at() + (self.m + 1)
-    }
-
-    // Where ltmap begins, in the index memory.
-    pub fn ltmap_at(self) -> usize
-        requires { ⌜ wordsAt self ≤ topWord ⌝ }
-        ensures { λ r. ⌜ r ≡ ltmapAt self ⌝ }
-    {
-        self.ltindices_at() + self.stored
-    }
-
-    // Where atindptr begins, in the index memory.
-    pub fn atindptr_at(self) -> usize
-        requires { ⌜ wordsAt self ≤ topWord ⌝ }
-        ensures { λ r. ⌜ r ≡ atindptrAt self ⌝ }
-    {
-        self.ltmap_at() + self.stored
-    }
-
-    // Where atindices begins, in the index memory.
-    pub fn atindices_at(self) -> usize
-        requires { ⌜ wordsAt self ≤ topWord ⌝ }
-        ensures { λ r. ⌜ r ≡ atindicesAt self ⌝ }
-    {
-        self.atindptr_at() + (self.n + 1)
-    }
-
-    // Where atmap begins, in the index memory.
-    pub fn atmap_at(self) -> usize
-        requires { ⌜ wordsAt self ≤ topWord ⌝ }
-        ensures { λ r. ⌜ r ≡ atmapAt self ⌝ }
-    {
-        self.atindices_at() + self.t
-    }
-
-    // How many words the plan has.
-    pub fn words_at(self) -> usize
+    // W: how many words the plan has.
+    pub fn words(self) -> usize
         requires { ⌜ wordsAt self ≤ topWord ⌝ }
         ensures { λ r. ⌜ r ≡ wordsAt self ⌝ }
     {
-        self.atmap_at() + self.t
+        let at = self.starts();
+        at.words
     }
 
     // The shared columns of entry e stand from number e of this list to number e + 1.
@@ -220,7 +200,8 @@ impl Plan {
         requires { ⌜ Indexed self (now index) ⌝ }
         ensures { λ r. ⌜ now r ≡ anormIndptrIn self (now (index .entry)) ⌝ }
     {
-        between(index, 0, self.anorm_indptr_i_at())
+        let at = self.starts();
+        between(index, at.anorm_indptr, at.anorm_indptr_i)
     }
 
     // Of each shared column, where the row's value stands.
@@ -228,7 +209,8 @@ impl Plan {
         requires { ⌜ Indexed self (now index) ⌝ }
         ensures { λ r. ⌜ now r ≡ anormIndptrIIn self (now (index .entry)) ⌝ }
     {
-        between(index, self.anorm_indptr_i_at(), self.anorm_indptr_j_at())
+        let at = self.starts();
+        between(index, at.anorm_indptr_i, at.anorm_indptr_j)
     }
 
     // Of each shared column, where the column's row has its value.
@@ -236,7 +218,8 @@ impl Plan {
         requires { ⌜ Indexed self (now index) ⌝ }
         ensures { λ r. ⌜ now r ≡ anormIndptrJIn self (now (index .entry)) ⌝ }
     {
-        between(index, self.anorm_indptr_j_at(), self.anorm_indices_at())
+        let at = self.starts();
+        between(index, at.anorm_indptr_j, at.anorm_indices)
     }
 
     // Of each shared column, which it is.
@@ -244,7 +227,8 @@ impl Plan {
         requires { ⌜ Indexed self (now index) ⌝ }
         ensures { λ r. ⌜ now r ≡ anormIndicesIn self (now (index .entry)) ⌝ }
     {
-        between(index, self.anorm_indices_at(), self.ldecomp_indptr_at())
+        let at = self.starts();
+        between(index, at.anorm_indices, at.ldecomp_indptr)
     }
 
     // The products of entry e stand from number e of this list to number e + 1.
@@ -252,7 +236,8 @@ impl Plan {
         requires { ⌜ Indexed self (now index) ⌝ }
         ensures { λ r. ⌜ now r ≡ ldecompIndptrIn self (now (index .entry)) ⌝ }
     {
-        between(index, self.ldecomp_indptr_at(), self.ldecomp_indptr_i_at())
+        let at = self.starts();
+        between(index, at.ldecomp_indptr, at.ldecomp_indptr_i)
     }
 
     // Of each product, its first entry.
@@ -260,11 +245,8 @@ impl Plan {
         requires { ⌜ Indexed self (now index) ⌝ }
         ensures { λ r. ⌜ now r ≡ ldecompIndptrIIn self (now (index .entry)) ⌝ }
     {
-        between(
-            index,
-            self.ldecomp_indptr_i_at(),
-            self.ldecomp_indptr_j_at(),
-        )
+        let at = self.starts();
+        between(index, at.ldecomp_indptr_i, at.ldecomp_indptr_j)
     }
 
     // Of each product, its second entry.
@@ -272,7 +254,8 @@ impl Plan {
         requires { ⌜ Indexed self (now index) ⌝ }
         ensures { λ r. ⌜ now r ≡ ldecompIndptrJIn self (now (index .entry)) ⌝ }
     {
-        between(index, self.ldecomp_indptr_j_at(), self.lindptr_at())
+        let at = self.starts();
+        between(index, at.ldecomp_indptr_j, at.lindptr)
     }
 
     // Row i of the factor stands from number i of this list to number i + 1.
@@ -280,7 +263,8 @@ impl Plan {
         requires { ⌜ Indexed self (now index) ⌝ }
         ensures { λ r. ⌜ now r ≡ lindptrIn self (now (index .entry)) ⌝ }
     {
-        between(index, self.lindptr_at(), self.ldiag_indptr_at())
+        let at = self.starts();
+        between(index, at.lindptr, at.ldiag_indptr)
     }
 
     // Where each row's diagonal entry stands.
@@ -288,7 +272,8 @@ impl Plan {
         requires { ⌜ Indexed self (now index) ⌝ }
         ensures { λ r. ⌜ now r ≡ ldiagIndptrIn self (now (index .entry)) ⌝ }
     {
-        between(index, self.ldiag_indptr_at(), self.lindices_at())
+        let at = self.starts();
+        between(index, at.ldiag_indptr, at.lindices)
     }
 
     // Each entry's column.
@@ -296,7 +281,8 @@ impl Plan {
         requires { ⌜ Indexed self (now index) ⌝ }
         ensures { λ r. ⌜ now r ≡ lindicesIn self (now (index .entry)) ⌝ }
     {
-        between(index, self.lindices_at(), self.ltindptr_at())
+        let at = self.starts();
+        between(index, at.lindices, at.ltindptr)
     }
 
     // Column j of the factor stands from number j of this list to number j + 1.
@@ -304,7 +290,8 @@ impl Plan {
         requires { ⌜ Indexed self (now index) ⌝ }
         ensures { λ r. ⌜ now r ≡ ltindptrIn self (now (index .entry)) ⌝ }
     {
-        between(index, self.ltindptr_at(), self.ltindices_at())
+        let at = self.starts();
+        between(index, at.ltindptr, at.ltindices)
     }
 
     // The rows of each column.
@@ -312,7 +299,8 @@ impl Plan {
         requires { ⌜ Indexed self (now index) ⌝ }
         ensures { λ r. ⌜ now r ≡ ltindicesIn self (now (index .entry)) ⌝ }
     {
-        between(index, self.ltindices_at(), self.ltmap_at())
+        let at = self.starts();
+        between(index, at.ltindices, at.ltmap)
     }
 
     // Where those entries stand in the factor.
@@ -320,7 +308,8 @@ impl Plan {
         requires { ⌜ Indexed self (now index) ⌝ }
         ensures { λ r. ⌜ now r ≡ ltmapIn self (now (index .entry)) ⌝ }
     {
-        between(index, self.ltmap_at(), self.atindptr_at())
+        let at = self.starts();
+        between(index, at.ltmap, at.atindptr)
     }
 
     // Column e of the matrix stands from number e of this list to number e + 1.
@@ -328,7 +317,8 @@ impl Plan {
         requires { ⌜ Indexed self (now index) ⌝ }
         ensures { λ r. ⌜ now r ≡ atindptrIn self (now (index .entry)) ⌝ }
     {
-        between(index, self.atindptr_at(), self.atindices_at())
+        let at = self.starts();
+        between(index, at.atindptr, at.atindices)
     }
 
     // The rows of each column.
@@ -336,7 +326,8 @@ impl Plan {
         requires { ⌜ Indexed self (now index) ⌝ }
         ensures { λ r. ⌜ now r ≡ atindicesIn self (now (index .entry)) ⌝ }
     {
-        between(index, self.atindices_at(), self.atmap_at())
+        let at = self.starts();
+        between(index, at.atindices, at.atmap)
     }
 
     // Where those entries stand in the matrix's values.
@@ -344,6 +335,7 @@ impl Plan {
         requires { ⌜ Indexed self (now index) ⌝ }
         ensures { λ r. ⌜ now r ≡ atmapIn self (now (index .entry)) ⌝ }
     {
-        between(index, self.atmap_at(), self.words_at())
+        let at = self.starts();
+        between(index, at.atmap, at.words)
     }
 }

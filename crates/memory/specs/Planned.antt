@@ -11,21 +11,14 @@ use Rattle.machine.specs.Machine.{Problem, LaneData}
 use Rattle.machine.specs.Work.{problemOf}
 use Rattle.layout.specs.declared.Block.{Block}
 use Rattle.layout.specs.declared.Plan.{Plan}
-use Rattle.layout.specs.Layout.{lAt}
 use Rattle.memory.specs.Numbers.{dataAt}
 
--- by the plan's sizes: a problem, what a block's lanes are fed, where the factor begins in the working memory, and where it ends
+-- by the plan's sizes: a problem, and what a block's lanes are fed
 abbrev pub problemIn : Plan → List ℕ → List ℕ → List Float → Problem
 problemIn p off cols vals = problemOf (p .m) (p .n) (p .s) off cols vals
 
 abbrev pub dataIn : Plan → Block → List Float → List Float → List Float → ℕ → LaneData
 dataIn p k b c tol = dataAt k (p .m) (p .n) b c tol
-
-abbrev pub lIn : Plan → ℕ
-lIn p = lAt (p .n) (p .m) (p .s)
-
-abbrev pub topIn : Plan → ℕ
-topIn p = lIn p + p .stored
 
 -- the plan's counts are E, S and D
 pub record Counted (off cols : List ℕ) (m e h d : ℕ) : Type 0 where

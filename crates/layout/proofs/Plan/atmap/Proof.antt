@@ -2,17 +2,14 @@ use borrow.Author.Needs.{needs}
 use Rattle.layout.proofs.Plan.atmap.Statement.{statement}
 use Rattle.layout.proofs.Plan.atmap.Tie as tie
 
-atmap-at-requires : tie.Need-atmap-at-requires
-atmap-at-requires c κs = search needs
-
-words-at-requires : tie.Need-words-at-requires
-words-at-requires c κs = search needs
+starts-requires : tie.Need-starts-requires
+starts-requires c κs = search needs
 
 between-requires : tie.Need-between-requires
-between-requires c κs = search needs
+between-requires c κs = rw (c .starts .ensures) (search needs)
 
 returns : tie.Need-returns
-returns c = cc
+returns c = rw (c .before .starts .ensures) at (c .between .ensures)
 
 pub atmap-spec : {M : Type 1} → statement M
-atmap-spec = tie.close (tie.spec atmap-at-requires words-at-requires between-requires returns)
+atmap-spec = tie.close (tie.spec starts-requires between-requires returns)

@@ -2,18 +2,14 @@ use borrow.Author.Needs.{needs}
 use Rattle.layout.proofs.Plan.lindices.Statement.{statement}
 use Rattle.layout.proofs.Plan.lindices.Tie as tie
 
-lindices-at-requires : tie.Need-lindices-at-requires
-lindices-at-requires c κs = search needs
-
-ltindptr-at-requires : tie.Need-ltindptr-at-requires
-ltindptr-at-requires c κs = search needs
+starts-requires : tie.Need-starts-requires
+starts-requires c κs = search needs
 
 between-requires : tie.Need-between-requires
-between-requires c κs = search needs
+between-requires c κs = rw (c .starts .ensures) (search needs)
 
 returns : tie.Need-returns
-returns c = cc
+returns c = rw (c .before .starts .ensures) at (c .between .ensures)
 
 pub lindices-spec : {M : Type 1} → statement M
-lindices-spec =
-    tie.close (tie.spec lindices-at-requires ltindptr-at-requires between-requires returns)
+lindices-spec = tie.close (tie.spec starts-requires between-requires returns)

@@ -2,18 +2,14 @@ use borrow.Author.Needs.{needs}
 use Rattle.layout.proofs.Plan.ltindices.Statement.{statement}
 use Rattle.layout.proofs.Plan.ltindices.Tie as tie
 
-ltindices-at-requires : tie.Need-ltindices-at-requires
-ltindices-at-requires c κs = search needs
-
-ltmap-at-requires : tie.Need-ltmap-at-requires
-ltmap-at-requires c κs = search needs
+starts-requires : tie.Need-starts-requires
+starts-requires c κs = search needs
 
 between-requires : tie.Need-between-requires
-between-requires c κs = search needs
+between-requires c κs = rw (c .starts .ensures) (search needs)
 
 returns : tie.Need-returns
-returns c = cc
+returns c = rw (c .before .starts .ensures) at (c .between .ensures)
 
 pub ltindices-spec : {M : Type 1} → statement M
-ltindices-spec =
-    tie.close (tie.spec ltindices-at-requires ltmap-at-requires between-requires returns)
+ltindices-spec = tie.close (tie.spec starts-requires between-requires returns)

@@ -2,18 +2,14 @@ use borrow.Author.Needs.{needs}
 use Rattle.layout.proofs.Plan.ltindptr.Statement.{statement}
 use Rattle.layout.proofs.Plan.ltindptr.Tie as tie
 
-ltindptr-at-requires : tie.Need-ltindptr-at-requires
-ltindptr-at-requires c κs = search needs
-
-ltindices-at-requires : tie.Need-ltindices-at-requires
-ltindices-at-requires c κs = search needs
+starts-requires : tie.Need-starts-requires
+starts-requires c κs = search needs
 
 between-requires : tie.Need-between-requires
-between-requires c κs = search needs
+between-requires c κs = rw (c .starts .ensures) (search needs)
 
 returns : tie.Need-returns
-returns c = cc
+returns c = rw (c .before .starts .ensures) at (c .between .ensures)
 
 pub ltindptr-spec : {M : Type 1} → statement M
-ltindptr-spec =
-    tie.close (tie.spec ltindptr-at-requires ltindices-at-requires between-requires returns)
+ltindptr-spec = tie.close (tie.spec starts-requires between-requires returns)
