@@ -13,7 +13,7 @@ use Rattle.plan_laws.proofs.Cuts.{prepared-of}
 use Rattle.plan_laws.proofs.Few.{few-stored, few-shared, few-products}
 use Rattle.plan_laws.proofs.Follows.{entries-for}
 use Rattle.layout.specs.declared.Plan.{Plan}
-use Rattle.layout.specs.Lists.{anormIndptrIn, anormIndptrIIn, anormIndptrJIn, anormIndicesIn, ldecompIndptrIn, ldecompIndptrIIn, ldecompIndptrJIn, lindptrIn, ldiagIndptrIn, lindicesIn, ltindptrIn, ltindicesIn, ltmapIn, atindptrIn, atindicesIn, atmapIn, wordsAt, Indexed}
+use Rattle.layout.specs.Lists.{lindicesIn, Indexed}
 use Rattle.memory.specs.Planned.{Planned}
 
 module _ {off cols : List ℕ} {vals : List Float} {p : Plan} {index : List ℕ} (P : Planned off cols vals p index) where
@@ -29,30 +29,8 @@ module _ {off cols : List ℕ} {vals : List Float} {p : Plan} {index : List ℕ}
       }
 
   -- the sixteen lists, cut out between their bounds, are the plan's
-  pub prepared : Prepared off cols vals (p .m) (p .n) (p .s)
-      (anormIndptrIn p index) (anormIndptrIIn p index) (anormIndptrJIn p index) (anormIndicesIn p index)
-      (ldecompIndptrIn p index) (ldecompIndptrIIn p index) (ldecompIndptrJIn p index) (lindptrIn p index) (ldiagIndptrIn p index) (lindicesIn p index)
-      (ltindptrIn p index) (ltindicesIn p index) (ltmapIn p index) (atindptrIn p index) (atindicesIn p index) (atmapIn p index)
-  prepared =
-      prepared-of (P .rest) (P .ok) (P .values) (P .slack) (P .plan) (P .entries) (P .counts .stored) (P .counts .shared) (P .counts .products)
-      (record {
-        anorm-ends = refl;
-        anorm-i = refl;
-        anorm-j = refl;
-        anorm-e = refl;
-        ldecomp-ends = refl;
-        ldecomp-i = refl;
-        ldecomp-j = refl;
-        ends = refl;
-        diag = refl;
-        columns = refl;
-        factor-ends = refl;
-        factor-rows = refl;
-        factor-places = refl;
-        matrix-ends = refl;
-        matrix-rows = refl;
-        matrix-places = refl;
-      })
+  pub prepared : Prepared off cols vals p index
+  prepared = prepared-of (P .rest) (P .ok) (P .values) (P .slack) (P .plan) (P .entries) (P .counts .stored) (P .counts .shared) (P .counts .products)
 
   -- the factor has E entries
   pub entries-plan : length (lindicesIn p index) ≡ p .stored
