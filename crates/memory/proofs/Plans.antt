@@ -1,5 +1,5 @@
 -- What follows where an index memory begins with the plan of a matrix. Assumes nothing.
-use mathlib.Core.Path.{_≡_, refl, sym, ap, _∙_}
+use mathlib.Core.Path.{_≡_, ap}
 use mathlib.Core.List.{List}
 use Prim.Native.Nat.{ℕ, _+_, _*_, _≤_}
 use native.Mathlib.Omega.{arith}
@@ -8,13 +8,14 @@ use lib.Ieee.{Float}
 use Rattle.csr.specs.Counts.{sizeW}
 use Rattle.lists.specs.Lists.{planWords}
 use Rattle.lists.proofs.Sizes.{plan-size}
+use Rattle.lanes.specs.Lanes.{Width, room}
 use Rattle.plan_laws.specs.Prepared.{Prepared}
+use Rattle.plan_laws.specs.Factoring.{Given}
 use Rattle.plan_laws.proofs.Cuts.{prepared-of}
 use Rattle.plan_laws.proofs.Few.{few-stored, few-shared, few-products}
-use Rattle.plan_laws.proofs.Follows.{entries-for}
 use Rattle.layout.specs.declared.Plan.{Plan}
-use Rattle.layout.specs.Lists.{lindicesIn, Indexed}
-use Rattle.memory.specs.Planned.{Planned}
+use Rattle.layout.specs.Lists.{Indexed}
+use Rattle.memory.specs.Planned.{Planned, topIn}
 
 module _ {off cols : List ℕ} {vals : List Float} {p : Plan} {index : List ℕ} (P : Planned off cols vals p index) where
   -- the index memory has room for the plan, whose bytes fit a word of 64 bits
@@ -32,6 +33,6 @@ module _ {off cols : List ℕ} {vals : List Float} {p : Plan} {index : List ℕ}
   pub prepared : Prepared off cols vals p index
   prepared = prepared-of (P .rest) (P .ok) (P .values) (P .slack) (P .plan) (P .entries) (P .counts .stored) (P .counts .shared) (P .counts .products)
 
-  -- the factor has E entries
-  pub entries-plan : length (lindicesIn p index) ≡ p .stored
-  entries-plan = entries-for prepared ∙ sym (P .counts .stored)
+  -- what the factor starts from, where the working memory has room for it
+  pub given-of : {width : ℕ} {work : List Float} → topIn p ≤ room width work → Width width → Given width off cols vals p index work
+  given-of fits wide = record { prepared = prepared; indexed = indexed; wide = wide; fits = fits }

@@ -16,8 +16,7 @@ use Rattle.lanes.specs.Lists.{at}
 use Rattle.machine.specs.Machine.{Problem}
 use Rattle.machine.specs.Work.{problemOf}
 use Rattle.layout.specs.declared.Plan.{Plan}
-use Rattle.layout.specs.Lists.{anormIndptrIn, anormIndptrIIn, anormIndptrJIn, anormIndicesIn, ldecompIndptrIn, ldecompIndptrIIn, ldecompIndptrJIn, lindptrIn, ldiagIndptrIn, lindicesIn, ltindptrIn, ltindicesIn, ltmapIn, atindptrIn, atindicesIn, atmapIn}
-use Rattle.plan_laws.specs.Factoring.{Planned}
+use Rattle.layout.specs.Lists.{lindptrIn, lindicesIn, ltindptrIn, ltindicesIn, ltmapIn, atindptrIn, atindicesIn, atmapIn}
 use Rattle.sparse.specs.Parts.{span}
 use Rattle.plan_laws.specs.Meaning.{RowsOf, ColsOf, LowOf, HighOf, Holds}
 use Rattle.plan_laws.specs.Prepared.{Prepared}
@@ -45,21 +44,6 @@ module _ {off cols : List ℕ} {vals : List Float} {p : Plan} {index : List ℕ}
   pub holds-for : (lv : List Float) (L : ℕ → ℕ → Float) → ((i j : ℕ) → i < p .m → j ≤ i → (shape off cols) .held i j ≡ true → at lv (lplace (shape off cols) i j) ≡ L i j)
       → Holds A (lindptrIn p index) (lindicesIn p index) lv L
   holds-for lv L f = rw (P .lindptr, P .lindices) (holds-of off cols (p .m) (p .n) (p .s) vals lv L f)
-
-  -- what the factor's functions start from
-  pub planned-for : Planned off cols (p .m) (anormIndptrIn p index) (anormIndptrIIn p index) (anormIndptrJIn p index) (anormIndicesIn p index) (ldecompIndptrIn p index) (ldecompIndptrIIn p index) (ldecompIndptrJIn p index) (lindptrIn p index) (ldiagIndptrIn p index) (lindicesIn p index)
-  planned-for = record {
-    anorm-ends = P .anorm-indptr;
-    anorm-left = P .anorm-indptr-i;
-    anorm-right = P .anorm-indptr-j;
-    anorm-cols = P .anorm-indices;
-    ldecomp-ends = P .ldecomp-indptr;
-    ldecomp-left = P .ldecomp-indptr-i;
-    ldecomp-right = P .ldecomp-indptr-j;
-    ends = P .lindptr;
-    diag = P .ldiag-indptr;
-    columns = P .lindices;
-  }
 
   -- the planned factor has (i, j) below the diagonal exactly when there is a chain
   pub chain-for : (i j : ℕ) → i < p .m → j < i → (has (span (lindptrIn p index) (lindicesIn p index) i) j ≡ true) ↔ Chain (neighbours off cols) i j
