@@ -14,17 +14,20 @@ use Rattle.lanes.specs.Region.{reg, Kept, Fills, Grows, Apart, before, after}
 use Rattle.lanes.proofs.Regions.{places-le, places-lt, kept-room, reg-at, reg-none, reg-same, kept-none, kept-wider, kept-apart, apart-front}
 use Rattle.lanes.proofs.Quads.{grows-turn, _▹_}
 use Rattle.machine.specs.Machine.{Problem}
-use Rattle.machine.specs.Work.{problemOf}
 use Rattle.machine.proofs.Factor.{fold-same}
 use Rattle.base.specs.Numbers.{cut}
-use Rattle.sparse.specs.Sparse.{lessEach, frontAt, front, back, Low}
-use Rattle.plan_laws.specs.Factoring.{Given, Factored, stateOf, entries}
-use Rattle.plan_laws.proofs.Fill.{given-still, kept-part, filled-none, filled-at, filled-same, filled-still, lends-at, lends-up, lends-within}
+use Rattle.sparse.specs.Sparse.{lessEach, frontAt, front, back, Low, High}
+use Rattle.layout.specs.declared.Plan.{Plan}
+use Rattle.layout.specs.Layout.{yAt, dyAt, rhsAt, wAt}
+use Rattle.layout.specs.Lists.{lindptrIn, lindicesIn, ltindptrIn, ltindicesIn, ltmapIn}
+use Rattle.plan_laws.specs.Factoring.{Given, Factored, stateIn}
+use Rattle.plan_laws.proofs.Entry.{count, stored-is}
+use Rattle.plan_laws.proofs.Fill.{given-still, kept-part, filled-none, filled-at, filled-same, filled-still, lindptr-at, lindptr-up, lindptr-within}
+use Rattle.plan_laws.proofs.Follows.{low-for, high-for}
+use Rattle.memory.specs.Planned.{problemIn, lIn}
+use Rattle.factor.specs.Row.{FilledTo, factorIn, sideIn, solvedIn, RowDue}
+use Rattle.eliminate.specs.Elimination.{KeptTwo, BackIn, backAll, Forwarded, Solves}
 use Rattle.eliminate.proofs.Turns.{cut-length}
-use Rattle.layout.specs.declared.Regions.{Regions}
-use Rattle.factor.specs.Row.{GivenIn, RowDue}
-use Rattle.factor.proofs.Along.{low, count}
-use Rattle.eliminate.specs.Elimination.{Sides, KeptTwo, Eliminated}
 
 -- ---- two regions
 
@@ -81,128 +84,167 @@ module _ {m : ℕ} (ptr ind : List ℕ) (L : Low m ptr ind) (u v f : List Float)
 -- ---- the loop
 
 -- i rows are done: their entries of the factor are the machine's on the memory's own numbers, and their entries of the forward substitution stand
-pub record Done (width : ℕ) (off cols : List ℕ) (vals : List Float) (m n s x z y w f d lo : ℕ) (lends lcols : List ℕ) (old : List Float) (i : ℕ) (work : List Float) : Type 0 where
-  pub low : i ≤ m
-  pub kept : KeptTwo width lo (length lcols) d m old work
-  pub filled : Factored width (problemOf m n s off cols vals) (λ l. stateOf width work x z y w m n s l) lo (getD lends i 0) work
-  pub solved : (t : ℕ) → t < width → reg width work d i t ≡ grow i (frontAt lends lcols (reg width work lo (length lcols) t) (reg width old f m t))
+pub record Done (width : ℕ) (off cols : List ℕ) (vals : List Float) (p : Plan) (index : List ℕ) (old : List Float) (i : ℕ) (work : List Float) : Type 0 where
+  pub low : i ≤ p .m
+  pub kept : KeptTwo width (lIn p) (p .stored) (dyAt (p .n) (p .m)) (p .m) old work
+  pub filled : FilledTo width off cols vals p work (getD (lindptrIn p index) i 0)
+  pub solved : (l : ℕ) → l < width → solvedIn width p work i l ≡ grow i (frontAt (lindptrIn p index) (lindicesIn p index) (factorIn width p work l) (sideIn width p old l))
 
-module _ {width : ℕ} {off cols : List ℕ} {vals old : List Float} {m n s : ℕ} {aends aleft aright acols dends dleft dright lends ldiag lcols : List ℕ} {x z y w f d lo : ℕ}
-    (G : Given width off cols vals old m n s aends aleft aright acols dends dleft dright lends ldiag lcols x z y w lo)
-    (S : Sides width x z y w f d lo m n s (length lcols) old) where
+module _ {width : ℕ} {off cols : List ℕ} {vals old : List Float} {p : Plan} {index : List ℕ} (G : Given width off cols vals p index old) where
   abbrev A : Problem
-  A = problemOf m n s off cols vals
+  A = problemIn p off cols vals
+
+  abbrev m : ℕ
+  m = p .m
 
   abbrev E : ℕ
-  E = length lcols
+  E = p .stored
+
+  abbrev lo : ℕ
+  lo = lIn p
+
+  abbrev d : ℕ
+  d = dyAt (p .n) (p .m)
+
+  abbrev f : ℕ
+  f = rhsAt (p .n) (p .m)
+
+  abbrev lindptr : List ℕ
+  lindptr = lindptrIn p index
+
+  abbrev lindices : List ℕ
+  lindices = lindicesIn p index
 
   abbrev Loop : ℕ → List Float → Type 0
-  Loop i work = Done width off cols vals m n s x z y w f d lo lends lcols old i work
+  Loop i work = Done width off cols vals p index old i work
+
+  -- the regions lie apart
+  x-apart : Apart 0 (p .n) d m
+  x-apart = before (omega arith)
+
+  z-apart : Apart (p .n) (p .n) d m
+  z-apart = before (omega arith)
+
+  y-apart : Apart (yAt (p .n)) m d m
+  y-apart = before (omega arith)
+
+  w-apart : Apart (wAt (p .n) m) (p .s) d m
+  w-apart = after (omega arith)
+
+  f-apart : Apart f m d m
+  f-apart = after (omega arith)
+
+  l-apart : Apart lo E d m
+  l-apart = after (omega arith)
+
+  f-factor : Apart f m lo E
+  f-factor = before (omega arith)
 
   -- the numbers stay where nothing but the solution's entries is written, and where the factor's are written too
-  state-still : {k : ℕ} {a b : List Float} → k ≤ m → Kept width d k a b → (l : ℕ) → l < width → stateOf width b x z y w m n s l ≡ stateOf width a x z y w m n s l
+  state-still : {k : ℕ} {a b : List Float} → k ≤ m → Kept width d k a b → (l : ℕ) → l < width → stateIn width p b l ≡ stateIn width p a l
   state-still h W l b =
-      rw (kept-apart W (apart-front (S .x-apart) h) l b, kept-apart W (apart-front (S .z-apart) h) l b, kept-apart W (apart-front (S .y-apart) h) l b, kept-apart W (apart-front (S .w-apart) h) l b)
+      rw (kept-apart W (apart-front x-apart h) l b, kept-apart W (apart-front z-apart h) l b, kept-apart W (apart-front y-apart h) l b, kept-apart W (apart-front w-apart h) l b)
       refl
 
-  state-two : {new : List Float} → KeptTwo width lo E d m old new → (l : ℕ) → l < width → stateOf width new x z y w m n s l ≡ stateOf width old x z y w m n s l
-  state-two {new} W l b = rw (two-apart W (factors (G .regions .x-apart)) (S .x-apart) l b, two-apart W (factors (G .regions .z-apart)) (S .z-apart) l b, two-apart W (factors (G .regions .y-apart)) (S .y-apart) l b, two-apart W (factors (G .regions .w-apart)) (S .w-apart) l b) refl
+  state-two : {new : List Float} → KeptTwo width lo E d m old new → (l : ℕ) → l < width → stateIn width p new l ≡ stateIn width p old l
+  state-two W l b = rw (two-apart W x-factor x-apart l b, two-apart W z-factor z-apart l b, two-apart W y-factor y-apart l b, two-apart W w-factor w-apart l b) refl
     where
-      factors : {p k : ℕ} → Apart p k lo (entries off cols m) → Apart p k lo E
-      factors {p} {k} a = subst (λ (e : ℕ). Apart p k lo e) (sym (count G)) a
+      x-factor : Apart 0 (p .n) lo E
+      x-factor = before (omega arith)
+
+      z-factor : Apart (p .n) (p .n) lo E
+      z-factor = before (omega arith)
+
+      y-factor : Apart (yAt (p .n)) m lo E
+      y-factor = before (omega arith)
+
+      w-factor : Apart (wAt (p .n) m) (p .s) lo E
+      w-factor = before (omega arith)
 
   pub done-none : Loop 0 old
   unfolding grow
-  done-none = record { low = omega arith; kept = two-none; filled = filled-none G; solved = λ t h. reg-none width old d t }
+  done-none = record { low = omega arith; kept = two-none; filled = filled-none G; solved = λ l h. reg-none width old d l }
 
   -- THE TURN: row i of the factor, then entry i of the forward substitution
   pub done-more : {i : ℕ} {a b c v : List Float} → Loop i a → i < m
-      → Kept width (lo + getD lends i 0) (getD lends (i + 1) 0 - getD lends i 0) a b
-      → Factored width A (λ l. stateOf width b x z y w m n s l) lo (getD lends (i + 1) 0) b
-      → On width v (λ t. frontAt lends lcols (reg width b lo E t) (reg width b f m t) (reg width b d i t) i)
+      → Kept width (lo + getD lindptr i 0) (getD lindptr (i + 1) 0 - getD lindptr i 0) a b
+      → Factored width A (λ l. stateIn width p b l) lo (getD lindptr (i + 1) 0) b
+      → On width v (λ l. frontAt lindptr lindices (reg width b lo E l) (reg width b f m l) (reg width b d i l) i)
       → c ≡ put width b (d + i) v
       → Loop (i + 1) c
   done-more {i} {a} {b} {c} {v} R h K F ev ep = record {
     low = omega arith;
     kept = two-second (two-first (R .kept) wide) (kept-wider (turn .kept) (omega arith));
-    filled = filled-same (λ l z. sym (state-still (omega arith) (turn .kept) l z)) (filled-still (turn .kept) (apart-front (front-of (S .l-apart)) (omega arith)) F);
-    solved = λ t z. turn .within t z ∙ ap₂ (λ (p q : List Float). grow (i + 1) (frontAt lends lcols p q)) (sym (kept-apart (turn .kept) (apart-front (S .l-apart) (omega arith)) t z)) (side t z);
+    filled = filled-same (λ l z. sym (state-still (omega arith) (turn .kept) l z)) (filled-still (turn .kept) (apart-front (front-of l-apart) (omega arith)) F);
+    solved = λ l z. turn .within l z ∙ ap₂ (λ (p q : List Float). grow (i + 1) (frontAt lindptr lindices p q)) (sym (kept-apart (turn .kept) (apart-front l-apart (omega arith)) l z)) (side l z);
   }
     where
-      ends : getD lends (i + 1) 0 ≤ E
-      ends = omega (arith, count G, lends-within G {i = i + 1} (omega arith))
+      ends : getD lindptr (i + 1) 0 ≤ E
+      ends = lindptr-within G {i = i + 1} (omega arith)
 
-      up : getD lends i 0 ≤ getD lends (i + 1) 0
-      up = lends-up G h
+      up : getD lindptr i 0 ≤ getD lindptr (i + 1) 0
+      up = lindptr-up G h
 
-      front-of : Apart lo E d m → Apart lo (getD lends (i + 1) 0) d m
+      front-of : Apart lo E d m → Apart lo (getD lindptr (i + 1) 0) d m
       front-of p = apart-other (apart-front (apart-other p) ends)
 
       wide : Kept width lo E a b
-      wide = kept-part lo (getD lends i 0) (getD lends (i + 1) 0 - getD lends i 0) K (omega (arith, ends, up))
+      wide = kept-part lo (getD lindptr i 0) (getD lindptr (i + 1) 0 - getD lindptr i 0) K (omega (arith, ends, up))
 
       -- the right-hand side is as it was, and so is the factor before row i
-      side : (t : ℕ) → t < width → reg width b f m t ≡ reg width old f m t
-      side t z = kept-apart wide (S .f-factor) t z ∙ two-apart (R .kept) (S .f-factor) (S .f-apart) t z
+      side : (l : ℕ) → l < width → reg width b f m l ≡ reg width old f m l
+      side l z = kept-apart wide f-factor l z ∙ two-apart (R .kept) f-factor f-apart l z
 
-      same : (t : ℕ) → t < width → (k : ℕ) → k < getD lends i 0 → at (reg width a lo E t) k ≡ at (reg width b lo E t) k
-      same t z k l =
-          reg-at width a lo E t k (omega (arith, ends, up)) ∙ sym (K .outside (width * (lo + k) + t) (inl (omega (arith, places-lt width {k = lo + k} {m = lo + getD lends i 0} (omega arith))))) ∙ sym (reg-at width b lo E t k (omega (arith, ends, up)))
+      same : (l : ℕ) → l < width → (k : ℕ) → k < getD lindptr i 0 → at (reg width a lo E l) k ≡ at (reg width b lo E l) k
+      same l z k b′ =
+          reg-at width a lo E l k (omega (arith, ends, up)) ∙ sym (K .outside (width * (lo + k) + l) (inl (omega (arith, places-lt width {k = lo + k} {m = lo + getD lindptr i 0} (omega arith))))) ∙ sym (reg-at width b lo E l k (omega (arith, ends, up)))
 
-      sofar : Grows width d i (λ t. frontAt lends lcols (reg width b lo E t) (reg width b f m t)) b b
+      sofar : Grows width d i (λ l. frontAt lindptr lindices (reg width b lo E l) (reg width b f m l)) b b
       sofar = record {
         kept = kept-none width d i b;
-        within = λ t z.
-            kept-apart wide (apart-other (apart-front (S .l-apart) (omega arith))) t z
-            ∙ R .solved t z
-            ∙ entries-same lends lcols (low G .ranges) (reg width a lo E t) (reg width b lo E t) (reg width old f m t) i (omega arith) (same t z)
-            ∙ ap (λ (p : List Float). grow i (frontAt lends lcols (reg width b lo E t) p)) (sym (side t z));
+        within = λ l z.
+            kept-apart wide (apart-other (apart-front l-apart (omega arith))) l z
+            ∙ R .solved l z
+            ∙ entries-same lindptr lindices (low-for (G .prepared) .ranges) (reg width a lo E l) (reg width b lo E l) (reg width old f m l) i (omega arith) (same l z)
+            ∙ ap (λ (p : List Float). grow i (frontAt lindptr lindices (reg width b lo E l) p)) (sym (side l z));
       }
 
-      turn : Grows width d (i + 1) (λ t. frontAt lends lcols (reg width b lo E t) (reg width b f m t)) b c
+      turn : Grows width d (i + 1) (λ l. frontAt lindptr lindices (reg width b lo E l) (reg width b f m l)) b c
       turn =
-          grows-turn sofar (omega (arith, S .d-in, two-room (R .kept), kept-room K))
+          grows-turn sofar (omega (arith, G .fits, two-room (R .kept), kept-room K))
           (ev ▹
-          (λ t z. ap (λ (p : List Float). frontAt lends lcols (reg width b lo E t) (reg width b f m t) p i) (sofar .within t z)))
+          (λ l z. ap (λ (p : List Float). frontAt lindptr lindices (reg width b lo E l) (reg width b f m l) p i) (sofar .within l z)))
           ep
 
   -- THE END: all rows are done
-  pub done-all : {i : ℕ} {new : List Float} → Loop i new → i ≡ m
-      → Eliminated width A (λ l. stateOf width old x z y w m n s l) lo E d (λ t. front lends lcols m (reg width new lo E t) (reg width old f m t)) old new
+  pub done-all : {i : ℕ} {new : List Float} → Loop i new → i ≡ m → Forwarded width off cols vals p index old new
   unfolding front
   done-all {i} {new} R e =
       let R′ : Loop m new = subst (λ (k : ℕ). Loop k new) e R in
       record {
         kept = R′ .kept;
-        factored = filled-at (count G ∙ sym (lends-at G m (omega arith))) (filled-same (state-two (R′ .kept)) (R′ .filled));
+        factored = filled-at (stored-is G ∙ sym (lindptr-at G m (omega arith))) (filled-same (state-two (R′ .kept)) (R′ .filled));
         within = R′ .solved;
       }
 
   -- then the backward substitution
-  pub solved-all : (tends trows tplaces : List ℕ) {a b : List Float}
-      → Eliminated width A (λ l. stateOf width old x z y w m n s l) lo E d (λ t. front lends lcols m (reg width a lo E t) (reg width old f m t)) old a
-      → Fills width d m (λ t. back lends tends trows tplaces (reg width a lo E t) m (reg width a d m t)) a b
-      → Eliminated width A (λ l. stateOf width old x z y w m n s l) lo E d (λ t. back lends tends trows tplaces (reg width b lo E t) m (front lends lcols m (reg width b lo E t) (reg width old f m t))) old b
-  solved-all tends trows tplaces {a} {b} F B = record {
+  pub solved-all : {a b : List Float} → Forwarded width off cols vals p index old a → Fills width d m (λ l. backAll width p index a l (solvedIn width p a m l)) a b → Solves width off cols vals p index old b
+  solved-all {a} {b} F B = record {
     kept = two-second (F .kept) (B .kept);
-    factored = filled-still (B .kept) (S .l-apart) (F .factored);
-    within = λ t z. B .within t z ∙ rw (F .within t z, kept-apart (B .kept) (S .l-apart) t z) refl;
+    factored = filled-still (B .kept) l-apart (F .factored);
+    within = λ l z. B .within l z ∙ rw (F .within l z, kept-apart (B .kept) l-apart l z) refl;
   }
 
--- row i is due where i rows are done
-pub due : {width : ℕ} {off cols : List ℕ} {vals old : List Float} {g : Regions} {aends aleft aright acols dends dleft dright lends ldiag lcols : List ℕ}
-    → GivenIn width off cols vals old g aends aleft aright acols dends dleft dright lends ldiag lcols
-    → Sides width (g .x) (g .z) (g .y) (g .w) (g .rhs) (g .dy) (g .l) (g .m) (g .n) (g .s) (length lcols) old
-    → {i : ℕ} {work : List Float}
-    → Done width off cols vals (g .m) (g .n) (g .s) (g .x) (g .z) (g .y) (g .w) (g .rhs) (g .dy) (g .l) lends lcols old i work
-    → i < g .m
-    → RowDue width off cols vals work g aends aleft aright acols dends dleft dright lends ldiag lcols i
-due G S {i} {work} R h = record {
-  given = given-still G work (two-room (R .kept));
-  row = h;
-  filled = R .filled;
-  solution-apart = S .l-apart;
-  side-in = omega (arith, S .f-in, two-room (R .kept));
-  solution-in = omega (arith, S .d-in, two-room (R .kept));
-  side-apart = S .f-factor;
-}
+  -- row i is due where i rows are done
+  pub due : {i : ℕ} {work : List Float} → Loop i work → i < m → RowDue width off cols vals p index work i
+  due {i} {work} R h = record { given = given-still G work (two-room (R .kept)); row = h; filled = R .filled }
+
+  -- what the backward substitution reads, in a memory of the same size
+  pub back-in : {new : List Float} → room width new ≡ room width old → BackIn width p index new
+  back-in k = record {
+    columns = subst (λ (e : ℕ). High m e (ltindptrIn p index) (ltindicesIn p index) (ltmapIn p index)) (count G) (high-for (G .prepared) .ranges);
+    ends = λ i h. let a = low-for (G .prepared) .ranges .rises i h in let b = low-for (G .prepared) .ranges .ends i h in (omega arith, omega (arith, count G));
+    indexed = G .indexed;
+    fits = omega (arith, G .fits, k);
+    wide = G .wide;
+  }

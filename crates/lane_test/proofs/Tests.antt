@@ -16,7 +16,7 @@ use Rattle.lanes.specs.Lanes.{On}
 use Rattle.lanes.specs.Region.{reg}
 use Rattle.lanes.proofs.Regions.{reg-at}
 use Rattle.kernels.specs.Kernels.{qAt, rAt}
-use Rattle.plan_laws.specs.Planned.{RowsOf, ColsOf}
+use Rattle.plan_laws.specs.Meaning.{RowsOf, ColsOf}
 use Rattle.layout.specs.Layout.{yAt, wAt}
 use Rattle.memory.specs.Numbers.{numbersAt}
 use Rattle.lane_test.specs.Measures.{judged, Measured, Divided}

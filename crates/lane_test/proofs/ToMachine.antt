@@ -17,7 +17,7 @@ use Rattle.base.specs.Numbers.{cut}
 use Rattle.sparse.specs.Sparse.{plusAll, lessAll, lessEach, frontAt, front, backAt, back}
 use Rattle.sparse.specs.Parts.{span, plusRow, lessRow, plusCol, lessCol}
 use Rattle.sparse.proofs.Spans.{cut-length, cut-at}
-use Rattle.plan_laws.specs.Planned.{RowsOf, ColsOf, LowOf, HighOf, Holds}
+use Rattle.plan_laws.specs.Meaning.{RowsOf, ColsOf, LowOf, HighOf, Holds}
 
 -- ONE LAW FOR EVERY LIST: a loop over a rising list, with a number of its own for each turn
 pub listed : (n : ℕ) (p : ℕ → Bool) (es : List ℕ) (a : ℕ → Float) (f : ℕ → Float) (F : ℕ → Float → Float → Float) (v : Float) → Between 0 n es

@@ -21,10 +21,10 @@ abbrev pub dataIn : Plan → Block → List Float → List Float → List Float 
 dataIn p k b c tol = dataAt k (p .m) (p .n) b c tol
 
 -- the plan's counts are E, S and D
-pub record Counted (off cols : List ℕ) (m e h d : ℕ) : Type 0 where
-  pub stored : e ≡ countE off cols m
-  pub shared : h ≡ countS off cols m
-  pub products : d ≡ countD off cols m
+pub record Counted (off cols : List ℕ) (m E S D : ℕ) : Type 0 where
+  pub stored : E ≡ countE off cols m
+  pub shared : S ≡ countS off cols m
+  pub products : D ≡ countD off cols m
 
 -- an accepted matrix with its values, its sizes and counts, and an index memory that begins with its plan
 pub record Planned (off cols : List ℕ) (vals : List Float) (p : Plan) (index : List ℕ) : Type 0 where

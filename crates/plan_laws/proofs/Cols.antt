@@ -24,7 +24,7 @@ use Rattle.plan_laws.proofs.Picks.{picks-all, find-place, find-lt}
 use Rattle.base.specs.Numbers.{cut}
 use Rattle.sparse.specs.Sparse.{Csr}
 use Rattle.sparse.specs.Parts.{span}
-use Rattle.plan_laws.specs.Planned.{ColsOf}
+use Rattle.plan_laws.specs.Meaning.{ColsOf}
 use Rattle.plan_laws.proofs.Parts.{cut-part, cat-split, cat-all, singles-at, sum-more}
 use Rattle.plan_laws.proofs.Picked.{picked, named, named-length, named-same, named-at, picked-rise, picked-has}
 use Rattle.plan_laws.proofs.Rows.{row-length}

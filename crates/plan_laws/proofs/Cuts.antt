@@ -17,7 +17,9 @@ use Rattle.lists.specs.declared.What.{What}
 use Rattle.lists.specs.declared.What.the-variants.{Numbers, Places}
 use Rattle.lists.proofs.Sizes.{size-list, length-ends, length-columns, matrix-entries, factor-entries}
 use Rattle.base.specs.Numbers.{cut}
-use Rattle.plan_laws.specs.Prepared.{Prepared, Bounds}
+use Rattle.layout.specs.declared.Plan.{Plan}
+use Rattle.layout.specs.Lists.{anormIndptrAt, anormIndptrIAt, anormIndptrJAt, anormIndicesAt, ldecompIndptrAt, ldecompIndptrIAt, ldecompIndptrJAt, lindptrAt, ldiagIndptrAt, lindicesAt, ltindptrAt, ltindicesAt, ltmapAt, atindptrAt, atindicesAt, atmapAt, wordsAt}
+use Rattle.plan_laws.specs.Prepared.{Prepared}
 
 -- ---- how long the lists by column are
 
@@ -103,65 +105,64 @@ module _ (off cols : List ℕ) (m n : ℕ) where
   plan-from index rest e = record { rest = rest; is = e ∙ ap (λ (l : List ℕ). l ++ rest) plan-joined }
 
 -- THE PREPARED LISTS: the parts of an index memory that starts with the plan
-pub prepared-of : {off cols : List ℕ} {vals : List Float} {m n s t E S D b1 b2 b3 b4 b5 b6 b7 b8 b9 b10 b11 b12 b13 b14 b15 b16 : ℕ} {index : List ℕ} (rest : List ℕ)
-    → Accepted off cols m n → length vals ≡ length cols → s ≤ m → index ≡ planWords off cols m n ++ rest
-    → t ≡ length cols → E ≡ countE off cols m → S ≡ countS off cols m → D ≡ countD off cols m
-    → Bounds m n t E S D b1 b2 b3 b4 b5 b6 b7 b8 b9 b10 b11 b12 b13 b14 b15 b16
-    → Prepared off cols vals m n s
-    (cut 0 b1 index) (cut b1 b2 index) (cut b2 b3 index) (cut b3 b4 index) (cut b4 b5 index) (cut b5 b6 index) (cut b6 b7 index) (cut b7 b8 index)
-    (cut b8 b9 index) (cut b9 b10 index) (cut b10 b11 index) (cut b11 b12 index) (cut b12 b13 index) (cut b13 b14 index) (cut b14 b15 index) (cut b15 b16 index)
-prepared-of {off} {cols} {vals} {m} {n} {s} {t} {E} {S} {D} {b1} {b2} {b3} {b4} {b5} {b6} {b7} {b8} {b9} {b10} {b11} {b12} {b13} {b14} {b15} {b16} {index} rest ok values slack is et eE eS eD B =
+pub prepared-of : {off cols : List ℕ} {vals : List Float} {p : Plan} {index : List ℕ} (rest : List ℕ)
+    → Accepted off cols (p .m) (p .n) → length vals ≡ length cols → p .s ≤ p .m → index ≡ planWords off cols (p .m) (p .n) ++ rest
+    → p .t ≡ length cols → p .stored ≡ countE off cols (p .m) → p .shared ≡ countS off cols (p .m) → p .products ≡ countD off cols (p .m)
+    → Prepared off cols vals p index
+prepared-of {off} {cols} {vals} {p} {index} rest ok values slack is et eE eS eD =
+    let m = p .m in
+    let n = p .n in
     let size = size-list off cols m in
-    let q1 : b1 ≡ 0 + length (listOf (shape off cols) AnormIndptr m) = omega (arith, B .anorm-ends, eE, size AnormIndptr) in
-    let q2 : b2 ≡ b1 + length (listOf (shape off cols) AnormIndptrI m) = omega (arith, B .anorm-i, eS, size AnormIndptrI) in
-    let q3 : b3 ≡ b2 + length (listOf (shape off cols) AnormIndptrJ m) = omega (arith, B .anorm-j, eS, size AnormIndptrJ) in
-    let q4 : b4 ≡ b3 + length (listOf (shape off cols) AnormIndices m) = omega (arith, B .anorm-e, eS, size AnormIndices) in
-    let q5 : b5 ≡ b4 + length (listOf (shape off cols) LdecompIndptr m) = omega (arith, B .ldecomp-ends, eE, size LdecompIndptr) in
-    let q6 : b6 ≡ b5 + length (listOf (shape off cols) LdecompIndptrI m) = omega (arith, B .ldecomp-i, eD, size LdecompIndptrI) in
-    let q7 : b7 ≡ b6 + length (listOf (shape off cols) LdecompIndptrJ m) = omega (arith, B .ldecomp-j, eD, size LdecompIndptrJ) in
-    let q8 : b8 ≡ b7 + length (listOf (shape off cols) Lindptr m) = omega (arith, B .ends, size Lindptr) in
-    let q9 : b9 ≡ b8 + length (listOf (shape off cols) LdiagIndptr m) = omega (arith, B .diag, size LdiagIndptr) in
-    let q10 : b10 ≡ b9 + length (listOf (shape off cols) Lindices m) = omega (arith, B .columns, eE, size Lindices) in
-    let q11 : b11 ≡ b10 + length (endsOf (shape off cols) Factor m m) = omega (arith, B .factor-ends, size-ends off cols Factor m m) in
-    let q12 : b12 ≡ b11 + length (columnsOf (shape off cols) Factor Numbers m m) = omega (arith, B .factor-rows, eE, size-factor off cols m n ok Numbers) in
-    let q13 : b13 ≡ b12 + length (columnsOf (shape off cols) Factor Places m m) = omega (arith, B .factor-places, eE, size-factor off cols m n ok Places) in
-    let q14 : b14 ≡ b13 + length (endsOf (shape off cols) Matrix m n) = omega (arith, B .matrix-ends, size-ends off cols Matrix m n) in
-    let q15 : b15 ≡ b14 + length (columnsOf (shape off cols) Matrix Numbers m n) = omega (arith, B .matrix-rows, et, size-matrix off cols m n ok Numbers) in
-    let q16 : b16 ≡ b15 + length (columnsOf (shape off cols) Matrix Places m n) = omega (arith, B .matrix-places, et, size-matrix off cols m n ok Places) in
+    let q1 : anormIndptrIAt p ≡ anormIndptrAt p + length (listOf (shape off cols) AnormIndptr m) = omega (arith, eE, size AnormIndptr) in
+    let q2 : anormIndptrJAt p ≡ anormIndptrIAt p + length (listOf (shape off cols) AnormIndptrI m) = omega (arith, eS, size AnormIndptrI) in
+    let q3 : anormIndicesAt p ≡ anormIndptrJAt p + length (listOf (shape off cols) AnormIndptrJ m) = omega (arith, eS, size AnormIndptrJ) in
+    let q4 : ldecompIndptrAt p ≡ anormIndicesAt p + length (listOf (shape off cols) AnormIndices m) = omega (arith, eS, size AnormIndices) in
+    let q5 : ldecompIndptrIAt p ≡ ldecompIndptrAt p + length (listOf (shape off cols) LdecompIndptr m) = omega (arith, eE, size LdecompIndptr) in
+    let q6 : ldecompIndptrJAt p ≡ ldecompIndptrIAt p + length (listOf (shape off cols) LdecompIndptrI m) = omega (arith, eD, size LdecompIndptrI) in
+    let q7 : lindptrAt p ≡ ldecompIndptrJAt p + length (listOf (shape off cols) LdecompIndptrJ m) = omega (arith, eD, size LdecompIndptrJ) in
+    let q8 : ldiagIndptrAt p ≡ lindptrAt p + length (listOf (shape off cols) Lindptr m) = omega (arith, size Lindptr) in
+    let q9 : lindicesAt p ≡ ldiagIndptrAt p + length (listOf (shape off cols) LdiagIndptr m) = omega (arith, size LdiagIndptr) in
+    let q10 : ltindptrAt p ≡ lindicesAt p + length (listOf (shape off cols) Lindices m) = omega (arith, eE, size Lindices) in
+    let q11 : ltindicesAt p ≡ ltindptrAt p + length (endsOf (shape off cols) Factor m m) = omega (arith, size-ends off cols Factor m m) in
+    let q12 : ltmapAt p ≡ ltindicesAt p + length (columnsOf (shape off cols) Factor Numbers m m) = omega (arith, eE, size-factor off cols m n ok Numbers) in
+    let q13 : atindptrAt p ≡ ltmapAt p + length (columnsOf (shape off cols) Factor Places m m) = omega (arith, eE, size-factor off cols m n ok Places) in
+    let q14 : atindicesAt p ≡ atindptrAt p + length (endsOf (shape off cols) Matrix m n) = omega (arith, size-ends off cols Matrix m n) in
+    let q15 : atmapAt p ≡ atindicesAt p + length (columnsOf (shape off cols) Matrix Numbers m n) = omega (arith, et, size-matrix off cols m n ok Numbers) in
+    let q16 : wordsAt p ≡ atmapAt p + length (columnsOf (shape off cols) Matrix Places m n) = omega (arith, et, size-matrix off cols m n ok Places) in
     let f0 = plan-from off cols m n index rest is in
-    let f1 = behind f0 b1 q1 in
-    let f2 = behind f1 b2 q2 in
-    let f3 = behind f2 b3 q3 in
-    let f4 = behind f3 b4 q4 in
-    let f5 = behind f4 b5 q5 in
-    let f6 = behind f5 b6 q6 in
-    let f7 = behind f6 b7 q7 in
-    let f8 = behind f7 b8 q8 in
-    let f9 = behind f8 b9 q9 in
-    let f10 = behind f9 b10 q10 in
-    let f11 = behind f10 b11 q11 in
-    let f12 = behind f11 b12 q12 in
-    let f13 = behind f12 b13 q13 in
-    let f14 = behind f13 b14 q14 in
-    let f15 = behind f14 b15 q15 in
+    let f1 = behind f0 (anormIndptrIAt p) q1 in
+    let f2 = behind f1 (anormIndptrJAt p) q2 in
+    let f3 = behind f2 (anormIndicesAt p) q3 in
+    let f4 = behind f3 (ldecompIndptrAt p) q4 in
+    let f5 = behind f4 (ldecompIndptrIAt p) q5 in
+    let f6 = behind f5 (ldecompIndptrJAt p) q6 in
+    let f7 = behind f6 (lindptrAt p) q7 in
+    let f8 = behind f7 (ldiagIndptrAt p) q8 in
+    let f9 = behind f8 (lindicesAt p) q9 in
+    let f10 = behind f9 (ltindptrAt p) q10 in
+    let f11 = behind f10 (ltindicesAt p) q11 in
+    let f12 = behind f11 (ltmapAt p) q12 in
+    let f13 = behind f12 (atindptrAt p) q13 in
+    let f14 = behind f13 (atindicesAt p) q14 in
+    let f15 = behind f14 (atmapAt p) q15 in
     record {
       ok = ok;
       values = values;
       slack = slack;
-      anorm-ends = first-is f0 b1 q1;
-      anorm-i = first-is f1 b2 q2;
-      anorm-j = first-is f2 b3 q3;
-      anorm-e = first-is f3 b4 q4;
-      ldecomp-ends = first-is f4 b5 q5;
-      ldecomp-i = first-is f5 b6 q6;
-      ldecomp-j = first-is f6 b7 q7;
-      ends = first-is f7 b8 q8;
-      diag = first-is f8 b9 q9;
-      columns = first-is f9 b10 q10;
-      factor-ends = first-is f10 b11 q11;
-      factor-rows = first-is f11 b12 q12;
-      factor-places = first-is f12 b13 q13;
-      matrix-ends = first-is f13 b14 q14;
-      matrix-rows = first-is f14 b15 q15;
-      matrix-places = first-is f15 b16 q16;
+      anorm-indptr = first-is f0 (anormIndptrIAt p) q1;
+      anorm-indptr-i = first-is f1 (anormIndptrJAt p) q2;
+      anorm-indptr-j = first-is f2 (anormIndicesAt p) q3;
+      anorm-indices = first-is f3 (ldecompIndptrAt p) q4;
+      ldecomp-indptr = first-is f4 (ldecompIndptrIAt p) q5;
+      ldecomp-indptr-i = first-is f5 (ldecompIndptrJAt p) q6;
+      ldecomp-indptr-j = first-is f6 (lindptrAt p) q7;
+      lindptr = first-is f7 (ldiagIndptrAt p) q8;
+      ldiag-indptr = first-is f8 (lindicesAt p) q9;
+      lindices = first-is f9 (ltindptrAt p) q10;
+      ltindptr = first-is f10 (ltindicesAt p) q11;
+      ltindices = first-is f11 (ltmapAt p) q12;
+      ltmap = first-is f12 (atindptrAt p) q13;
+      atindptr = first-is f13 (atindicesAt p) q14;
+      atindices = first-is f14 (atmapAt p) q15;
+      atmap = first-is f15 (wordsAt p) q16;
     }

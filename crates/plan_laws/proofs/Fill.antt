@@ -11,18 +11,22 @@ use lib.Ieee.{Float}
 use Rattle.base.specs.Sums.{sum, one}
 use Rattle.csr.specs.Counts.{countE, isStored}
 use Rattle.base.proofs.Sums.{sum-ext}
-use Rattle.lists.specs.Lists.{Shape, shape, lplace, before, listOf}
+use Rattle.lists.specs.Lists.{Shape, shape, lplace, before as upto, listOf}
 use Rattle.lists.specs.declared.Which.the-variants.{Lindptr, Lindices}
 use Rattle.lanes.specs.Lists.{at}
 use Rattle.lanes.specs.Lanes.{put, cell as here, On, room}
-use Rattle.lanes.specs.Region.{reg, Kept, Apart}
+use Rattle.lanes.specs.Region.{reg, Kept, Apart, before}
 use Rattle.lanes.proofs.Regions.{places-le, places-lt, room-in, reg-at, other-cell, kept-none, kept-put, kept-apart, cell-put-same, getD-put-other}
 use Rattle.machine.specs.Machine.{Problem, State, inFactor, factorEntry, factor, cell}
 use Rattle.machine.specs.Work.{problemOf}
-use Rattle.plan_laws.specs.Factoring.{Given, Stands, Factored, stateOf, entries}
+use Rattle.plan_laws.specs.Factoring.{Given, Stands, Factored, stateIn, entries}
 use Rattle.plan_laws.proofs.Ranks.{lplace-lt, lplace-down, lplace-start}
 use Rattle.plan_laws.proofs.Picks.{held-factor, held-stored}
+use Rattle.layout.specs.declared.Plan.{Plan}
+use Rattle.layout.specs.Layout.{yAt, wAt, lAt}
+use Rattle.layout.specs.Lists.{lindptrIn, lindicesIn}
 use Rattle.plan_laws.proofs.Turn.{entry-room}
+use Rattle.plan_laws.proofs.Entry.{stored-is}
 use Rattle.plan_laws.proofs.Loop.{turn, same-pair, stands, stands-in, row-start, row-end, row-end-in}
 
 -- a part of a region
@@ -52,83 +56,87 @@ filled-still {width} {A} {q} {lo} {e} {o} {k} {old} W a f = record {
       other-cell W a p u l b ∙ reg-at width old lo e l p u ∙ f .within l i j b r c t u;
 }
 
-module _ {width : ℕ} {off cols : List ℕ} {vals old : List Float} {m n s : ℕ} {aends aleft aright acols dends dleft dright lends ldiag lcols : List ℕ} {x z y w lo : ℕ}
-    (G : Given width off cols vals old m n s aends aleft aright acols dends dleft dright lends ldiag lcols x z y w lo) where
+module _ {width : ℕ} {off cols : List ℕ} {vals old : List Float} {p : Plan} {index : List ℕ} (G : Given width off cols vals p index old) where
+  abbrev m : ℕ
+  m = p .m
+
+  abbrev lo : ℕ
+  lo = lAt (p .n) (p .m) (p .s)
+
+  abbrev lindptr : List ℕ
+  lindptr = lindptrIn p index
+
+  abbrev lindices : List ℕ
+  lindices = lindicesIn p index
+
   abbrev g : Shape
   g = shape off cols
 
   abbrev E : ℕ
-  E = entries off cols m
+  E = p .stored
 
   -- what is given of the memory is given of it later too
-  pub given-still : (new : List Float) → room width new ≡ room width old → Given width off cols vals new m n s aends aleft aright acols dends dleft dright lends ldiag lcols x z y w lo
-  given-still new k = record {
-    wide = G .wide;
-    ok = G .ok;
-    values = G .values;
-    slack = G .slack;
-    lists = G .lists;
-    regions = record {
-      x-apart = G .regions .x-apart;
-      z-apart = G .regions .z-apart;
-      y-apart = G .regions .y-apart;
-      w-apart = G .regions .w-apart;
-      x-in = omega (arith, G .regions .x-in, k);
-      z-in = omega (arith, G .regions .z-in, k);
-      y-in = omega (arith, G .regions .y-in, k);
-      w-in = omega (arith, G .regions .w-in, k);
-      l-in = omega (arith, G .regions .l-in, k);
-    };
-  }
+  pub given-still : (new : List Float) → room width new ≡ room width old → Given width off cols vals p index new
+  given-still new k = record { prepared = G .prepared; indexed = G .indexed; wide = G .wide; fits = omega (arith, G .fits, k) }
 
   -- ---- which entry is which
-  pub lends-room : {i : ℕ} → i < m → i + 1 < length lends
-  lends-room {i} h = rw (G .lists .ends) (row-end-in off cols m i h)
+  pub lindptr-room : {i : ℕ} → i < m → i + 1 < length lindptr
+  lindptr-room {i} h = rw (G .prepared .lindptr) (row-end-in off cols m i h)
 
-  pub lends-at : (i : ℕ) → i ≤ m → getD lends i 0 ≡ lplace g i 0
-  lends-at i h = rw (G .lists .ends) (row-start off cols m i h)
+  pub lindptr-at : (i : ℕ) → i ≤ m → getD lindptr i 0 ≡ lplace g i 0
+  lindptr-at i h = rw (G .prepared .lindptr) (row-start off cols m i h)
 
   -- a row starts at its end or before, and ends within the factor
-  pub lends-up : {i : ℕ} → i < m → getD lends i 0 ≤ getD lends (i + 1) 0
-  lends-up {i} h = omega (arith, lends-at i (omega arith), lends-at (i + 1) (omega arith), lplace-down g i (i + 1) (omega arith))
+  pub lindptr-up : {i : ℕ} → i < m → getD lindptr i 0 ≤ getD lindptr (i + 1) 0
+  lindptr-up {i} h = omega (arith, lindptr-at i (omega arith), lindptr-at (i + 1) (omega arith), lplace-down g i (i + 1) (omega arith))
 
-  pub lends-within : {i : ℕ} → i ≤ m → getD lends i 0 ≤ E
-  lends-within {i} h = omega (arith, lends-at i h, lplace-down g i m h)
+  pub lindptr-within : {i : ℕ} → i ≤ m → getD lindptr i 0 ≤ E
+  lindptr-within {i} h = omega (arith, lindptr-at i h, lplace-down g i m h, stored-is G)
 
-  next : {i : ℕ} → i < m → lplace g (suc i) 0 ≡ getD lends (i + 1) 0
-  next {i} h = rw (G .lists .ends) (sym (row-end off cols m i h))
+  next : {i : ℕ} → i < m → lplace g (suc i) 0 ≡ getD lindptr (i + 1) 0
+  next {i} h = rw (G .prepared .lindptr) (sym (row-end off cols m i h))
 
   -- entry e of row i, before the row's end: its column is on the list, and stands there
-  pub lcols-next : {i e : ℕ} → i < m → getD lends i 0 ≤ e → e < getD lends (i + 1) 0 → e < length lcols
-  lcols-next {i} {e} h a b = rw (G .lists .columns) (stands-in off cols m i h e (omega (arith, lends-at i (omega arith))) (omega (arith, next h)))
+  pub lindices-next : {i e : ℕ} → i < m → getD lindptr i 0 ≤ e → e < getD lindptr (i + 1) 0 → e < length lindices
+  lindices-next {i} {e} h a b = rw (G .prepared .lindices) (stands-in off cols m i h e (omega (arith, lindptr-at i (omega arith))) (omega (arith, next h)))
 
-  pub stands-next : {i j e : ℕ} → i < m → getD lends i 0 ≤ e → e < getD lends (i + 1) 0 → j ≡ getD lcols e 0 → Stands off cols m i j e
+  pub stands-next : {i j e : ℕ} → i < m → getD lindptr i 0 ≤ e → e < getD lindptr (i + 1) 0 → j ≡ getD lindices e 0 → Stands off cols m i j e
   stands-next {i} {j} {e} h a b c =
-      let d : j ≡ getD (listOf g Lindices m) e 0 = c ∙ ap (λ (t : List ℕ). getD t e 0) (G .lists .columns) in
-      subst (λ (t : ℕ). Stands off cols m i t e) (sym d) (stands off cols m i h e (omega (arith, lends-at i (omega arith))) (omega (arith, next h)))
+      let d : j ≡ getD (listOf g Lindices m) e 0 = c ∙ ap (λ (t : List ℕ). getD t e 0) (G .prepared .lindices) in
+      subst (λ (t : ℕ). Stands off cols m i t e) (sym d) (stands off cols m i h e (omega (arith, lindptr-at i (omega arith))) (omega (arith, next h)))
 
   pub put-room : {i j e : ℕ} → Stands off cols m i j e → lo + e < room width old
-  put-room {i} {j} {e} st = omega (arith, entry-room m n s off cols vals (G .ok) i j e st, G .regions .l-in)
+  put-room {i} {j} {e} st = omega (arith, entry-room m (p .n) (p .s) off cols vals (G .prepared .ok) i j e st, G .fits, stored-is G)
 
   -- ---- the loop: the factor's first e entries are the machine's, on the memory's own numbers
   abbrev A : Problem
-  A = problemOf m n s off cols vals
+  A = problemOf m (p .n) (p .s) off cols vals
 
   abbrev Filled : ℕ → List Float → Type 0
-  Filled e work = Factored width A (λ l. stateOf width work x z y w m n s l) lo e work
+  Filled e work = Factored width A (λ l. stateIn width p work l) lo e work
 
-  pub filled-none : Filled (getD lends 0 0) old
-  filled-none = record { within = λ l i j b h c t u. absurd (omega (arith, lends-at 0 (omega arith), lplace-start g 0)) }
+  pub filled-none : Filled (getD lindptr 0 0) old
+  filled-none = record { within = λ l i j b h c t u. absurd (omega (arith, lindptr-at 0 (omega arith), lplace-start g 0)) }
 
   -- what the factor is worked out of stays
-  pub state-kept : {new : List Float} → Kept width lo E old new → (l : ℕ) → l < width → stateOf width new x z y w m n s l ≡ stateOf width old x z y w m n s l
-  state-kept W l b =
-      rw (kept-apart W (G .regions .x-apart) l b, kept-apart W (G .regions .z-apart) l b, kept-apart W (G .regions .y-apart) l b, kept-apart W (G .regions .w-apart) l b)
-      refl
+  pub state-kept : {new : List Float} → Kept width lo E old new → (l : ℕ) → l < width → stateIn width p new l ≡ stateIn width p old l
+  state-kept W l b = rw (kept-apart W x-apart l b, kept-apart W z-apart l b, kept-apart W y-apart l b, kept-apart W w-apart l b) refl
+    where
+      x-apart : Apart 0 (p .n) lo E
+      x-apart = before (omega arith)
+
+      z-apart : Apart (p .n) (p .n) lo E
+      z-apart = before (omega arith)
+
+      y-apart : Apart (yAt (p .n)) (p .m) lo E
+      y-apart = before (omega arith)
+
+      w-apart : Apart (wAt (p .n) (p .m)) (p .s) lo E
+      w-apart = before (omega arith)
 
   -- THE TURN: entry e is put
   pub filled-more : {i j e : ℕ} {v new : List Float} → Filled e old → Stands off cols m i j e
-      → On width v (λ l. factorEntry A (stateOf width old x z y w m n s l) (λ a b. here width old (lo + lplace g a b) l) i j)
+      → On width v (λ l. factorEntry A (stateIn width p old l) (λ a b. here width old (lo + lplace g a b) l) i j)
       → new ≡ put width old (lo + e) v
       → Filled (e + 1) new
   filled-more {i} {j} {e} {v} {new} f st ev en = record {
@@ -138,13 +146,13 @@ module _ {width : ℕ} {off cols : List ℕ} {vals old : List Float} {m n s : �
   }
     where
       W : Kept width lo E old new
-      W = rw en (kept-put (kept-none width lo E old) (lo + e) v (omega arith) (omega (arith, entry-room m n s off cols vals (G .ok) i j e st)))
+      W = rw en (kept-put (kept-none width lo E old) (lo + e) v (omega arith) (omega (arith, entry-room m (p .n) (p .s) off cols vals (G .prepared .ok) i j e st, stored-is G)))
 
-      is : On width v (λ l. cell (factor A (stateOf width old x z y w m n s l)) i j)
-      is = turn m n s off cols vals width (λ l. stateOf width old x z y w m n s l) old lo i j e st f v ev
+      is : On width v (λ l. cell (factor A (stateIn width p old l)) i j)
+      is = turn m (p .n) (p .s) off cols vals width (λ l. stateIn width p old l) old lo i j e st f v ev
 
       entry : (l : ℕ) → l < width → (a b : ℕ) → a < m → b ≤ a → g .held a b ≡ true → inFactor A a b ≡ true → lplace g a b < e + 1 → Dec (lplace g a b ≡ e)
-          → here width new (lo + lplace g a b) l ≡ cell (factor A (stateOf width old x z y w m n s l)) a b
+          → here width new (lo + lplace g a b) l ≡ cell (factor A (stateIn width p old l)) a b
       entry l c a b h d k t u (yes r) =
           let p = same-pair g m a b i j h d k (st .row) (st .low) (st .held) (r ∙ st .at) in
           rw (r, en, p .0, p .1) (cell-put-same width old (lo + e) v (room-in width old (lo + e) (put-room st)) l c ∙ is .lane l c)
@@ -176,7 +184,7 @@ factor-held {width} {off} {cols} {vals} {work} {m} {n} {s} {lo} {q} F l b i h k 
 
 -- the factor has E entries
 pub entries-count : (off cols : List ℕ) (m : ℕ) → entries off cols m ≡ countE off cols m
-unfolding lplace before sum countE isStored
+unfolding lplace upto sum countE isStored
 entries-count off cols m =
     let e = sum-ext m (λ i. sum (suc i) (λ j. one ((shape off cols) .held i j))) (λ i. sum (suc i) (λ j. one (isStored off cols i j)))
     (λ i h. sum-ext (suc i) (λ j. one ((shape off cols) .held i j)) (λ j. one (isStored off cols i j))

@@ -26,7 +26,7 @@ use Rattle.plan_laws.proofs.Ranks.{ranked-in, lplace-along, lplace-lt-r
 use Rattle.plan_laws.proofs.Picks.{picks-all, held-factor, held-diag}
 use Rattle.base.specs.Numbers.{cut}
 use Rattle.sparse.specs.Sparse.{High}
-use Rattle.plan_laws.specs.Planned.{HighOf}
+use Rattle.plan_laws.specs.Meaning.{HighOf}
 use Rattle.plan_laws.proofs.Parts.{cut-part, cat-split}
 use Rattle.plan_laws.proofs.Picked.{picked, named, named-at, named-same, picked-rise, picked-has, first-named}
 use Rattle.plan_laws.proofs.Cols.{ends-at, ends-next, before-length, column-length, columns-length, columns-all, columns-csr}

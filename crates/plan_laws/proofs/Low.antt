@@ -26,7 +26,7 @@ use Rattle.plan_laws.proofs.Picks.{picks-all, held-factor, held-diag}
 use Rattle.base.specs.Numbers.{cut}
 use Rattle.sparse.specs.Parts.{span}
 use Rattle.sparse.proofs.Spans.{cut-at}
-use Rattle.plan_laws.specs.Planned.{LowOf, Holds}
+use Rattle.plan_laws.specs.Meaning.{LowOf, Holds}
 use Rattle.plan_laws.proofs.Parts.{cut-part, cat-split}
 use Rattle.plan_laws.proofs.Picked.{picked, named-length, picked-rise, picked-has}
 

@@ -14,7 +14,7 @@ use Rattle.lists.specs.Ready.{Accepted}
 use Rattle.lists.proofs.Spans.{span}
 use Rattle.machine.specs.Work.{problemOf}
 use Rattle.plan_laws.proofs.Picks.{between}
-use Rattle.plan_laws.specs.Planned.{RowsOf}
+use Rattle.plan_laws.specs.Meaning.{RowsOf}
 
 below-at : (n : ℕ) (xs : List ℕ) (k : ℕ) → Below n xs → k < length xs → getD xs k 0 < n
 below-at n [] k b h = absurd (omega arith)

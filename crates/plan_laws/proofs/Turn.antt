@@ -19,8 +19,8 @@ use Rattle.lanes.specs.Lists.{at, fold, each}
 use Rattle.machine.specs.Machine.{Problem, State, holds, entry, reduced}
 use Rattle.lanes.specs.Arithmetic.{_⊕_, _⊗_, _⊘_, null}
 use Rattle.machine.specs.Work.{problemOf}
-use Rattle.plan_laws.specs.Factoring.{normalStep, productStep, NormalIn, ProductIn, Regions, Stands, stateOf, entries}
-use Rattle.plan_laws.proofs.Ranks.{before-next, ranked, ranked-in, ends-at, lplace-lt, by-row-at, by-row-in}
+use Rattle.plan_laws.specs.Factoring.{normalStep, productStep, NormalIn, ProductIn, Stands, entries}
+use Rattle.plan_laws.proofs.Ranks.{before-next, ranked, ends-at, lplace-lt, by-row-at}
 use Rattle.plan_laws.proofs.Picks.{held-diag, anorm-none, ldecomp-none}
 use Rattle.plan_laws.proofs.Meets.{anorm-i-at, anorm-j-at, anorm-e-at, anorm-i-long, anorm-j-long, anorm-e-long, ldecomp-i-long, ldecomp-j-long, products-in, shared-lt, left-lt, right-lt, ldecomp-i-at, ldecomp-j-at, normal-is, products-is}
 
@@ -32,6 +32,10 @@ numbers-all P w i j xs {f} e h p a b =
     let z : p ≡ before w i j + (p - before w i j) = omega arith in
     let c : p - before w i j < w i j = omega (arith, before-next w i j) in
     subst P (sym (ap (λ (q : ℕ). getD xs q 0) z ∙ e (p - before w i j) c)) (h (p - before w i j) c)
+
+-- the numbers of lane l in a memory where x, z, y and w start at these entries
+abbrev pub stateOf : ℕ → List Float → ℕ → ℕ → ℕ → ℕ → ℕ → ℕ → ℕ → ℕ → State
+stateOf width work x z y w m n s l = record { x = reg width work x n l; z = reg width work z n l; y = reg width work y m l; w = reg width work w s l }
 
 -- where (i, j) starts, and the columns that rows i and j share, added in turn
 abbrev pub sharedSum : Problem → State → ℕ → ℕ → Float
@@ -70,21 +74,9 @@ module _ (m n s : ℕ) (off cols : List ℕ) (vals : List Float) (ok : Accepted 
     unfolding listOf piece
     ldecomp-to = rw (add-one e, st .at) (ranked g m (λ a b. before wD a (suc b)) i j (st .row) (st .low) (st .held))
 
-    pub anorm-room : e + 1 < length (listOf g AnormIndptr m)
-    unfolding listOf piece
-    anorm-room = omega (arith, ranked-in g m (λ a b. before wA a (suc b)) i j (st .row) (st .low) (st .held), st .at)
-
-    pub ldecomp-room : e + 1 < length (listOf g LdecompIndptr m)
-    unfolding listOf piece
-    ldecomp-room = omega (arith, ranked-in g m (λ a b. before wD a (suc b)) i j (st .row) (st .low) (st .held), st .at)
-
     pub diag-is : getD (listOf g LdiagIndptr m) j 0 ≡ lplace g j j
     unfolding listOf piece
     diag-is = by-row-at m (λ a. lplace g a a) j (omega (arith, st .row, st .low))
-
-    pub diag-room : j < length (listOf g LdiagIndptr m)
-    unfolding listOf piece
-    diag-room = by-row-in m (λ a. lplace g a a) j (omega (arith, st .row, st .low))
 
     pub entry-room : e < entries off cols m
     entry-room = omega (arith, st .at, lplace-lt g i j m (st .row) (st .low) (st .held))
@@ -93,26 +85,26 @@ module _ (m n s : ℕ) (off cols : List ℕ) (vals : List Float) (ok : Accepted 
     diag-entry = lplace-lt g j j m (omega (arith, st .row, st .low)) (omega arith) (held-diag off cols j)
 
     -- ---- what the sums read is there
-    module _ (width : ℕ) (work : List Float) (x z y w lo : ℕ) (values : length vals ≡ length cols) (R : Regions width x z y w lo m n s (entries off cols m) work) where
-      pub normal-ready : NormalIn width vals (listOf g AnormIndptrI m) (listOf g AnormIndptrJ m) (listOf g AnormIndices m) work x z (before wA i j) (before wA i (suc j))
-      normal-ready = record {
+    module _ (width : ℕ) (work : List Float) (x z y w lo : ℕ) (values : length vals ≡ length cols) where
+      pub normal-ready : x + n ≤ room width work → z + n ≤ room width work → NormalIn width vals (listOf g AnormIndptrI m) (listOf g AnormIndptrJ m) (listOf g AnormIndices m) work x z (before wA i j) (before wA i (suc j))
+      normal-ready x-in z-in = record {
         order = omega (arith, before-next wA i j);
         left-long = anorm-i-long m n s off cols vals ok i j (st .row) (st .low);
         right-long = anorm-j-long m n s off cols vals ok i j (st .row) (st .low);
         cols-long = anorm-e-long m n s off cols vals ok i j (st .row) (st .low);
         left-in = numbers-all (λ v. v < length vals) wA i j (listOf g AnormIndptrI m) (anorm-i-at m n s off cols vals ok i j (st .row) (st .low)) (λ k b. omega (arith, left-lt m n s off cols vals ok i j (st .row) (st .low) k b));
         right-in = numbers-all (λ v. v < length vals) wA i j (listOf g AnormIndptrJ m) (anorm-j-at m n s off cols vals ok i j (st .row) (st .low)) (λ k b. omega (arith, right-lt m n s off cols vals ok i j (st .row) (st .low) k b));
-        x-in = numbers-all (λ v. x + v < room width work) wA i j (listOf g AnormIndices m) (anorm-e-at m n s off cols vals ok i j (st .row) (st .low)) (λ k b. omega (arith, shared-lt m n s off cols vals ok i j (st .row) (st .low) k b, R .x-in));
-        z-in = numbers-all (λ v. z + v < room width work) wA i j (listOf g AnormIndices m) (anorm-e-at m n s off cols vals ok i j (st .row) (st .low)) (λ k b. omega (arith, shared-lt m n s off cols vals ok i j (st .row) (st .low) k b, R .z-in));
+        x-in = numbers-all (λ v. x + v < room width work) wA i j (listOf g AnormIndices m) (anorm-e-at m n s off cols vals ok i j (st .row) (st .low)) (λ k b. omega (arith, shared-lt m n s off cols vals ok i j (st .row) (st .low) k b, x-in));
+        z-in = numbers-all (λ v. z + v < room width work) wA i j (listOf g AnormIndices m) (anorm-e-at m n s off cols vals ok i j (st .row) (st .low)) (λ k b. omega (arith, shared-lt m n s off cols vals ok i j (st .row) (st .low) k b, z-in));
       }
 
-      pub product-ready : ProductIn width (listOf g LdecompIndptrI m) (listOf g LdecompIndptrJ m) work lo (before wD i j) (before wD i (suc j))
-      product-ready = record {
+      pub product-ready : lo + entries off cols m ≤ room width work → ProductIn width (listOf g LdecompIndptrI m) (listOf g LdecompIndptrJ m) work lo (before wD i j) (before wD i (suc j))
+      product-ready l-in = record {
         order = omega (arith, before-next wD i j);
         left-long = ldecomp-i-long m n s off cols vals ok i j (st .row) (st .low);
         right-long = ldecomp-j-long m n s off cols vals ok i j (st .row) (st .low);
-        left-in = numbers-all (λ v. lo + v < room width work) wD i j (listOf g LdecompIndptrI m) (ldecomp-i-at m n s off cols vals ok i j (st .row) (st .low)) (λ k b. omega (arith, products-in m n s off cols vals ok i j (st .row) (st .low) k b .0, R .l-in));
-        right-in = numbers-all (λ v. lo + v < room width work) wD i j (listOf g LdecompIndptrJ m) (ldecomp-j-at m n s off cols vals ok i j (st .row) (st .low)) (λ k b. omega (arith, products-in m n s off cols vals ok i j (st .row) (st .low) k b .1, R .l-in));
+        left-in = numbers-all (λ v. lo + v < room width work) wD i j (listOf g LdecompIndptrI m) (ldecomp-i-at m n s off cols vals ok i j (st .row) (st .low)) (λ k b. omega (arith, products-in m n s off cols vals ok i j (st .row) (st .low) k b .0, l-in));
+        right-in = numbers-all (λ v. lo + v < room width work) wD i j (listOf g LdecompIndptrJ m) (ldecomp-j-at m n s off cols vals ok i j (st .row) (st .low)) (λ k b. omega (arith, products-in m n s off cols vals ok i j (st .row) (st .low) k b .1, l-in));
       }
 
       -- ---- what they make is the machine's, of the factor as it stands in the memory

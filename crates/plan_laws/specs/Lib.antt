@@ -1,3 +1,3 @@
-pub mod Planned
+pub mod Meaning
 pub mod Prepared
 pub mod Factoring

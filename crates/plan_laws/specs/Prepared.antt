@@ -1,7 +1,7 @@
--- The sixteen lists that a solve reads are those of the plan, and where they stand in the index memory. Definitions only.
+-- The sixteen lists that a solve reads, cut out of an index memory, are those of the plan. Definitions only.
 use mathlib.Core.Path.{_≡_, refl}
 use mathlib.Core.List.{List}
-use Prim.Native.Nat.{ℕ, _+_, _≤_}
+use Prim.Native.Nat.{ℕ, _≤_}
 use lib.ListN.{length}
 use lib.Ieee.{Float}
 use Rattle.lists.specs.Lists.{shape, listOf, endsOf, columnsOf}
@@ -9,65 +9,31 @@ use Rattle.lists.specs.Ready.{Accepted}
 use Rattle.lists.specs.declared.Which.the-variants.{AnormIndptr, AnormIndptrI, AnormIndptrJ, AnormIndices, LdecompIndptr, LdecompIndptrI, LdecompIndptrJ, Lindptr, LdiagIndptr, Lindices}
 use Rattle.lists.specs.declared.Side.the-variants.{Factor, Matrix}
 use Rattle.lists.specs.declared.What.the-variants.{Numbers, Places}
+use Rattle.layout.specs.declared.Plan.{Plan}
+use Rattle.layout.specs.Lists.{anormIndptrIn, anormIndptrIIn, anormIndptrJIn, anormIndicesIn, ldecompIndptrIn, ldecompIndptrIIn, ldecompIndptrJIn, lindptrIn, ldiagIndptrIn, lindicesIn, ltindptrIn, ltindicesIn, ltmapIn, atindptrIn, atindicesIn, atmapIn, wordsAt}
 
 -- the matrix is accepted, and the lists are the plan's: of the normal matrix, of the products, of the factor's rows, of its columns, of the matrix's columns
-pub record Prepared (off cols : List ℕ) (vals : List Float) (m n s : ℕ) (ap ai aj ae dp di dj lp ld li tp ti tm cp ci cm : List ℕ) : Type 0 where
-  pub ok : Accepted off cols m n
+pub record Prepared (off cols : List ℕ) (vals : List Float) (p : Plan) (index : List ℕ) : Type 0 where
+  pub ok : Accepted off cols (p .m) (p .n)
   pub values : length vals ≡ length cols
-  pub slack : s ≤ m
-  pub anorm-ends : ap ≡ listOf (shape off cols) AnormIndptr m
-  pub anorm-i : ai ≡ listOf (shape off cols) AnormIndptrI m
-  pub anorm-j : aj ≡ listOf (shape off cols) AnormIndptrJ m
-  pub anorm-e : ae ≡ listOf (shape off cols) AnormIndices m
-  pub ldecomp-ends : dp ≡ listOf (shape off cols) LdecompIndptr m
-  pub ldecomp-i : di ≡ listOf (shape off cols) LdecompIndptrI m
-  pub ldecomp-j : dj ≡ listOf (shape off cols) LdecompIndptrJ m
-  pub ends : lp ≡ listOf (shape off cols) Lindptr m
-  pub diag : ld ≡ listOf (shape off cols) LdiagIndptr m
-  pub columns : li ≡ listOf (shape off cols) Lindices m
-  pub factor-ends : tp ≡ endsOf (shape off cols) Factor m m
-  pub factor-rows : ti ≡ columnsOf (shape off cols) Factor Numbers m m
-  pub factor-places : tm ≡ columnsOf (shape off cols) Factor Places m m
-  pub matrix-ends : cp ≡ endsOf (shape off cols) Matrix m n
-  pub matrix-rows : ci ≡ columnsOf (shape off cols) Matrix Numbers m n
-  pub matrix-places : cm ≡ columnsOf (shape off cols) Matrix Places m n
-
--- list k stands from a bound to the next: E stored pairs, S shared columns, D products, t entries of the matrix
-pub record Bounds (m n t E S D b1 b2 b3 b4 b5 b6 b7 b8 b9 b10 b11 b12 b13 b14 b15 b16 : ℕ) : Type 0 where
-  pub anorm-ends : b1 ≡ E + 1
-  pub anorm-i : b2 ≡ b1 + S
-  pub anorm-j : b3 ≡ b2 + S
-  pub anorm-e : b4 ≡ b3 + S
-  pub ldecomp-ends : b5 ≡ b4 + (E + 1)
-  pub ldecomp-i : b6 ≡ b5 + D
-  pub ldecomp-j : b7 ≡ b6 + D
-  pub ends : b8 ≡ b7 + (m + 1)
-  pub diag : b9 ≡ b8 + m
-  pub columns : b10 ≡ b9 + E
-  pub factor-ends : b11 ≡ b10 + (m + 1)
-  pub factor-rows : b12 ≡ b11 + E
-  pub factor-places : b13 ≡ b12 + E
-  pub matrix-ends : b14 ≡ b13 + (n + 1)
-  pub matrix-rows : b15 ≡ b14 + t
-  pub matrix-places : b16 ≡ b15 + t
+  pub slack : p .s ≤ p .m
+  pub anorm-indptr : anormIndptrIn p index ≡ listOf (shape off cols) AnormIndptr (p .m)
+  pub anorm-indptr-i : anormIndptrIIn p index ≡ listOf (shape off cols) AnormIndptrI (p .m)
+  pub anorm-indptr-j : anormIndptrJIn p index ≡ listOf (shape off cols) AnormIndptrJ (p .m)
+  pub anorm-indices : anormIndicesIn p index ≡ listOf (shape off cols) AnormIndices (p .m)
+  pub ldecomp-indptr : ldecompIndptrIn p index ≡ listOf (shape off cols) LdecompIndptr (p .m)
+  pub ldecomp-indptr-i : ldecompIndptrIIn p index ≡ listOf (shape off cols) LdecompIndptrI (p .m)
+  pub ldecomp-indptr-j : ldecompIndptrJIn p index ≡ listOf (shape off cols) LdecompIndptrJ (p .m)
+  pub lindptr : lindptrIn p index ≡ listOf (shape off cols) Lindptr (p .m)
+  pub ldiag-indptr : ldiagIndptrIn p index ≡ listOf (shape off cols) LdiagIndptr (p .m)
+  pub lindices : lindicesIn p index ≡ listOf (shape off cols) Lindices (p .m)
+  pub ltindptr : ltindptrIn p index ≡ endsOf (shape off cols) Factor (p .m) (p .m)
+  pub ltindices : ltindicesIn p index ≡ columnsOf (shape off cols) Factor Numbers (p .m) (p .m)
+  pub ltmap : ltmapIn p index ≡ columnsOf (shape off cols) Factor Places (p .m) (p .m)
+  pub atindptr : atindptrIn p index ≡ endsOf (shape off cols) Matrix (p .m) (p .n)
+  pub atindices : atindicesIn p index ≡ columnsOf (shape off cols) Matrix Numbers (p .m) (p .n)
+  pub atmap : atmapIn p index ≡ columnsOf (shape off cols) Matrix Places (p .m) (p .n)
 
 -- ---- a marked example: the star, whose plan has 80 words
-star-bounds : Bounds 3 2 4 6 6 4 7 13 19 25 32 36 40 44 47 53 57 63 69 72 76 80
-star-bounds = record {
-  anorm-ends = refl;
-  anorm-i = refl;
-  anorm-j = refl;
-  anorm-e = refl;
-  ldecomp-ends = refl;
-  ldecomp-i = refl;
-  ldecomp-j = refl;
-  ends = refl;
-  diag = refl;
-  columns = refl;
-  factor-ends = refl;
-  factor-rows = refl;
-  factor-places = refl;
-  matrix-ends = refl;
-  matrix-rows = refl;
-  matrix-places = refl;
-}
+star-words : wordsAt (record { m = 3; n = 2; s = 0; t = 4; stored = 6; shared = 6; products = 4 }) ≡ 80
+star-words = refl

@@ -10,7 +10,7 @@ use Rattle.machine.specs.Machine.{State, cell, factor}
 use Rattle.machine.specs.Work.{problemOf}
 use Rattle.plan_laws.specs.Factoring.{Factored, entries}
 use Rattle.plan_laws.proofs.Fill.{factor-held, filled-at}
-use Rattle.plan_laws.specs.Planned.{Holds}
+use Rattle.plan_laws.specs.Meaning.{Holds}
 use Rattle.plan_laws.proofs.Follows.{entries-count}
 use Rattle.layout.specs.declared.Plan.{Plan}
 use Rattle.layout.specs.Lists.{lindptrIn, lindicesIn}
@@ -27,6 +27,6 @@ module _ {off cols : List ℕ} {vals : List Float} {p : Plan} {index : List ℕ}
   held-for {width} {work} {q} {lo} F t b = record {
     reads = λ i h k from to.
         along (λ (e : ℕ). at (reg width work lo e t) k) count-for
-        ∙ factor-held (filled-at (sym count-for) F) t b i h k (subst (λ (l : List ℕ). getD l i 0 ≤ k) (prepared P .ends) from) (subst (λ (l : List ℕ). k < getD l (i + 1) 0) (prepared P .ends) to)
-        ∙ along (λ (l : List ℕ). cell (factor (problemOf (p .m) (p .n) (p .s) off cols vals) (q t)) i (getD l k 0)) (sym (prepared P .columns));
+        ∙ factor-held (filled-at (sym count-for) F) t b i h k (subst (λ (l : List ℕ). getD l i 0 ≤ k) (prepared P .lindptr) from) (subst (λ (l : List ℕ). k < getD l (i + 1) 0) (prepared P .lindptr) to)
+        ∙ along (λ (l : List ℕ). cell (factor (problemOf (p .m) (p .n) (p .s) off cols vals) (q t)) i (getD l k 0)) (sym (prepared P .lindices));
   }

@@ -21,7 +21,7 @@ use Rattle.kernels.specs.Kernels.{FillsTwo, FillsThree, costAt, uAt, dxAt, fAt}
 use Rattle.kernels.proofs.Turns.{ratio-same}
 use Rattle.eliminate.specs.Elimination.{KeptTwo, Eliminated}
 use Rattle.eliminate.proofs.Rows.{two-apart}
-use Rattle.plan_laws.specs.Planned.{RowsOf, ColsOf, LowOf, HighOf, Holds}
+use Rattle.plan_laws.specs.Meaning.{RowsOf, ColsOf, LowOf, HighOf, Holds}
 use Rattle.layout.specs.Layout.{yAt, dyAt, rhsAt, wAt, dwAt, lAt}
 use Rattle.lane_test.proofs.ToMachine.{row-plus, col-plus, front-machine, back-machine}
 use Rattle.lane_test.proofs.Tests.{reg-front}

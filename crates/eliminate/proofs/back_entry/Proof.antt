@@ -1,149 +1,117 @@
-use Rattle.lanes.proofs.Regions.{room-le}
+-- `eliminate::back_entry` meets its contract. Assumes nothing.
+use mathlib.Core.Path.{ap}
+use Prim.Native.Nat.{_+_}
 use native.Mathlib.Omega.{arith}
-use mathlib.Core.Path.{_∙_, sym}
-use Prim.Native.Nat.{_-_, _+_, _<_}
-use lib.ListN.{getD}
-use Rattle.eliminate.proofs.Turns.{cut-length, cut-at, back-value}
-use borrow.Author.Needs.{needs}
+use lib.ListN.{length}
+use Rattle.lanes.proofs.Regions.{room-le}
+use Rattle.layout.specs.Layout.{dyAt}
+use Rattle.layout.specs.Lists.{lindptrIn, ltindptrIn, ltindicesIn, ltmapIn}
+use Rattle.memory.specs.Planned.{lIn}
+use Rattle.factor.proofs.Sums.{by-ends}
+use Rattle.eliminate.proofs.Turns.{column, column-reads, back-value}
 use Rattle.eliminate.proofs.back_entry.Statement.{statement}
 use Rattle.eliminate.proofs.back_entry.Tie as tie
 
-mul-a : tie.Need-mul-a
-mul-a c = search needs
+regions-requires : tie.Need-regions-requires
+regions-requires c κs = omega (arith, room-le (c .before .before .args .width) (c .before .before .args .work .now), c .before .before .pre .0 .fits, c .before .before .good .0)
 
-shared-slice-read-a : tie.Need-shared-slice-read-a
-shared-slice-read-a c = search needs
+ltindptr-requires : tie.Need-ltindptr-requires
+ltindptr-requires c κs = c .before .before .before .pre .0 .indexed
 
-cast-a : tie.Need-cast-a
-cast-a c =
-    let e = c .before .before .before .before .before .before in
-    omega (arith, c .shared-slice-known6 .given (e .args .i))
+ltindices-requires : tie.Need-ltindices-requires
+ltindices-requires c κs = c .before .before .before .before .pre .0 .indexed
+
+ltmap-requires : tie.Need-ltmap-requires
+ltmap-requires c κs = c .before .before .before .before .before .pre .0 .indexed
+
+word-at-requires : tie.Need-word-at-requires
+word-at-requires c κs = rw (c .before .before .ltindptr .ensures) (omega (arith, c .before .before .before .before .before .before .pre .0 .columns .rows, c .before .before .before .before .before .before .pre .1))
 
 add-a : tie.Need-add-a
-add-a c =
-    let e = c .before .before .before .before .before .before in
-    omega (arith, c .shared-slice-known6 .given (e .args .i))
+add-a c = omega (arith, by-ends (c .before .before .before .before .before .before .before .args .i) (c .word-at .ensures) (c .before .before .before .ltindptr .ensures), column (c .before .before .before .before .before .before .before .pre .0) (c .before .before .before .before .before .before .before .pre .1) .order, column (c .before .before .before .before .before .before .before .pre .0) (c .before .before .before .before .before .before .before .pre .1) .few, c .before .before .before .before .before .before .before .pre .0 .indexed .fits)
 
-add-e : tie.Need-add-e
-add-e c = search needs
+add-word-at : tie.Need-add-word-at
+add-word-at c = omega (arith, c .before .before .before .before .before .before .before .pre .1, c .before .before .before .before .before .before .before .pre .0 .indexed .fits)
 
-mul-e : tie.Need-mul-e
-mul-e c = search needs
-
-shared-slice-read-e : tie.Need-shared-slice-read-e
-shared-slice-read-e c = search needs
-
-cast-e : tie.Need-cast-e
-cast-e c =
-    let e = c .before .before .before .before .before .before .before in
-    omega (arith, c .shared-slice-known7 .given (e .args .i + 1))
+word-at-requires-2 : tie.Need-word-at-requires-2
+word-at-requires-2 c κs = rw (c .before .before .before .ltindptr .ensures) (omega (arith, c .before .before .before .before .before .before .before .pre .0 .columns .rows, c .before .before .before .before .before .before .before .pre .1))
 
 add-get : tie.Need-add-get
-add-get c = omega (arith, room-le (c .before .before .before .before .before .before .before .args .width) (c .before .before .before .before .before .before .before .args .work .now), c .before .before .before .before .before .before .before .good)
+add-get c = rw (c .before .before .before .before .before .before .regions .ensures) (omega (arith, room-le (c .before .before .before .before .before .before .before .before .before .args .width) (c .before .before .before .before .before .before .before .before .before .args .work .now), c .before .before .before .before .before .before .before .before .before .pre .0 .fits, c .before .before .before .before .before .before .before .before .before .pre .1, c .before .before .before .before .before .before .before .before .before .good .0))
 
 get-requires : tie.Need-get-requires
-get-requires c κs = (c .before .before .before .before .before .before .before .pre .1 .1 .2, omega arith)
+get-requires c κs = rw (c .before .before .before .before .before .before .regions .ensures) (c .before .before .before .before .before .before .before .before .before .pre .0 .wide, omega (arith, c .before .before .before .before .before .before .before .before .before .pre .0 .fits, c .before .before .before .before .before .before .before .before .before .pre .1))
 
 mul-less-back : tie.Need-mul-less-back
-mul-less-back c =
-    let e = c .before .before .before .before .before .before .before .before in
-    omega (arith, e .pre .0 .0 .rises (e .args .i) (e .pre .0 .1), e .pre .0 .0 .ends (e .args .i) (e .pre .0 .1), e .pre .0 .0 .sizes)
+mul-less-back c = omega (arith, by-ends (c .before .before .before .before .before .before .before .before .before .before .args .i) (c .before .before .before .word-at .ensures) (c .before .before .before .before .before .before .ltindptr .ensures), by-ends (c .before .before .before .before .before .before .before .before .before .before .args .i + 1) (c .before .before .word-at2 .ensures) (c .before .before .before .before .before .before .ltindptr .ensures), column (c .before .before .before .before .before .before .before .before .before .before .pre .0) (c .before .before .before .before .before .before .before .before .before .before .pre .1) .order, column (c .before .before .before .before .before .before .before .before .before .before .pre .0) (c .before .before .before .before .before .before .before .before .before .before .pre .1) .few, c .before .before .before .before .before .before .before .before .before .before .pre .0 .indexed .fits)
 
 sub-less-back : tie.Need-sub-less-back
-sub-less-back c =
-    let e = c .before .before .before .before .before .before .before .before in
-    omega (arith, e .pre .0 .0 .rises (e .args .i) (e .pre .0 .1), e .pre .0 .0 .ends (e .args .i) (e .pre .0 .1), e .pre .0 .0 .sizes)
+sub-less-back c = omega (arith, by-ends (c .before .before .before .before .before .before .before .before .before .before .args .i) (c .before .before .before .word-at .ensures) (c .before .before .before .before .before .before .ltindptr .ensures), by-ends (c .before .before .before .before .before .before .before .before .before .before .args .i + 1) (c .before .before .word-at2 .ensures) (c .before .before .before .before .before .before .ltindptr .ensures), column (c .before .before .before .before .before .before .before .before .before .before .pre .0) (c .before .before .before .before .before .before .before .before .before .before .pre .1) .order, column (c .before .before .before .before .before .before .before .before .before .before .pre .0) (c .before .before .before .before .before .before .before .before .before .before .pre .1) .few, c .before .before .before .before .before .before .before .before .before .before .pre .0 .indexed .fits)
 
 part-less-back-start : tie.Need-part-less-back-start
-part-less-back-start c =
-    let e = c .before .before .before .before .before .before .before .before in
-    omega (arith, e .pre .0 .0 .rises (e .args .i) (e .pre .0 .1), e .pre .0 .0 .ends (e .args .i) (e .pre .0 .1), e .pre .0 .0 .sizes)
+part-less-back-start c = omega (arith, by-ends (c .before .before .before .before .before .before .before .before .before .before .args .i) (c .before .before .before .word-at .ensures) (c .before .before .before .before .before .before .ltindptr .ensures), by-ends (c .before .before .before .before .before .before .before .before .before .before .args .i + 1) (c .before .before .word-at2 .ensures) (c .before .before .before .before .before .before .ltindptr .ensures), column (c .before .before .before .before .before .before .before .before .before .before .pre .0) (c .before .before .before .before .before .before .before .before .before .before .pre .1) .order, column (c .before .before .before .before .before .before .before .before .before .before .pre .0) (c .before .before .before .before .before .before .before .before .before .before .pre .1) .few, c .before .before .before .before .before .before .before .before .before .before .pre .0 .indexed .fits, column (c .before .before .before .before .before .before .before .before .before .before .pre .0) (c .before .before .before .before .before .before .before .before .before .before .pre .1) .rows, ap length (c .before .before .before .before .before .ltindices .ensures))
 
 part-less-back-end : tie.Need-part-less-back-end
-part-less-back-end c =
-    let e = c .before .before .before .before .before .before .before .before in
-    omega (arith, e .pre .0 .0 .rises (e .args .i) (e .pre .0 .1), e .pre .0 .0 .ends (e .args .i) (e .pre .0 .1), e .pre .0 .0 .sizes)
+part-less-back-end c = omega (arith, by-ends (c .before .before .before .before .before .before .before .before .before .before .args .i) (c .before .before .before .word-at .ensures) (c .before .before .before .before .before .before .ltindptr .ensures), by-ends (c .before .before .before .before .before .before .before .before .before .before .args .i + 1) (c .before .before .word-at2 .ensures) (c .before .before .before .before .before .before .ltindptr .ensures), column (c .before .before .before .before .before .before .before .before .before .before .pre .0) (c .before .before .before .before .before .before .before .before .before .before .pre .1) .order, column (c .before .before .before .before .before .before .before .before .before .before .pre .0) (c .before .before .before .before .before .before .before .before .before .before .pre .1) .few, c .before .before .before .before .before .before .before .before .before .before .pre .0 .indexed .fits, column (c .before .before .before .before .before .before .before .before .before .before .pre .0) (c .before .before .before .before .before .before .before .before .before .before .pre .1) .rows, ap length (c .before .before .before .before .before .ltindices .ensures))
 
 mul-less-back-2 : tie.Need-mul-less-back-2
-mul-less-back-2 c =
-    let e = c .before .before .before .before .before .before .before .before .before in
-    omega (arith, e .pre .0 .0 .rises (e .args .i) (e .pre .0 .1), e .pre .0 .0 .ends (e .args .i) (e .pre .0 .1), e .pre .0 .0 .sizes)
+mul-less-back-2 c = omega (arith, by-ends (c .before .before .before .before .before .before .before .before .before .before .before .args .i) (c .before .before .before .before .word-at .ensures) (c .before .before .before .before .before .before .before .ltindptr .ensures), by-ends (c .before .before .before .before .before .before .before .before .before .before .before .args .i + 1) (c .before .before .before .word-at2 .ensures) (c .before .before .before .before .before .before .before .ltindptr .ensures), column (c .before .before .before .before .before .before .before .before .before .before .before .pre .0) (c .before .before .before .before .before .before .before .before .before .before .before .pre .1) .order, column (c .before .before .before .before .before .before .before .before .before .before .before .pre .0) (c .before .before .before .before .before .before .before .before .before .before .before .pre .1) .few, c .before .before .before .before .before .before .before .before .before .before .before .pre .0 .indexed .fits)
 
 sub-less-back-2 : tie.Need-sub-less-back-2
-sub-less-back-2 c =
-    let e = c .before .before .before .before .before .before .before .before .before in
-    omega (arith, e .pre .0 .0 .rises (e .args .i) (e .pre .0 .1), e .pre .0 .0 .ends (e .args .i) (e .pre .0 .1), e .pre .0 .0 .sizes)
+sub-less-back-2 c = omega (arith, by-ends (c .before .before .before .before .before .before .before .before .before .before .before .args .i) (c .before .before .before .before .word-at .ensures) (c .before .before .before .before .before .before .before .ltindptr .ensures), by-ends (c .before .before .before .before .before .before .before .before .before .before .before .args .i + 1) (c .before .before .before .word-at2 .ensures) (c .before .before .before .before .before .before .before .ltindptr .ensures), column (c .before .before .before .before .before .before .before .before .before .before .before .pre .0) (c .before .before .before .before .before .before .before .before .before .before .before .pre .1) .order, column (c .before .before .before .before .before .before .before .before .before .before .before .pre .0) (c .before .before .before .before .before .before .before .before .before .before .before .pre .1) .few, c .before .before .before .before .before .before .before .before .before .before .before .pre .0 .indexed .fits)
 
 part-less-back-start-2 : tie.Need-part-less-back-start-2
-part-less-back-start-2 c =
-    let e = c .before .before .before .before .before .before .before .before .before in
-    omega (arith, e .pre .0 .0 .rises (e .args .i) (e .pre .0 .1), e .pre .0 .0 .ends (e .args .i) (e .pre .0 .1), e .pre .0 .0 .sizes)
+part-less-back-start-2 c = omega (arith, by-ends (c .before .before .before .before .before .before .before .before .before .before .before .args .i) (c .before .before .before .before .word-at .ensures) (c .before .before .before .before .before .before .before .ltindptr .ensures), by-ends (c .before .before .before .before .before .before .before .before .before .before .before .args .i + 1) (c .before .before .before .word-at2 .ensures) (c .before .before .before .before .before .before .before .ltindptr .ensures), column (c .before .before .before .before .before .before .before .before .before .before .before .pre .0) (c .before .before .before .before .before .before .before .before .before .before .before .pre .1) .order, column (c .before .before .before .before .before .before .before .before .before .before .before .pre .0) (c .before .before .before .before .before .before .before .before .before .before .before .pre .1) .few, c .before .before .before .before .before .before .before .before .before .before .before .pre .0 .indexed .fits, column (c .before .before .before .before .before .before .before .before .before .before .before .pre .0) (c .before .before .before .before .before .before .before .before .before .before .before .pre .1) .places, ap length (c .before .before .before .before .before .ltmap .ensures))
 
 part-less-back-end-2 : tie.Need-part-less-back-end-2
-part-less-back-end-2 c =
-    let e = c .before .before .before .before .before .before .before .before .before in
-    omega (arith, e .pre .0 .0 .rises (e .args .i) (e .pre .0 .1), e .pre .0 .0 .ends (e .args .i) (e .pre .0 .1), e .pre .0 .0 .sizes)
+part-less-back-end-2 c = omega (arith, by-ends (c .before .before .before .before .before .before .before .before .before .before .before .args .i) (c .before .before .before .before .word-at .ensures) (c .before .before .before .before .before .before .before .ltindptr .ensures), by-ends (c .before .before .before .before .before .before .before .before .before .before .before .args .i + 1) (c .before .before .before .word-at2 .ensures) (c .before .before .before .before .before .before .before .ltindptr .ensures), column (c .before .before .before .before .before .before .before .before .before .before .before .pre .0) (c .before .before .before .before .before .before .before .before .before .before .before .pre .1) .order, column (c .before .before .before .before .before .before .before .before .before .before .before .pre .0) (c .before .before .before .before .before .before .before .before .before .before .before .pre .1) .few, c .before .before .before .before .before .before .before .before .before .before .before .pre .0 .indexed .fits, column (c .before .before .before .before .before .before .before .before .before .before .before .pre .0) (c .before .before .before .before .before .before .before .before .before .before .before .pre .1) .places, ap length (c .before .before .before .before .before .ltmap .ensures))
 
 less-back-requires : tie.Need-less-back-requires
 less-back-requires c κs =
-    let s = c .before .before .before .before .before .before .before .before .before .before in
-    let hi = s .pre .0 .0 in
-    let i = s .args .i in
-    let h = s .pre .0 .1 in
-    let r = hi .rises i h in
-    let z = hi .ends i h in
-    let q = hi .sizes in
-    let n = cut-length (getD (c .before .before .before .before .before .before .before .before .before .before .args .tptr .now) (c .before .before .before .before .before .before .before .before .before .before .args .i) 0 + 1) (getD (c .before .before .before .before .before .before .before .before .before .before .args .tptr .now) (c .before .before .before .before .before .before .before .before .before .before .args .i + 1) 0) (c .before .before .before .before .before .before .before .before .before .before .args .tind .now) z in
-    let n′ = cut-length (getD (c .before .before .before .before .before .before .before .before .before .before .args .tptr .now) (c .before .before .before .before .before .before .before .before .before .before .args .i) 0 + 1) (getD (c .before .before .before .before .before .before .before .before .before .before .args .tptr .now) (c .before .before .before .before .before .before .before .before .before .before .args .i + 1) 0) (c .before .before .before .before .before .before .before .before .before .before .args .tmap .now) (omega arith) in (
-      (
-        n′ ∙ sym n,
-        (λ k b. let b′ : k < (getD (c .before .before .before .before .before .before .before .before .before .before .args .tptr .now) (c .before .before .before .before .before .before .before .before .before .before .args .i + 1) 0) - (getD (c .before .before .before .before .before .before .before .before .before .before .args .tptr .now) (c .before .before .before .before .before .before .before .before .before .before .args .i) 0 + 1) = omega (arith, n) in rw (cut-at (getD (c .before .before .before .before .before .before .before .before .before .before .args .tptr .now) (c .before .before .before .before .before .before .before .before .before .before .args .i) 0 + 1) (getD (c .before .before .before .before .before .before .before .before .before .before .args .tptr .now) (c .before .before .before .before .before .before .before .before .before .before .args .i + 1) 0) (c .before .before .before .before .before .before .before .before .before .before .args .tind .now) k 0 b′) (hi .below ((getD (c .before .before .before .before .before .before .before .before .before .before .args .tptr .now) (c .before .before .before .before .before .before .before .before .before .before .args .i) 0 + 1) + k) (omega arith))),
-        (λ k b. let b′ : k < (getD (c .before .before .before .before .before .before .before .before .before .before .args .tptr .now) (c .before .before .before .before .before .before .before .before .before .before .args .i + 1) 0) - (getD (c .before .before .before .before .before .before .before .before .before .before .args .tptr .now) (c .before .before .before .before .before .before .before .before .before .before .args .i) 0 + 1) = omega (arith, n′) in rw (cut-at (getD (c .before .before .before .before .before .before .before .before .before .before .args .tptr .now) (c .before .before .before .before .before .before .before .before .before .before .args .i) 0 + 1) (getD (c .before .before .before .before .before .before .before .before .before .before .args .tptr .now) (c .before .before .before .before .before .before .before .before .before .before .args .i + 1) 0) (c .before .before .before .before .before .before .before .before .before .before .args .tmap .now) k 0 b′) (hi .places ((getD (c .before .before .before .before .before .before .before .before .before .before .args .tptr .now) (c .before .before .before .before .before .before .before .before .before .before .args .i) 0 + 1) + k) (omega arith))),
-      ),
-      s .pre .1 .1,
-    )
+    rw (c .before .before .before .before .before .before .before .before .before .regions .ensures, c .before .before .before .before .before .before .before .ltindices .ensures, c .before .before .before .before .before .before .ltmap .ensures, by-ends (c .before .before .before .before .before .before .before .before .before .before .before .before .args .i) (c .before .before .before .before .before .word-at .ensures) (c .before .before .before .before .before .before .before .before .ltindptr .ensures), by-ends (c .before .before .before .before .before .before .before .before .before .before .before .before .args .i + 1) (c .before .before .before .before .word-at2 .ensures) (c .before .before .before .before .before .before .before .before .ltindptr .ensures))
+    (column-reads (c .before .before .before .before .before .before .before .before .before .before .before .before .pre .0) (c .before .before .before .before .before .before .before .before .before .before .before .before .pre .1), (omega (arith, c .before .before .before .before .before .before .before .before .before .before .before .before .pre .0 .fits), c .before .before .before .before .before .before .before .before .before .before .before .before .pre .0 .fits, c .before .before .before .before .before .before .before .before .before .before .before .before .pre .0 .wide))
 
-add-g : tie.Need-add-g
-add-g c = search needs
+lindptr-requires : tie.Need-lindptr-requires
+lindptr-requires c κs = c .before .before .before .before .before .before .before .before .before .before .before .before .before .pre .0 .indexed
 
-mul-g : tie.Need-mul-g
-mul-g c = search needs
+add-word-at-2 : tie.Need-add-word-at-2
+add-word-at-2 c = omega (arith, c .before .before .before .before .before .before .before .before .before .before .before .before .before .before .pre .1, c .before .before .before .before .before .before .before .before .before .before .before .before .before .before .pre .0 .indexed .fits)
 
-shared-slice-read-g : tie.Need-shared-slice-read-g
-shared-slice-read-g c = search needs
-
-cast-g : tie.Need-cast-g
-cast-g c = search needs
+word-at-requires-3 : tie.Need-word-at-requires-3
+word-at-requires-3 c κs = rw (c .lindptr .ensures) (column (c .before .before .before .before .before .before .before .before .before .before .before .before .before .before .pre .0) (c .before .before .before .before .before .before .before .before .before .before .before .before .before .before .pre .1) .row)
 
 sub-g : tie.Need-sub-g
-sub-g c = search needs
+sub-g c = omega (arith, by-ends (c .before .before .before .before .before .before .before .before .before .before .before .before .before .before .before .args .i + 1) (c .word-at3 .ensures) (c .before .lindptr .ensures), c .before .before .before .before .before .before .before .before .before .before .before .before .before .before .before .pre .0 .ends (c .before .before .before .before .before .before .before .before .before .before .before .before .before .before .before .args .i) (c .before .before .before .before .before .before .before .before .before .before .before .before .before .before .before .pre .1) .0)
 
 add-get-2 : tie.Need-add-get-2
-add-get-2 c = omega (arith, room-le (c .before .before .before .before .before .before .before .before .before .before .before .before .args .width) (c .before .before .before .before .before .before .before .before .before .before .before .before .args .work .now), c .before .before .before .before .before .before .before .before .before .before .before .before .good)
+add-get-2 c = rw (c .before .before .before .before .before .before .before .before .before .before .before .before .before .regions .ensures) (omega (arith, room-le (c .before .before .before .before .before .before .before .before .before .before .before .before .before .before .before .before .args .width) (c .before .before .before .before .before .before .before .before .before .before .before .before .before .before .before .before .args .work .now), by-ends (c .before .before .before .before .before .before .before .before .before .before .before .before .before .before .before .before .args .i + 1) (c .before .word-at3 .ensures) (c .before .before .lindptr .ensures), c .before .before .before .before .before .before .before .before .before .before .before .before .before .before .before .before .pre .0 .ends (c .before .before .before .before .before .before .before .before .before .before .before .before .before .before .before .before .args .i) (c .before .before .before .before .before .before .before .before .before .before .before .before .before .before .before .before .pre .1) .1, c .before .before .before .before .before .before .before .before .before .before .before .before .before .before .before .before .pre .0 .fits, c .before .before .before .before .before .before .before .before .before .before .before .before .before .before .before .before .good .0))
 
 get-requires-2 : tie.Need-get-requires-2
-get-requires-2 c κs = (c .before .before .before .before .before .before .before .before .before .before .before .before .pre .1 .1 .2, omega arith)
-
-div4-requires : tie.Need-div4-requires
-div4-requires c κs = search needs
+get-requires-2 c κs = rw (c .before .before .before .before .before .before .before .before .before .before .before .before .before .regions .ensures) (c .before .before .before .before .before .before .before .before .before .before .before .before .before .before .before .before .pre .0 .wide, omega (arith, by-ends (c .before .before .before .before .before .before .before .before .before .before .before .before .before .before .before .before .args .i + 1) (c .before .word-at3 .ensures) (c .before .before .lindptr .ensures), c .before .before .before .before .before .before .before .before .before .before .before .before .before .before .before .before .pre .0 .ends (c .before .before .before .before .before .before .before .before .before .before .before .before .before .before .before .before .args .i) (c .before .before .before .before .before .before .before .before .before .before .before .before .before .before .before .before .pre .1) .0, c .before .before .before .before .before .before .before .before .before .before .before .before .before .before .before .before .pre .0 .ends (c .before .before .before .before .before .before .before .before .before .before .before .before .before .before .before .before .args .i) (c .before .before .before .before .before .before .before .before .before .before .before .before .before .before .before .before .pre .1) .1, c .before .before .before .before .before .before .before .before .before .before .before .before .before .before .before .before .pre .0 .fits))
 
 returns : tie.Need-returns
 returns c =
-    back-value (c .before .before .before .before .before .before .before .before .before .before .before .before .before .before .args .width) (c .before .before .before .before .before .before .before .before .before .before .before .before .before .before .pre .1 .1 .2) (c .before .before .before .before .before .before .before .before .before .before .before .before .before .before .args .ptr .now) (c .before .before .before .before .before .before .before .before .before .before .before .before .before .before .args .tptr .now) (c .before .before .before .before .before .before .before .before .before .before .before .before .before .before .args .tind .now) (c .before .before .before .before .before .before .before .before .before .before .before .before .before .before .args .tmap .now) (c .before .before .before .before .before .before .before .before .before .before .before .before .before .before .args .work .now) (c .before .before .before .before .before .before .before .before .before .before .before .before .before .before .args .d) (c .before .before .before .before .before .before .before .before .before .before .before .before .before .before .args .l) (c .before .before .before .before .before .before .before .before .before .before .before .before .before .before .args .m) (c .before .before .before .before .before .before .before .before .before .before .before .before .before .before .args .count) (c .before .before .before .before .before .before .before .before .before .before .before .before .before .before .args .i) (c .before .before .before .before .before .before .before .before .before .before .before .before .before .before .pre .0 .1) (omega (arith, c .before .before .before .before .before .before .before .before .before .before .before .before .before .before .pre .1 .0))
-    (c .before .before .before .before .before .before .get .ensures) (c .before .before .before .less-back .ensures) (c .before .get2 .ensures) (c .div4 .ensures)
+    let s = c .before .before .before .before .before .before .before .before .before .before .before .before .before .before .before .before .before .before in
+    let p = s .args .plan in
+    let x = s .args .index .now in
+    back-value (s .args .width) (s .pre .0 .wide) (lindptrIn p x) (ltindptrIn p x) (ltindicesIn p x) (ltmapIn p x) (s .args .work .now) (dyAt (p .n) (p .m)) (lIn p) (p .m) (p .stored) (s .args .i) (s .pre .1)
+    (omega (arith, s .pre .0 .ends (s .args .i) (s .pre .1) .0, s .pre .0 .ends (s .args .i) (s .pre .1) .1))
+    (rw (c .before .before .before .before .before .before .before .before .before .before .before .before .before .before .before .regions .ensures) at (c .before .before .before .before .before .before .before .before .get .ensures))
+    (rw (c .before .before .before .before .before .before .before .before .before .before .before .before .before .before .before .regions .ensures, c .before .before .before .before .before .before .before .before .before .before .before .before .before .ltindices .ensures, c .before .before .before .before .before .before .before .before .before .before .before .before .ltmap .ensures, by-ends (c .before .before .before .before .before .before .before .before .before .before .before .before .before .before .before .before .before .before .args .i) (c .before .before .before .before .before .before .before .before .before .before .before .word-at .ensures) (c .before .before .before .before .before .before .before .before .before .before .before .before .before .before .ltindptr .ensures), by-ends (c .before .before .before .before .before .before .before .before .before .before .before .before .before .before .before .before .before .before .args .i + 1) (c .before .before .before .before .before .before .before .before .before .before .word-at2 .ensures) (c .before .before .before .before .before .before .before .before .before .before .before .before .before .before .ltindptr .ensures)) at (c .before .before .before .before .before .less-back .ensures))
+    (rw (c .before .before .before .before .before .before .before .before .before .before .before .before .before .before .before .regions .ensures, by-ends (c .before .before .before .before .before .before .before .before .before .before .before .before .before .before .before .before .before .before .args .i + 1) (c .before .before .before .word-at3 .ensures) (c .before .before .before .before .lindptr .ensures)) at (c .before .get2 .ensures)) (c .div4 .ensures)
 
 pub back-entry-spec : {M : Type 1} → statement M
 back-entry-spec =
     tie.close
     (tie.spec
-    mul-a
-    shared-slice-read-a
-    cast-a
+    regions-requires
+    ltindptr-requires
+    ltindices-requires
+    ltmap-requires
+    word-at-requires
     add-a
-    add-e
-    mul-e
-    shared-slice-read-e
-    cast-e
+    add-word-at
+    word-at-requires-2
     add-get
     get-requires
     mul-less-back
@@ -155,12 +123,11 @@ back-entry-spec =
     part-less-back-start-2
     part-less-back-end-2
     less-back-requires
-    add-g
-    mul-g
-    shared-slice-read-g
-    cast-g
+    lindptr-requires
+    add-word-at-2
+    word-at-requires-3
     sub-g
     add-get-2
     get-requires-2
-    div4-requires
+    (λ c κs. tt)
     returns)
