@@ -14,12 +14,12 @@ ghost use Rattle.memory.specs.Planned.{Planned, problemIn, dataIn, lIn};
 ghost use Rattle.lane_test.specs.Measures.{judged, Measured, Judges, primalSum, dualSum};
 use kernels::dot_product;
 use kernels::dual_squares;
-use kernels::one4;
 use kernels::primal_squares;
 use kernels::squares_and_products;
 use lanes::add4;
 use lanes::div4;
 use lanes::mul4;
+use lanes::one4;
 use lanes::root4;
 use lanes::splat;
 use layout::Block;
@@ -29,14 +29,14 @@ use machine::Status;
 
 fn vector_norm(work: &[f64], width: usize, o: usize, k: usize) -> [f64; 4]
     requires { ⌜ (o + k ≤ room width (now work)) × Width width ⌝ }
-    ensures { λ r. ⌜ On width r (λ t. norm k (reg width (now (work .entry)) o k t)) ⌝ }
+    ensures { λ r. ⌜ On width r (λ l. norm k (reg width (now (work .entry)) o k l)) ⌝ }
 {
     root4(dot_product(work, width, o, o, k))
 }
 
 // The root of a sum of squares, over a divisor.
 fn root_over(squares: [f64; 4], by: [f64; 4]) -> [f64; 4]
-    ensures { λ r. ⌜ r ≡ lanes (λ t. √ (at squares t) ⊘ at by t) ⌝ }
+    ensures { λ r. ⌜ r ≡ lanes (λ l. √ (at squares l) ⊘ at by l) ⌝ }
 {
     let a = root4(squares);
     div4(a, by)
@@ -56,7 +56,7 @@ fn primal_feasibility(
     by: [f64; 4],
 ) -> [f64; 4]
     requires { ⌜ Rows (mem .m) (mem .n) (now off) (now cols) (now vals) × (mem .m ≤ room total (now b)) × (mem .x + mem .n ≤ room width (now work)) × (mem .w + mem .s ≤ room width (now work)) × (first + width ≤ total) × Width width ⌝ }
-    ensures { λ r. ⌜ On width r (λ t. √ (primalSum width total first (now (off .entry)) (now (cols .entry)) (now (vals .entry)) (now (b .entry)) (now (work .entry)) mem t) ⊘ at by t) ⌝ }
+    ensures { λ r. ⌜ On width r (λ l. √ (primalSum width total first (now (off .entry)) (now (cols .entry)) (now (vals .entry)) (now (b .entry)) (now (work .entry)) mem l) ⊘ at by l) ⌝ }
 {
     let squares = primal_squares(
         off,
@@ -91,7 +91,7 @@ fn dual_feasibility(
     by: [f64; 4],
 ) -> [f64; 4]
     requires { ⌜ Cols (mem .n) (mem .m) (now toff) (now rows) (now places) (now vals) × (mem .n ≤ room total (now c)) × (mem .z + mem .n ≤ room width (now work)) × (mem .y + mem .m ≤ room width (now work)) × (first + width ≤ total) × Width width ⌝ }
-    ensures { λ r. ⌜ On width r (λ t. √ (dualSum width total first (now (toff .entry)) (now (rows .entry)) (now (places .entry)) (now (vals .entry)) (now (c .entry)) (now (work .entry)) mem t) ⊘ at by t) ⌝ }
+    ensures { λ r. ⌜ On width r (λ l. √ (dualSum width total first (now (toff .entry)) (now (rows .entry)) (now (places .entry)) (now (vals .entry)) (now (c .entry)) (now (work .entry)) mem l) ⊘ at by l) ⌝ }
 {
     let squares = dual_squares(
         toff,
@@ -114,7 +114,7 @@ fn dual_feasibility(
 // g: Σ z·x, given, + Σ w·y over the slack rows.
 fn gamma(work: &[f64], width: usize, mem: Regions, zx: [f64; 4]) -> [f64; 4]
     requires { ⌜ (mem .w + mem .s ≤ room width (now work)) × (mem .y + mem .s ≤ room width (now work)) × Width width ⌝ }
-    ensures { λ r. ⌜ On width r (λ t. at zx t ⊕ Σ (mem .s) (λ i. at (reg width (now (work .entry)) (mem .w) (mem .s) t) i ⊗ at (reg width (now (work .entry)) (mem .y) (mem .s) t) i)) ⌝ }
+    ensures { λ r. ⌜ On width r (λ l. at zx l ⊕ Σ (mem .s) (λ i. at (reg width (now (work .entry)) (mem .w) (mem .s) l) i ⊗ at (reg width (now (work .entry)) (mem .y) (mem .s) l) i)) ⌝ }
 {
     let b = dot_product(work, width, mem.w, mem.y, mem.s);
     add4(zx, b)
@@ -122,7 +122,7 @@ fn gamma(work: &[f64], width: usize, mem: Regions, zx: [f64; 4]) -> [f64; 4]
 
 // G, given g and the norms of x and y.
 fn gap_in(g: [f64; 4], nx: [f64; 4], ny: [f64; 4]) -> [f64; 4]
-    ensures { λ r. ⌜ r ≡ lanes (λ t. at g t ⊘ (one ⊕ at nx t ⊕ at ny t)) ⌝ }
+    ensures { λ r. ⌜ r ≡ lanes (λ l. at g l ⊘ (one ⊕ at nx l ⊕ at ny l)) ⌝ }
 {
     let a = add4(one4(), nx);
     div4(g, add4(a, ny))
@@ -131,7 +131,7 @@ fn gap_in(g: [f64; 4], nx: [f64; 4], ny: [f64; 4]) -> [f64; 4]
 // mu, given g, by a centring.
 fn mu_in(g: [f64; 4], n: usize, s: usize, centring: f64) -> [f64; 4]
     requires { ⌜ (n ≤ 1024) × (s ≤ 256) ⌝ }
-    ensures { λ r. ⌜ r ≡ lanes (λ t. centring ⊗ at g t ⊘ whole (n + s)) ⌝ }
+    ensures { λ r. ⌜ r ≡ lanes (λ l. centring ⊗ at g l ⊘ whole (n + s)) ⌝ }
 {
     let k = n + s;
     let d = splat(k as f64);

@@ -15,7 +15,6 @@ ghost use Rattle.memory.specs.Planned.{Planned, Begins, problemIn, dataIn, lIn,
 ghost use Rattle.step.specs.Steps.{Fed, Ready, RightSide, Changed, Directed, Advanced, Took, Told, Fresh, LanesStep};
 use eliminate::factor_solve;
 use kernels::column_changes;
-use kernels::one4;
 use kernels::rhs_f;
 use kernels::rhs_u;
 use kernels::slack_changes;
@@ -24,6 +23,7 @@ use kernels::vector_update;
 use lanes::LaneState;
 use lanes::div4;
 use lanes::larger4;
+use lanes::one4;
 use lanes::smaller4;
 use lanes::splat;
 use layout::Block;
@@ -151,7 +151,7 @@ fn directions(
 
 // h: the smaller of the damping over theta and 1.
 fn step_length4(theta: [f64; 4], damping: f64) -> [f64; 4]
-    ensures { λ r. ⌜ r ≡ lanes (λ t. smaller (damping ⊘ at theta t) one) ⌝ }
+    ensures { λ r. ⌜ r ≡ lanes (λ l. smaller (damping ⊘ at theta l) one) ⌝ }
 {
     let q = div4(splat(damping), theta);
     smaller4(q, one4())
@@ -164,7 +164,7 @@ fn pick1(done: bool, p: f64) -> f64
 }
 
 fn pick4(done: [bool; 4], p: [f64; 4]) -> [f64; 4]
-    ensures { λ r. ⌜ r ≡ lanes (λ t. cond (getD done t false) null (at p t)) ⌝ }
+    ensures { λ r. ⌜ r ≡ lanes (λ l. cond (getD done l false) null (at p l)) ⌝ }
 {
     let a = pick1(done[0], p[0]);
     let b = pick1(done[1], p[1]);
