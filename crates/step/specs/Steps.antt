@@ -16,8 +16,10 @@ use Rattle.machine.specs.declared.Status.{Status}
 use Rattle.machine.specs.declared.Status.the-variants.{Spoilt}
 use Rattle.machine.specs.Work.{stepBy, stepOf}
 use Rattle.layout.specs.declared.Block.{Block}
+use Rattle.layout.specs.declared.Plan.{Plan}
 use Rattle.layout.specs.Layout.{dyAt, rhsAt, lAt}
 use Rattle.memory.specs.Numbers.{numbersAt, directionAt}
+use Rattle.memory.specs.Planned.{problemIn, dataIn, topIn}
 
 -- a block's lanes are among those of b and c, which are as long as stated
 pub record Fed (k : Block) (width m n s : ℕ) (b c : List Float) : Type 0 where
@@ -107,6 +109,15 @@ module _ (width : ℕ) (A : Problem) where
       pub frame : Untouched width top old new
       pub taken :
           (l : ℕ) → l < width → let q = numbersIn old l in numbersIn new l ≡ stepOf A H (d l) q (status A H (d l) q)
+
+-- by the settings with this damping, of which the statuses and mu are told, each lane takes its own step
+abbrev pub StepTaken : Plan → Block → ℕ → List ℕ → List ℕ → List Float → List Float → List Float → List Status → List Float → Float → List Float → List Float → Type 0
+StepTaken plan block width off cols vals b c statuses ts damping old new =
+    let A = problemIn plan off cols vals in
+    (H : Settings) (tol : List Float)
+    → H .damping ≡ damping
+    → Told width A H (dataIn plan block b c tol) statuses ts old
+    → LanesStep width A H (dataIn plan block b c tol) (topIn plan) old new
 
 -- each number p becomes 1·p + h·dp
 abbrev pub movedBy : ℕ → ℕ → ℕ → State → Float → Direction → State

@@ -12,7 +12,7 @@ ghost use Rattle.machine.specs.Machine.{Settings, LaneData};
 ghost use Rattle.machine.specs.declared.Status.the-variants.{Spoilt};
 ghost use Rattle.machine.specs.Outcome.{isDone};
 ghost use Rattle.memory.specs.Planned.{Planned, Begins, problemIn, dataIn, lIn, topIn};
-ghost use Rattle.step.specs.Steps.{Fed, Ready, RightSide, Changed, Directed, Advanced, Took, Told, Fresh, LanesStep};
+ghost use Rattle.step.specs.Steps.{Fed, Ready, RightSide, Changed, Directed, Advanced, Fresh, StepTaken};
 use eliminate::factor_solve;
 use kernels::column_changes;
 use kernels::rhs_f;
@@ -51,44 +51,8 @@ fn normal_eqn_rhs(
     let cp = plan.atindptr(index);
     let ci = plan.atindices(index);
     let cm = plan.atmap(index);
-    rhs_u(
-        cp,
-        ci,
-        cm,
-        vals,
-        c,
-        block.total,
-        block.first,
-        work,
-        width,
-        mem.x,
-        mem.z,
-        mem.y,
-        mem.dx,
-        mem.dz,
-        mem.tmp,
-        mem.n,
-        mem.m,
-        mu,
-    );
-    rhs_f(
-        off,
-        cols,
-        vals,
-        b,
-        block.total,
-        block.first,
-        work,
-        width,
-        mem.x,
-        mem.y,
-        mem.tmp,
-        mem.rhs,
-        mem.n,
-        mem.m,
-        mem.s,
-        mu,
-    );
+    rhs_u(cp, ci, cm, vals, c, block, work, width, mem, mu);
+    rhs_f(off, cols, vals, b, block, work, width, mem, mu);
 }
 
 // dx, dz and dw, of the dy, the reduced costs and mu/x that are there, and theta.
@@ -107,23 +71,8 @@ fn compute_dx_dz_dw(
     let cp = plan.atindptr(index);
     let ci = plan.atindices(index);
     let cm = plan.atmap(index);
-    let p = column_changes(
-        cp,
-        ci,
-        cm,
-        vals,
-        work,
-        width,
-        mem.x,
-        mem.z,
-        mem.dy,
-        mem.dx,
-        mem.dz,
-        mem.n,
-        mem.m,
-        mu,
-    );
-    let q = slack_changes(work, width, mem.w, mem.y, mem.dy, mem.dw, mem.s, mu);
+    let p = column_changes(cp, ci, cm, vals, work, width, mem, mu);
+    let q = slack_changes(work, width, mem, mu);
     larger4(p, q)
 }
 
@@ -194,28 +143,6 @@ fn advance(
     vector_update(work, width, mem.w, mem.dw, mem.s, h);
 }
 
-fn normal_eqn_step(
-    off: &[u32],
-    cols: &[u32],
-    vals: &[f64],
-    index: &[u32],
-    plan: Plan,
-    b: &[f64],
-    c: &[f64],
-    block: Block,
-    work: &mut [f64],
-    width: usize,
-    mu: [f64; 4],
-    done: [bool; 4],
-    damping: f64,
-)
-    requires { ⌜ Planned (now off) (now cols) (now vals) plan (now index) × Fed block width (plan .m) (plan .n) (plan .s) (now b) (now c) × (topIn plan ≤ room width (now work)) ⌝ }
-    ensures { λ _. ⌜ ((H : Settings) (tol : List Float) → H .damping ≡ damping → Took width (problemIn plan (now (off .entry)) (now (cols .entry)) (now (vals .entry))) H (dataIn plan block (now (b .entry)) (now (c .entry)) tol) (topIn plan) mu done (now (work .entry)) (now (work .exit))) ⌝ }
-{
-    let theta = directions(off, cols, vals, index, plan, b, c, block, work, width, mu);
-    advance(work, width, plan, theta, done, damping);
-}
-
 // Every number 1000.0.
 pub fn normal_eqn_init(work: &mut [f64], width: usize, plan: Plan)
     requires { ⌜ (lIn plan ≤ room width (now work)) × Width width ⌝ }
@@ -261,22 +188,9 @@ pub fn step_lanes(
     damping: f64,
 )
     requires { ⌜ Planned (now off) (now cols) (now vals) plan (now index) × Fed block width (plan .m) (plan .n) (plan .s) (now b) (now c) × (topIn plan ≤ room width (now work)) ⌝ }
-    ensures { λ _. ⌜ ((H : Settings) (tol : List Float) → H .damping ≡ damping → Told width (problemIn plan (now (off .entry)) (now (cols .entry)) (now (vals .entry))) H (dataIn plan block (now (b .entry)) (now (c .entry)) tol) statuses mu (now (work .entry)) → LanesStep width (problemIn plan (now (off .entry)) (now (cols .entry)) (now (vals .entry))) H (dataIn plan block (now (b .entry)) (now (c .entry)) tol) (topIn plan) (now (work .entry)) (now (work .exit))) ⌝ }
+    ensures { λ _. ⌜ StepTaken plan block width (now (off .entry)) (now (cols .entry)) (now (vals .entry)) (now (b .entry)) (now (c .entry)) statuses mu damping (now (work .entry)) (now (work .exit)) ⌝ }
 {
     let done = lanes_done(statuses);
-    normal_eqn_step(
-        off,
-        cols,
-        vals,
-        index,
-        plan,
-        b,
-        c,
-        block,
-        work,
-        width,
-        mu,
-        done,
-        damping,
-    );
+    let theta = directions(off, cols, vals, index, plan, b, c, block, work, width, mu);
+    advance(work, width, plan, theta, done, damping);
 }
