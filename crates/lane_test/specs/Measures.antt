@@ -1,5 +1,5 @@
 -- What a test reads of a block of lanes, and what it yields. Definitions only.
-use Prim.Native.Nat.{ℕ, _+_, _<_}
+use Prim.Native.Nat.{ℕ, _+_, _*_, _<_}
 use mathlib.Core.Path.{_≡_}
 use mathlib.Core.Bool.{cond, _&&_}
 use mathlib.Core.List.{List}
@@ -8,32 +8,43 @@ use lib.Ieee.{Float, lt, isNan}
 use Rattle.machine.specs.Machine.{Problem, LaneData, Settings, status}
 use Rattle.machine.specs.declared.Status.{Status}
 use Rattle.machine.specs.declared.Status.the-variants.{Spoilt, Done, Step}
-use Rattle.lanes.specs.Lists.{at, lane}
+use Rattle.lanes.specs.Lists.{at}
 use Rattle.lanes.specs.Arithmetic.{_⊕_, _⊗_, _⊘_, Σ, norm, whole}
-use Rattle.lanes.specs.Region.{reg}
-use Rattle.kernels.specs.Kernels.{qAt, rAt}
-use Rattle.layout.specs.declared.Regions.{Regions}
+use Rattle.layout.specs.declared.Block.{Block}
 use Rattle.memory.specs.Numbers.{numbersAt}
 
 -- what a test yields, of R, Q, G, mu and the three tolerances
 abbrev pub judged : Float → Float → Float → Float → Float → Float → Float → Status
 judged r q g mu tr tq tg = cond (isNan g) Spoilt (cond (lt r tr && lt q tq && lt g tg) Done (Step mu))
 
+-- the tolerances of R, Q and G of lane l of a block: an entry each, of the lanes of the call
+abbrev pub primalTol : Block → List Float → ℕ → Float
+primalTol block tol l = at tol (block .first + l)
+
+abbrev pub dualTol : Block → List Float → ℕ → Float
+dualTol block tol l = at tol (block .total + (block .first + l))
+
+abbrev pub gapTol : Block → List Float → ℕ → Float
+gapTol block tol l = at tol (2 * block .total + (block .first + l))
+
+abbrev pub judgedLane : Block → List Float → List Float → List Float → List Float → List Float → ℕ → Status
+judgedLane block r q g mu tol l = judged (at r l) (at q l) (at g l) (at mu l) (primalTol block tol l) (dualTol block tol l) (gapTol block tol l)
+
 -- the lanes' norms of x and y, their g: Σ z·x + Σ w·y over the slack rows, and their mu by a centring, of the numbers in a memory
 pub record Measured (width m n s : ℕ) (centring : Float) (ws nx ny g mu : List Float) : Type 0 where
-  pub x-norm : (t : ℕ) → t < width → at nx t ≡ norm n (numbersAt width m n s ws t .x)
-  pub y-norm : (t : ℕ) → t < width → at ny t ≡ norm m (numbersAt width m n s ws t .y)
+  pub x-norm : (l : ℕ) → l < width → at nx l ≡ norm n (numbersAt width m n s ws l .x)
+  pub y-norm : (l : ℕ) → l < width → at ny l ≡ norm m (numbersAt width m n s ws l .y)
   pub gap :
-      (t : ℕ)
-      → t < width
-      → let q = numbersAt width m n s ws t in
-      at g t ≡ Σ n (λ e. at (q .z) e ⊗ at (q .x) e) ⊕ Σ s (λ i. at (q .w) i ⊗ at (q .y) i)
-  pub centred : (t : ℕ) → t < width → at mu t ≡ centring ⊗ at g t ⊘ whole (n + s)
+      (l : ℕ)
+      → l < width
+      → let q = numbersAt width m n s ws l in
+      at g l ≡ Σ n (λ e. at (q .z) e ⊗ at (q .x) e) ⊕ Σ s (λ i. at (q .w) i ⊗ at (q .y) i)
+  pub centred : (l : ℕ) → l < width → at mu l ≡ centring ⊗ at g l ⊘ whole (n + s)
 
 -- the lanes' divisors of R and of Q are those of the settings
 pub record Divided (width : ℕ) (A : Problem) (H : Settings) (d : ℕ → LaneData) (ws byR byQ : List Float) : Type 0 where
-  pub primal : (t : ℕ) → t < width → at byR t ≡ (H .divisorR) A (d t) (numbersAt width (A .m) (A .n) (A .s) ws t)
-  pub dual : (t : ℕ) → t < width → at byQ t ≡ (H .divisorQ) A (d t) (numbersAt width (A .m) (A .n) (A .s) ws t)
+  pub primal : (l : ℕ) → l < width → at byR l ≡ (H .divisorR) A (d l) (numbersAt width (A .m) (A .n) (A .s) ws l)
+  pub dual : (l : ℕ) → l < width → at byQ l ≡ (H .divisorQ) A (d l) (numbersAt width (A .m) (A .n) (A .s) ws l)
 
 -- by the settings whose mu and divisors these are, the statuses are what the lanes' numbers yield
 abbrev pub Judges : ℕ → Problem → Settings → (ℕ → LaneData) → List Float → List Float → List Float → List Float → List Float → List Float → List Float → List Status → Type 0
@@ -43,14 +54,3 @@ Judges width A H d ws nx ny g mu byR byQ said =
     → (l : ℕ)
     → l < width
     → getD said l Spoilt ≡ status A H (d l) (numbersAt width (A .m) (A .n) (A .s) ws l)
-
--- lane t's sums of squares of the residuals, by the lists; of b and c, lane first + t of `total`
-abbrev pub primalSum : ℕ → ℕ → ℕ → List ℕ → List ℕ → List Float → List Float → List Float → Regions → ℕ → Float
-primalSum width total first off cols vals b ws g t =
-    let r = rAt off cols vals (g .s) (lane total (g .m) (first + t) b) (reg width ws (g .x) (g .n) t) (reg width ws (g .w) (g .s) t) in
-    Σ (g .m) (λ i. r i ⊗ r i)
-
-abbrev pub dualSum : ℕ → ℕ → ℕ → List ℕ → List ℕ → List ℕ → List Float → List Float → List Float → Regions → ℕ → Float
-dualSum width total first toff rows places vals c ws g t =
-    let q = qAt toff rows places vals (lane total (g .n) (first + t) c) (reg width ws (g .z) (g .n) t) (reg width ws (g .y) (g .m) t) in
-    Σ (g .n) (λ e. q e ⊗ q e)

@@ -12,15 +12,16 @@ ghost use Rattle.machine.specs.declared.Status.the-variants.{Spoilt};
 ghost use Rattle.memory.specs.Numbers.{Lent};
 ghost use Rattle.memory.specs.Planned.{Planned, problemIn, dataIn};
 ghost use Rattle.layout.specs.Layout.{lIn};
-ghost use Rattle.lane_test.specs.Measures.{judged, Measured, Judges, primalSum, dualSum};
+ghost use Rattle.lane_test.specs.Measures.{judged, Measured, Judges, primalTol, dualTol, gapTol, judgedLane};
+ghost use Rattle.kernels.specs.Kernels.{Laid, Within, wIn, slackY, primalSum, dualSum};
 use kernels::dot_product;
 use kernels::dual_squares;
-use kernels::one4;
 use kernels::primal_squares;
 use kernels::squares_and_products;
 use lanes::add4;
 use lanes::div4;
 use lanes::mul4;
+use lanes::one4;
 use lanes::root4;
 use lanes::splat;
 use layout::Block;
@@ -30,14 +31,14 @@ use machine::Status;
 
 fn vector_norm(work: &[f64], width: usize, o: usize, k: usize) -> [f64; 4]
     requires { ⌜ (o + k ≤ room width (now work)) × Width width ⌝ }
-    ensures { λ r. ⌜ On width r (λ t. norm k (reg width (now (work .entry)) o k t)) ⌝ }
+    ensures { λ r. ⌜ On width r (λ l. norm k (reg width (now (work .entry)) o k l)) ⌝ }
 {
     root4(dot_product(work, width, o, o, k))
 }
 
 // The root of a sum of squares, over a divisor.
 fn root_over(squares: [f64; 4], by: [f64; 4]) -> [f64; 4]
-    ensures { λ r. ⌜ r ≡ lanes (λ t. √ (at squares t) ⊘ at by t) ⌝ }
+    ensures { λ r. ⌜ r ≡ lanes (λ l. √ (at squares l) ⊘ at by l) ⌝ }
 {
     let a = root4(squares);
     div4(a, by)
@@ -49,32 +50,19 @@ fn primal_feasibility(
     cols: &[u32],
     vals: &[f64],
     b: &[f64],
-    total: usize,
-    first: usize,
+    block: Block,
     work: &[f64],
     width: usize,
     mem: Regions,
     by: [f64; 4],
 ) -> [f64; 4]
-    requires { ⌜ Rows (mem .m) (mem .n) (now off) (now cols) (now vals) × (mem .m ≤ room total (now b)) × (mem .x + mem .n ≤ room width (now work)) × (mem .w + mem .s ≤ room width (now work)) × (first + width ≤ total) × Width width ⌝ }
-    ensures { λ r. ⌜ On width r (λ t. √ (primalSum width total first (now (off .entry)) (now (cols .entry)) (now (vals .entry)) (now (b .entry)) (now (work .entry)) mem t) ⊘ at by t) ⌝ }
+    requires { ⌜ Rows (mem .m) (mem .n) (now off) (now cols) (now vals) × Laid width mem (now work) × Within block width (mem .m) (now b) ⌝ }
+    ensures { λ r. ⌜ On width r (λ l. √ (primalSum width mem (now (off .entry)) (now (cols .entry)) (now (vals .entry)) block (now (b .entry)) (now (work .entry)) l) ⊘ at by l) ⌝ }
 {
-    let squares = primal_squares(
-        off,
-        cols,
-        vals,
-        b,
-        total,
-        first,
-        work,
-        width,
-        mem.x,
-        mem.w,
-        mem.m,
-        mem.n,
-        mem.s,
-    );
-    root_over(squares, by)
+    root_over(
+        primal_squares(off, cols, vals, b, block, work, width, mem),
+        by,
+    )
 }
 
 // Q, given its divisors.
@@ -84,38 +72,25 @@ fn dual_feasibility(
     places: &[u32],
     vals: &[f64],
     c: &[f64],
-    total: usize,
-    first: usize,
+    block: Block,
     work: &[f64],
     width: usize,
     mem: Regions,
     by: [f64; 4],
 ) -> [f64; 4]
-    requires { ⌜ Cols (mem .n) (mem .m) (now toff) (now rows) (now places) (now vals) × (mem .n ≤ room total (now c)) × (mem .z + mem .n ≤ room width (now work)) × (mem .y + mem .m ≤ room width (now work)) × (first + width ≤ total) × Width width ⌝ }
-    ensures { λ r. ⌜ On width r (λ t. √ (dualSum width total first (now (toff .entry)) (now (rows .entry)) (now (places .entry)) (now (vals .entry)) (now (c .entry)) (now (work .entry)) mem t) ⊘ at by t) ⌝ }
+    requires { ⌜ Cols (mem .n) (mem .m) (now toff) (now rows) (now places) (now vals) × Laid width mem (now work) × Within block width (mem .n) (now c) ⌝ }
+    ensures { λ r. ⌜ On width r (λ l. √ (dualSum width mem (now (toff .entry)) (now (rows .entry)) (now (places .entry)) (now (vals .entry)) block (now (c .entry)) (now (work .entry)) l) ⊘ at by l) ⌝ }
 {
-    let squares = dual_squares(
-        toff,
-        rows,
-        places,
-        vals,
-        c,
-        total,
-        first,
-        work,
-        width,
-        mem.z,
-        mem.y,
-        mem.n,
-        mem.m,
-    );
-    root_over(squares, by)
+    root_over(
+        dual_squares(toff, rows, places, vals, c, block, work, width, mem),
+        by,
+    )
 }
 
 // g: Σ z·x, given, + Σ w·y over the slack rows.
 fn gamma(work: &[f64], width: usize, mem: Regions, zx: [f64; 4]) -> [f64; 4]
-    requires { ⌜ (mem .w + mem .s ≤ room width (now work)) × (mem .y + mem .s ≤ room width (now work)) × Width width ⌝ }
-    ensures { λ r. ⌜ On width r (λ t. at zx t ⊕ Σ (mem .s) (λ i. at (reg width (now (work .entry)) (mem .w) (mem .s) t) i ⊗ at (reg width (now (work .entry)) (mem .y) (mem .s) t) i)) ⌝ }
+    requires { ⌜ Laid width mem (now work) ⌝ }
+    ensures { λ r. ⌜ On width r (λ l. at zx l ⊕ Σ (mem .s) (λ i. at (wIn width mem (now (work .entry)) l) i ⊗ at (slackY width mem (now (work .entry)) l) i)) ⌝ }
 {
     let b = dot_product(work, width, mem.w, mem.y, mem.s);
     add4(zx, b)
@@ -123,7 +98,7 @@ fn gamma(work: &[f64], width: usize, mem: Regions, zx: [f64; 4]) -> [f64; 4]
 
 // G, given g and the norms of x and y.
 fn gap_in(g: [f64; 4], nx: [f64; 4], ny: [f64; 4]) -> [f64; 4]
-    ensures { λ r. ⌜ r ≡ lanes (λ t. at g t ⊘ (one ⊕ at nx t ⊕ at ny t)) ⌝ }
+    ensures { λ r. ⌜ r ≡ lanes (λ l. at g l ⊘ (one ⊕ at nx l ⊕ at ny l)) ⌝ }
 {
     let a = add4(one4(), nx);
     div4(g, add4(a, ny))
@@ -132,7 +107,7 @@ fn gap_in(g: [f64; 4], nx: [f64; 4], ny: [f64; 4]) -> [f64; 4]
 // mu, given g, by a centring.
 fn mu_in(g: [f64; 4], n: usize, s: usize, centring: f64) -> [f64; 4]
     requires { ⌜ (n ≤ 1024) × (s ≤ 256) ⌝ }
-    ensures { λ r. ⌜ r ≡ lanes (λ t. centring ⊗ at g t ⊘ whole (n + s)) ⌝ }
+    ensures { λ r. ⌜ r ≡ lanes (λ l. centring ⊗ at g l ⊘ whole (n + s)) ⌝ }
 {
     let k = n + s;
     let d = splat(k as f64);
@@ -163,21 +138,42 @@ pub fn measure(work: &[f64], width: usize, plan: Plan, centring: f64) -> Measure
     Measures { nx, ny, g, mu }
 }
 
-// What one lane's test yields, of R, Q, G, mu and its three tolerances.
-fn judge(r: f64, q: f64, g: f64, mu: f64, primal: f64, dual: f64, gap: f64) -> Status
-    ensures { λ k. ⌜ k ≡ judged r q g mu primal dual gap ⌝ }
+// A lane's tolerances of R, Q and G.
+struct Tolerances {
+    primal: f64,
+    dual: f64,
+    gap: f64,
+}
+
+// What one lane's test yields, of R, Q, G, mu and its tolerances.
+fn judge(r: f64, q: f64, g: f64, mu: f64, tol: Tolerances) -> Status
+    ensures { λ k. ⌜ k ≡ judged r q g mu (tol .primal) (tol .dual) (tol .gap) ⌝ }
 {
     if g != g {
         return Status::Spoilt;
     }
-    if r < primal {
-        if q < dual {
-            if g < gap {
+    if r < tol.primal {
+        if q < tol.dual {
+            if g < tol.gap {
                 return Status::Done;
             }
         }
     }
     Status::Step(mu)
+}
+
+// The tolerances of lane l of a block.
+fn tolerances_of(tol: &[f64], block: Block, l: usize) -> Tolerances
+    requires { ⌜ (l < 4) × (block .total ≤ 16) × (block .first + l < block .total) × (3 * block .total ≤ length (now tol)) ⌝ }
+    ensures { λ r. ⌜ (r .primal ≡ primalTol block (now (tol .entry)) l) × (r .dual ≡ dualTol block (now (tol .entry)) l) × (r .gap ≡ gapTol block (now (tol .entry)) l) ⌝ }
+{
+    let total = block.total;
+    let p = block.first + l;
+    Tolerances {
+        primal: tol[p],
+        dual: tol[total + p],
+        gap: tol[2 * total + p],
+    }
 }
 
 fn judge_lane(
@@ -190,19 +186,10 @@ fn judge_lane(
     l: usize,
 ) -> Status
     requires { ⌜ (l < 4) × (block .total ≤ 16) × (block .first + l < block .total) × (3 * block .total ≤ length (now tol)) ⌝ }
-    ensures { λ k. ⌜ k ≡ judged (at r l) (at q l) (at g l) (at mu l) (at (now (tol .entry)) (block .first + l)) (at (now (tol .entry)) (block .total + (block .first + l))) (at (now (tol .entry)) (2 * block .total + (block .first + l))) ⌝ }
+    ensures { λ k. ⌜ k ≡ judgedLane block r q g mu (now (tol .entry)) l ⌝ }
 {
-    let total = block.total;
-    let p = block.first + l;
-    judge(
-        r[l],
-        q[l],
-        g[l],
-        mu[l],
-        tol[p],
-        tol[total + p],
-        tol[2 * total + p],
-    )
+    let given = tolerances_of(tol, block, l);
+    judge(r[l], q[l], g[l], mu[l], given)
 }
 
 fn judge4(
@@ -215,7 +202,7 @@ fn judge4(
     width: usize,
 ) -> [Status; 4]
     requires { ⌜ (block .total ≤ 16) × (block .first + width ≤ block .total) × (3 * block .total ≤ length (now tol)) × Width width ⌝ }
-    ensures { λ k. ⌜ ((l : ℕ) → l < width → getD k l Spoilt ≡ judged (at r l) (at q l) (at g l) (at mu l) (at (now (tol .entry)) (block .first + l)) (at (now (tol .entry)) (block .total + (block .first + l))) (at (now (tol .entry)) (2 * block .total + (block .first + l)))) ⌝ }
+    ensures { λ k. ⌜ ((l : ℕ) → l < width → getD k l Spoilt ≡ judgedLane block r q g mu (now (tol .entry)) l) ⌝ }
 {
     let a = judge_lane(r, q, g, mu, tol, block, 0);
     if width == 1 {
@@ -257,25 +244,11 @@ pub fn test(
     let ny = sums.ny;
     let g = sums.g;
     let mu = sums.mu;
-    let total = block.total;
-    let first = block.first;
     let mem = plan.regions();
     let toff = plan.atindptr(index);
     let rows = plan.atindices(index);
     let places = plan.atmap(index);
-    let r = primal_feasibility(off, cols, vals, b, total, first, work, width, mem, rdiv);
-    let q = dual_feasibility(
-        toff,
-        rows,
-        places,
-        vals,
-        c,
-        total,
-        first,
-        work,
-        width,
-        mem,
-        qdiv,
-    );
+    let r = primal_feasibility(off, cols, vals, b, block, work, width, mem, rdiv);
+    let q = dual_feasibility(toff, rows, places, vals, c, block, work, width, mem, qdiv);
     judge4(r, q, gap_in(g, nx, ny), mu, tol, block, width)
 }

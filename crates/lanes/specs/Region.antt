@@ -1,4 +1,4 @@
--- A region of a memory of K lanes: n entries from entry o. What lane l has there, and what a function that writes a region leaves. Definitions only.
+-- A region of a memory of K lanes: n entries from entry o. Definitions only.
 use Prim.Native.Nat.{ℕ, _+_, _*_, _≤_, _<_}
 use mathlib.Core.Path.{_≡_}
 use mathlib.Core.Logic.{_⊎_}
@@ -18,17 +18,17 @@ pub record Kept (K o n : ℕ) (old new : List Float) : Type 0 where
   pub size : length new ≡ length old
   pub outside : (j : ℕ) → (j < K * o) ⊎ (K * (o + n) ≤ j) → at new j ≡ at old j
 
--- the n entries from entry o are written, lane l of them being the list `G l`, and nothing else has changed
+-- the n entries from entry o are written: lane l of them is `G l`. Nothing else has changed.
 pub record Fills (K o n : ℕ) (G : ℕ → List Float) (old new : List Float) : Type 0 where
   pub kept : Kept K o n old new
   pub within : (l : ℕ) → l < K → reg K new o n l ≡ G l
 
--- the first i entries of a region are written, each made by `F` from those before it, and nothing else has changed
+-- the first i entries of a region are written, each by `F` from those before it. Nothing else has changed.
 pub record Grows (K o i : ℕ) (F : ℕ → List Float → ℕ → Float) (old new : List Float) : Type 0 where
   pub kept : Kept K o i old new
   pub within : (l : ℕ) → l < K → reg K new o i l ≡ grow i (F l)
 
--- the m entries from p and the n entries from o have none in common
+-- m entries from p and n entries from o have none in common
 pub data Apart (p m o n : ℕ) : Type 0 where
   before : p + m ≤ o → Apart p m o n
   after : o + n ≤ p → Apart p m o n

@@ -4,10 +4,11 @@ use mathlib.Core.List.{List}
 use Prim.Native.Nat.{ℕ, _+_, _-_, _≤_, _<_}
 use native.Mathlib.Omega.{arith}
 use lib.ListN.{length, getD, drop, length-drop}
+use lib.Ieee.{Float}
 use lib.Seq.{getD-take, getD-drop, length-take-le}
 use Rattle.base.specs.Numbers.{cut}
 use Rattle.sparse.specs.Sparse.{Csr}
-use Rattle.sparse.specs.Parts.{span}
+use Rattle.sparse.specs.Parts.{span, Rows, Cols}
 
 pub cut-length {ℓ} : {A : Type ℓ} (a e : ℕ) (xs : List A) → e ≤ length xs → length (cut a e xs) ≡ e - a
 cut-length a e xs h = length-take-le (e - a) (drop a xs) (simp length-drop (omega arith))
@@ -28,3 +29,26 @@ module _ {m n : ℕ} {off cols : List ℕ} (r : Csr m n off cols) (i : ℕ) (h :
   span-all xs P e p k b =
       let b′ : k < getD off (i + 1) 0 - getD off i 0 = omega (arith, span-length xs e) in
       subst P (sym (cut-at (getD off i 0) (getD off (i + 1) 0) xs k 0 b′)) (p (getD off i 0 + k) (omega (arith, r .ends i h)))
+
+-- ---- a row or a column, as its function lends it
+
+-- part i ends in both lists
+pub record Ends (off : List ℕ) (i one other : ℕ) : Type 0 where
+  pub rises : getD off i 0 ≤ getD off (i + 1) 0
+  pub first : getD off (i + 1) 0 ≤ one
+  pub second : getD off (i + 1) 0 ≤ other
+
+module _ {m n i : ℕ} {off cols : List ℕ} {vals : List Float} (R : Rows m n off cols vals) (h : i < m) where
+  pub row-ends : Ends off i (length cols) (length vals)
+  row-ends = record { rises = R .csr .rises i h; first = R .csr .ends i h; second = omega (arith, R .csr .ends i h, R .sizes) }
+
+  pub row-lent : (length (span off vals i) ≡ length (span off cols i)) × ((k : ℕ) → k < length (span off cols i) → getD (span off cols i) k 0 < n)
+  row-lent = (span-same (R .csr) i h vals (R .sizes), span-all (R .csr) i h cols (λ (e : ℕ). e < n) refl (R .csr .below))
+
+module _ {n m e : ℕ} {toff rows places : List ℕ} {vals : List Float} (C : Cols n m toff rows places vals) (h : e < n) where
+  pub col-ends : Ends toff e (length rows) (length places)
+  col-ends = record { rises = C .csr .rises e h; first = C .csr .ends e h; second = omega (arith, C .csr .ends e h, C .sizes) }
+
+  pub col-lent : (length (span toff places e) ≡ length (span toff rows e)) × ((k : ℕ) → k < length (span toff rows e) → getD (span toff rows e) k 0 < m)
+      × ((k : ℕ) → k < length (span toff places e) → getD (span toff places e) k 0 < length vals)
+  col-lent = (span-same (C .csr) e h places (C .sizes), span-all (C .csr) e h rows (λ (i : ℕ). i < m) refl (C .csr .below), span-all (C .csr) e h places (λ (p : ℕ). p < length vals) (C .sizes) (C .range))

@@ -18,7 +18,7 @@ use Rattle.machine.specs.Work.{stepBy}
 use Rattle.machine.proofs.Factor.{fold-same}
 use Rattle.sparse.specs.Sparse.{front, back}
 use Rattle.kernels.specs.Kernels.{FillsTwo, FillsThree, costAt, uAt, dxAt, fAt}
-use Rattle.kernels.proofs.Turns.{ratio-same}
+use Rattle.kernels.proofs.Loops.{ratio-same}
 use Rattle.eliminate.specs.Elimination.{KeptTwo, Eliminated}
 use Rattle.eliminate.proofs.Rows.{two-apart}
 use Rattle.plan_laws.specs.Meaning.{RowsOf, ColsOf, LowOf, HighOf, Holds}

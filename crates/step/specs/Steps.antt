@@ -16,8 +16,10 @@ use Rattle.machine.specs.declared.Status.{Status}
 use Rattle.machine.specs.declared.Status.the-variants.{Spoilt}
 use Rattle.machine.specs.Work.{stepBy, stepOf}
 use Rattle.layout.specs.declared.Block.{Block}
+use Rattle.layout.specs.declared.Plan.{Plan}
 use Rattle.layout.specs.Layout.{dyAt, rhsAt, lAt}
 use Rattle.memory.specs.Numbers.{numbersAt, directionAt}
+use Rattle.memory.specs.Planned.{problemIn, dataIn, topIn}
 
 -- a block's lanes are among those of b and c, which are as long as stated
 pub record Fed (k : Block) (width m n s : ℕ) (b c : List Float) : Type 0 where
@@ -33,17 +35,17 @@ pub record Untouched (width top : ℕ) (old new : List Float) : Type 0 where
   pub beyond : (j : ℕ) → width * top ≤ j → at new j ≡ at old j
 
 module _ (width : ℕ) (A : Problem) where
-  -- lane t's numbers, and what its step has worked out, in a memory
+  -- lane l's numbers, and what its step has worked out, in a memory
   abbrev pub numbersIn : List Float → ℕ → State
-  numbersIn ws t = numbersAt width (A .m) (A .n) (A .s) ws t
+  numbersIn ws l = numbersAt width (A .m) (A .n) (A .s) ws l
 
   abbrev pub directionIn : List Float → ℕ → Direction
-  directionIn ws t = directionAt width (A .m) (A .n) (A .s) ws t
+  directionIn ws l = directionAt width (A .m) (A .n) (A .s) ws l
 
   -- the numbers have not changed
   pub record Still (top : ℕ) (old new : List Float) : Type 0 where
     pub frame : Untouched width top old new
-    pub kept : (t : ℕ) → t < width → numbersIn new t ≡ numbersIn old t
+    pub kept : (l : ℕ) → l < width → numbersIn new l ≡ numbersIn old l
 
   -- c − Aᵀy, and mu/x
   abbrev pub reducedCosts : LaneData → State → List Float
@@ -54,59 +56,68 @@ module _ (width : ℕ) (A : Problem) where
 
   -- until dx and dz are worked out, their regions have the reduced costs and mu/x
   pub record Ready (d : ℕ → LaneData) (mu ws : List Float) : Type 0 where
-    pub costs : (t : ℕ) → t < width → reg width ws (2 * A .n) (A .n) t ≡ reducedCosts (d t) (numbersIn ws t)
-    pub quotients : (t : ℕ) → t < width → reg width ws (3 * A .n) (A .n) t ≡ muOverX (at mu t) (numbersIn ws t)
+    pub costs : (l : ℕ) → l < width → reg width ws (2 * A .n) (A .n) l ≡ reducedCosts (d l) (numbersIn ws l)
+    pub quotients : (l : ℕ) → l < width → reg width ws (3 * A .n) (A .n) l ≡ muOverX (at mu l) (numbersIn ws l)
 
   module _ (H : Settings) (d : ℕ → LaneData) where
     -- dx, dz and dw of dy
     abbrev pub changes : ℕ → State → Float → List Float → Direction
-    changes t q mu dy =
-        let dx = dxOf A H (d t) q mu dy in
+    changes l q mu dy =
+        let dx = dxOf A H (d l) q mu dy in
         record { dx = dx; dz = complement (A .n) mu (q .z) (q .x) dx; dy = dy; dw = complement (A .s) mu (q .w) (q .y) dy }
 
     -- the right-hand side is the machine's f, and what dx needs besides dy is kept
     pub record RightSide (mu old new : List Float) : Type 0 where
       pub still : Still (lAt (A .n) (A .m) (A .s)) old new
-      pub rhs : (t : ℕ) → t < width → reg width new (rhsAt (A .n) (A .m)) (A .m) t ≡ fOf A H (d t) (numbersIn old t) (at mu t)
+      pub rhs : (l : ℕ) → l < width → reg width new (rhsAt (A .n) (A .m)) (A .m) l ≡ fOf A H (d l) (numbersIn old l) (at mu l)
       pub ready : Ready d mu new
 
     -- dx, dz and dw are those of the dy that is there, dy has not changed, and `ratios` are the lanes' thetas
     pub record Changed (mu old new ratios : List Float) : Type 0 where
       pub still : Still (lAt (A .n) (A .m) (A .s)) old new
-      pub worked : (t : ℕ) → t < width → directionIn new t ≡ changes t (numbersIn old t) (at mu t) (reg width old (dyAt (A .n) (A .m)) (A .m) t)
-      pub largest : (t : ℕ) → t < width → at ratios t ≡ theta A H (d t) (numbersIn new t) (directionIn new t)
+      pub worked : (l : ℕ) → l < width → directionIn new l ≡ changes l (numbersIn old l) (at mu l) (reg width old (dyAt (A .n) (A .m)) (A .m) l)
+      pub largest : (l : ℕ) → l < width → at ratios l ≡ theta A H (d l) (numbersIn new l) (directionIn new l)
 
     -- the step is worked out
     pub record Directed (top : ℕ) (mu old new ratios : List Float) : Type 0 where
       pub still : Still top old new
-      pub worked : (t : ℕ) → t < width → directionIn new t ≡ direction A H (d t) (numbersIn old t) (at mu t)
-      pub largest : (t : ℕ) → t < width → at ratios t ≡ theta A H (d t) (numbersIn new t) (directionIn new t)
+      pub worked : (l : ℕ) → l < width → directionIn new l ≡ direction A H (d l) (numbersIn old l) (at mu l)
+      pub largest : (l : ℕ) → l < width → at ratios l ≡ theta A H (d l) (numbersIn new l) (directionIn new l)
 
     -- the step is taken, by the lane's step length or, where the lane is done, by 0
     pub record Took (top : ℕ) (mu : List Float) (done : List Bool) (old new : List Float) : Type 0 where
       pub frame : Untouched width top old new
       pub taken :
-          (t : ℕ)
-          → t < width
-          → let q = numbersIn old t in
-          let r = direction A H (d t) q (at mu t) in
-          numbersIn new t ≡ stepBy A q (cond (getD done t false) null (stepLength A H (d t) q r)) r
+          (l : ℕ)
+          → l < width
+          → let q = numbersIn old l in
+          let r = direction A H (d l) q (at mu l) in
+          numbersIn new l ≡ stepBy A q (cond (getD done l false) null (stepLength A H (d l) q r)) r
 
     -- each lane's mu is its machine's, of the numbers in a memory
     abbrev pub Centred : List Float → List Float → Type 0
-    Centred ts ws = (t : ℕ) → t < width → at ts t ≡ mu A H (d t) (numbersIn ws t)
+    Centred ts ws = (l : ℕ) → l < width → at ts l ≡ mu A H (d l) (numbersIn ws l)
 
     -- the statuses are what the lanes' numbers yield, none is spoilt, and each lane's mu is its machine's
     pub record Told (statuses : List Status) (ts ws : List Float) : Type 0 where
-      pub says : (t : ℕ) → t < width → getD statuses t Spoilt ≡ status A H (d t) (numbersIn ws t)
-      pub sound : (t : ℕ) → t < width → getD statuses t Spoilt ≢ Spoilt
+      pub says : (l : ℕ) → l < width → getD statuses l Spoilt ≡ status A H (d l) (numbersIn ws l)
+      pub sound : (l : ℕ) → l < width → getD statuses l Spoilt ≢ Spoilt
       pub centred : Centred ts ws
 
     -- each lane takes its own step, as its own test says
     pub record LanesStep (top : ℕ) (old new : List Float) : Type 0 where
       pub frame : Untouched width top old new
       pub taken :
-          (t : ℕ) → t < width → let q = numbersIn old t in numbersIn new t ≡ stepOf A H (d t) q (status A H (d t) q)
+          (l : ℕ) → l < width → let q = numbersIn old l in numbersIn new l ≡ stepOf A H (d l) q (status A H (d l) q)
+
+-- by the settings with this damping, of which the statuses and mu are told, each lane takes its own step
+abbrev pub StepTaken : Plan → Block → ℕ → List ℕ → List ℕ → List Float → List Float → List Float → List Status → List Float → Float → List Float → List Float → Type 0
+StepTaken plan block width off cols vals b c statuses ts damping old new =
+    let A = problemIn plan off cols vals in
+    (H : Settings) (tol : List Float)
+    → H .damping ≡ damping
+    → Told width A H (dataIn plan block b c tol) statuses ts old
+    → LanesStep width A H (dataIn plan block b c tol) (topIn plan) old new
 
 -- each number p becomes 1·p + h·dp
 abbrev pub movedBy : ℕ → ℕ → ℕ → State → Float → Direction → State
@@ -117,16 +128,16 @@ movedBy m n s q h r =
 pub record Advanced (width m n s : ℕ) (damping : Float) (ratios : List Float) (done : List Bool) (old new : List Float) : Type 0 where
   pub frame : Untouched width (lAt n m s) old new
   pub taken :
-      (t : ℕ)
-      → t < width
-      → let h = cond (getD done t false) null (smaller (damping ⊘ at ratios t) one) in
-      numbersAt width m n s new t ≡ movedBy m n s (numbersAt width m n s old t) h (directionAt width m n s old t)
+      (l : ℕ)
+      → l < width
+      → let h = cond (getD done l false) null (smaller (damping ⊘ at ratios l) one) in
+      numbersAt width m n s new l ≡ movedBy m n s (numbersAt width m n s old l) h (directionAt width m n s old l)
 
 -- every number is 1000.0
 pub record Fresh (width m n s : ℕ) (old new : List Float) : Type 0 where
   pub frame : Untouched width (lAt n m s) old new
   pub all :
-      (t : ℕ)
-      → t < width
-      → numbersAt width m n s new t
+      (l : ℕ)
+      → l < width
+      → numbersAt width m n s new l
       ≡ record { x = vec n (λ _. startValue); z = vec n (λ _. startValue); y = vec m (λ _. startValue); w = vec s (λ _. startValue) }

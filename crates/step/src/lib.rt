@@ -13,10 +13,9 @@ ghost use Rattle.machine.specs.declared.Status.the-variants.{Spoilt};
 ghost use Rattle.machine.specs.Outcome.{isDone};
 ghost use Rattle.memory.specs.Planned.{Planned, Begins, problemIn, dataIn};
 ghost use Rattle.layout.specs.Layout.{lIn, topIn};
-ghost use Rattle.step.specs.Steps.{Fed, Ready, RightSide, Changed, Directed, Advanced, Took, Told, Fresh, LanesStep};
+ghost use Rattle.step.specs.Steps.{Fed, Ready, RightSide, Changed, Directed, Advanced, Fresh, StepTaken};
 use eliminate::factor_solve;
 use kernels::column_changes;
-use kernels::one4;
 use kernels::rhs_f;
 use kernels::rhs_u;
 use kernels::slack_changes;
@@ -25,6 +24,7 @@ use kernels::vector_update;
 use lanes::LaneState;
 use lanes::div4;
 use lanes::larger4;
+use lanes::one4;
 use lanes::smaller4;
 use lanes::splat;
 use layout::Block;
@@ -52,44 +52,8 @@ fn normal_eqn_rhs(
     let cp = plan.atindptr(index);
     let ci = plan.atindices(index);
     let cm = plan.atmap(index);
-    rhs_u(
-        cp,
-        ci,
-        cm,
-        vals,
-        c,
-        block.total,
-        block.first,
-        work,
-        width,
-        mem.x,
-        mem.z,
-        mem.y,
-        mem.dx,
-        mem.dz,
-        mem.tmp,
-        mem.n,
-        mem.m,
-        mu,
-    );
-    rhs_f(
-        off,
-        cols,
-        vals,
-        b,
-        block.total,
-        block.first,
-        work,
-        width,
-        mem.x,
-        mem.y,
-        mem.tmp,
-        mem.rhs,
-        mem.n,
-        mem.m,
-        mem.s,
-        mu,
-    );
+    rhs_u(cp, ci, cm, vals, c, block, work, width, mem, mu);
+    rhs_f(off, cols, vals, b, block, work, width, mem, mu);
 }
 
 // dx, dz and dw, of the dy, the reduced costs and mu/x that are there, and theta.
@@ -108,23 +72,8 @@ fn compute_dx_dz_dw(
     let cp = plan.atindptr(index);
     let ci = plan.atindices(index);
     let cm = plan.atmap(index);
-    let p = column_changes(
-        cp,
-        ci,
-        cm,
-        vals,
-        work,
-        width,
-        mem.x,
-        mem.z,
-        mem.dy,
-        mem.dx,
-        mem.dz,
-        mem.n,
-        mem.m,
-        mu,
-    );
-    let q = slack_changes(work, width, mem.w, mem.y, mem.dy, mem.dw, mem.s, mu);
+    let p = column_changes(cp, ci, cm, vals, work, width, mem, mu);
+    let q = slack_changes(work, width, mem, mu);
     larger4(p, q)
 }
 
@@ -152,7 +101,7 @@ fn directions(
 
 // h: the smaller of the damping over theta and 1.
 fn step_length4(theta: [f64; 4], damping: f64) -> [f64; 4]
-    ensures { λ r. ⌜ r ≡ lanes (λ t. smaller (damping ⊘ at theta t) one) ⌝ }
+    ensures { λ r. ⌜ r ≡ lanes (λ l. smaller (damping ⊘ at theta l) one) ⌝ }
 {
     let q = div4(splat(damping), theta);
     smaller4(q, one4())
@@ -165,7 +114,7 @@ fn pick1(done: bool, p: f64) -> f64
 }
 
 fn pick4(done: [bool; 4], p: [f64; 4]) -> [f64; 4]
-    ensures { λ r. ⌜ r ≡ lanes (λ t. cond (getD done t false) null (at p t)) ⌝ }
+    ensures { λ r. ⌜ r ≡ lanes (λ l. cond (getD done l false) null (at p l)) ⌝ }
 {
     let a = pick1(done[0], p[0]);
     let b = pick1(done[1], p[1]);
@@ -193,28 +142,6 @@ fn advance(
     vector_update(work, width, mem.z, mem.dz, mem.n, h);
     vector_update(work, width, mem.y, mem.dy, mem.m, h);
     vector_update(work, width, mem.w, mem.dw, mem.s, h);
-}
-
-fn normal_eqn_step(
-    off: &[u32],
-    cols: &[u32],
-    vals: &[f64],
-    index: &[u32],
-    plan: Plan,
-    b: &[f64],
-    c: &[f64],
-    block: Block,
-    work: &mut [f64],
-    width: usize,
-    mu: [f64; 4],
-    done: [bool; 4],
-    damping: f64,
-)
-    requires { ⌜ Planned (now off) (now cols) (now vals) plan (now index) × Fed block width (plan .m) (plan .n) (plan .s) (now b) (now c) × (topIn plan ≤ room width (now work)) ⌝ }
-    ensures { λ _. ⌜ ((H : Settings) (tol : List Float) → H .damping ≡ damping → Took width (problemIn plan (now (off .entry)) (now (cols .entry)) (now (vals .entry))) H (dataIn plan block (now (b .entry)) (now (c .entry)) tol) (topIn plan) mu done (now (work .entry)) (now (work .exit))) ⌝ }
-{
-    let theta = directions(off, cols, vals, index, plan, b, c, block, work, width, mu);
-    advance(work, width, plan, theta, done, damping);
 }
 
 // Every number 1000.0.
@@ -262,22 +189,9 @@ pub fn step_lanes(
     damping: f64,
 )
     requires { ⌜ Planned (now off) (now cols) (now vals) plan (now index) × Fed block width (plan .m) (plan .n) (plan .s) (now b) (now c) × (topIn plan ≤ room width (now work)) ⌝ }
-    ensures { λ _. ⌜ ((H : Settings) (tol : List Float) → H .damping ≡ damping → Told width (problemIn plan (now (off .entry)) (now (cols .entry)) (now (vals .entry))) H (dataIn plan block (now (b .entry)) (now (c .entry)) tol) statuses mu (now (work .entry)) → LanesStep width (problemIn plan (now (off .entry)) (now (cols .entry)) (now (vals .entry))) H (dataIn plan block (now (b .entry)) (now (c .entry)) tol) (topIn plan) (now (work .entry)) (now (work .exit))) ⌝ }
+    ensures { λ _. ⌜ StepTaken plan block width (now (off .entry)) (now (cols .entry)) (now (vals .entry)) (now (b .entry)) (now (c .entry)) statuses mu damping (now (work .entry)) (now (work .exit)) ⌝ }
 {
     let done = lanes_done(statuses);
-    normal_eqn_step(
-        off,
-        cols,
-        vals,
-        index,
-        plan,
-        b,
-        c,
-        block,
-        work,
-        width,
-        mu,
-        done,
-        damping,
-    );
+    let theta = directions(off, cols, vals, index, plan, b, c, block, work, width, mu);
+    advance(work, width, plan, theta, done, damping);
 }

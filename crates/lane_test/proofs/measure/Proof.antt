@@ -1,6 +1,7 @@
 use Rattle.lanes.proofs.Quads.{on}
 use Rattle.lanes.proofs.Regions.{room-le}
 use native.Mathlib.Omega.{arith}
+use Rattle.kernels.proofs.Turns.{laid}
 use Rattle.lane_test.proofs.Tests.{measured}
 use borrow.Author.Needs.{needs}
 use Rattle.lane_test.proofs.measure.Statement.{statement}
@@ -19,7 +20,7 @@ vector-norm-requires : tie.Need-vector-norm-requires
 vector-norm-requires c κs = let s = c .before .before .before .before .before .before in rw (c .before .before .before .before .regions .ensures) (omega (arith, s .pre .3), s .pre .4)
 
 gamma-requires : tie.Need-gamma-requires
-gamma-requires c κs = let s = c .before .before .before .before .before .before .before in rw (c .before .before .before .before .before .regions .ensures) (omega (arith, s .pre .3), omega (arith, s .pre .3, s .pre .2), s .pre .4)
+gamma-requires c κs = let s = c .before .before .before .before .before .before .before in rw (c .before .before .before .before .before .regions .ensures) (laid (s .pre .4) (s .pre .3))
 
 mu-in-requires : tie.Need-mu-in-requires
 mu-in-requires c κs = let s = c .before .before .before .before .before .before .before .before in rw (c .before .before .before .before .before .before .regions .ensures) (s .pre .1, omega (arith, s .pre .0, s .pre .2))

@@ -3,6 +3,7 @@ use native.Mathlib.Omega.{arith}
 use Rattle.plan_laws.proofs.Follows.{rows-for, cols-for}
 use Rattle.memory.specs.Numbers.{dataAt}
 use Rattle.memory.proofs.Plans.{indexed, prepared}
+use Rattle.kernels.proofs.Turns.{laid}
 use Rattle.lane_test.proofs.Tests.{tested}
 use borrow.Author.Needs.{needs}
 use Rattle.lane_test.proofs.test.Statement.{statement}
@@ -23,12 +24,12 @@ atmap-requires c κs = indexed (c .before .before .before .before .before .befor
 primal-feasibility-requires : tie.Need-primal-feasibility-requires
 primal-feasibility-requires c κs =
     let s = c .before .before .before .before .before .before .before .before .before .before .before .before .before .before .before .before in
-    rw (c .before .before .before .regions .ensures) (rows-for (prepared (s .pre .0)) .ranges, s .pre .1 .b-long, omega (arith, s .pre .2), omega (arith, s .pre .2), s .pre .1 .within, s .pre .1 .wide)
+    rw (c .before .before .before .regions .ensures) (rows-for (prepared (s .pre .0)) .ranges, laid (s .pre .1 .wide) (s .pre .2), record { lanes = s .pre .1 .within; long = s .pre .1 .b-long })
 
 dual-feasibility-requires : tie.Need-dual-feasibility-requires
 dual-feasibility-requires c κs =
     let s = c .before .before .before .before .before .before .before .before .before .before .before .before .before .before .before .before .before in
-    rw (c .before .before .before .before .regions .ensures, c .before .before .before .atindptr .ensures, c .before .before .atindices .ensures, c .before .atmap .ensures) (cols-for (prepared (s .pre .0)) .ranges, s .pre .1 .c-long, omega (arith, s .pre .2), omega (arith, s .pre .2), s .pre .1 .within, s .pre .1 .wide)
+    rw (c .before .before .before .before .regions .ensures, c .before .before .before .atindptr .ensures, c .before .before .atindices .ensures, c .before .atmap .ensures) (cols-for (prepared (s .pre .0)) .ranges, laid (s .pre .1 .wide) (s .pre .2), record { lanes = s .pre .1 .within; long = s .pre .1 .c-long })
 
 gap-in-requires : tie.Need-gap-in-requires
 gap-in-requires c κs = search needs

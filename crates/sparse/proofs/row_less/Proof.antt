@@ -1,7 +1,6 @@
 use native.Mathlib.Omega.{arith}
-use mathlib.Core.Path.{refl}
-use Prim.Native.Nat.{ℕ, _-_, _+_, _<_}
-use Rattle.sparse.proofs.Spans.{span-same, span-all}
+use Prim.Native.Nat.{_+_}
+use Rattle.sparse.proofs.Spans.{row-ends, row-lent}
 use Rattle.sparse.specs.Parts.{lessRow}
 use borrow.Author.Needs.{needs}
 use Rattle.sparse.proofs.row_less.Statement.{statement}
@@ -14,9 +13,7 @@ shared-slice-read-a : tie.Need-shared-slice-read-a
 shared-slice-read-a c = search needs
 
 cast-a : tie.Need-cast-a
-cast-a c =
-    let e = c .before .before .before .before .before in
-    omega (arith, c .shared-slice-known5 .given (e .args .i))
+cast-a c = omega (arith, c .shared-slice-known5 .given (c .before .before .before .before .before .args .i))
 
 add-g : tie.Need-add-g
 add-g c = search needs
@@ -28,75 +25,54 @@ shared-slice-read-g : tie.Need-shared-slice-read-g
 shared-slice-read-g c = search needs
 
 cast-g : tie.Need-cast-g
-cast-g c =
-    let e = c .before .before .before .before .before .before in
-    omega (arith, c .shared-slice-known6 .given (e .args .i + 1))
+cast-g c = omega (arith, c .shared-slice-known6 .given (c .before .before .before .before .before .before .args .i + 1))
 
 mul-less-row : tie.Need-mul-less-row
 mul-less-row c =
-    let e = c .before .before .before .before .before .before in
-    omega (arith, e .pre .0 .csr .rises (e .args .i) (e .pre .1), e .pre .0 .csr .ends (e .args .i) (e .pre .1), e .pre .0 .sizes)
+    let s = c .before .before .before .before .before .before in
+    let p = row-ends (s .pre .0) (s .pre .1) in omega arith
 
 sub-less-row : tie.Need-sub-less-row
 sub-less-row c =
-    let e = c .before .before .before .before .before .before in
-    omega (arith, e .pre .0 .csr .rises (e .args .i) (e .pre .1), e .pre .0 .csr .ends (e .args .i) (e .pre .1), e .pre .0 .sizes)
+    let s = c .before .before .before .before .before .before in
+    let p = row-ends (s .pre .0) (s .pre .1) in omega arith
 
 part-less-row-start : tie.Need-part-less-row-start
 part-less-row-start c =
-    let e = c .before .before .before .before .before .before in
-    omega (arith, e .pre .0 .csr .rises (e .args .i) (e .pre .1), e .pre .0 .csr .ends (e .args .i) (e .pre .1), e .pre .0 .sizes)
+    let s = c .before .before .before .before .before .before in
+    let p = row-ends (s .pre .0) (s .pre .1) in omega arith
 
 part-less-row-end : tie.Need-part-less-row-end
 part-less-row-end c =
-    let e = c .before .before .before .before .before .before in
-    omega (arith, e .pre .0 .csr .rises (e .args .i) (e .pre .1), e .pre .0 .csr .ends (e .args .i) (e .pre .1), e .pre .0 .sizes)
+    let s = c .before .before .before .before .before .before in
+    let p = row-ends (s .pre .0) (s .pre .1) in omega arith
 
 mul-less-row-2 : tie.Need-mul-less-row-2
 mul-less-row-2 c =
-    let e = c .before .before .before .before .before .before .before in
-    omega (arith, e .pre .0 .csr .rises (e .args .i) (e .pre .1), e .pre .0 .csr .ends (e .args .i) (e .pre .1), e .pre .0 .sizes)
+    let s = c .before .before .before .before .before .before .before in
+    let p = row-ends (s .pre .0) (s .pre .1) in omega arith
 
 sub-less-row-2 : tie.Need-sub-less-row-2
 sub-less-row-2 c =
-    let e = c .before .before .before .before .before .before .before in
-    omega (arith, e .pre .0 .csr .rises (e .args .i) (e .pre .1), e .pre .0 .csr .ends (e .args .i) (e .pre .1), e .pre .0 .sizes)
+    let s = c .before .before .before .before .before .before .before in
+    let p = row-ends (s .pre .0) (s .pre .1) in omega arith
 
 part-less-row-start-2 : tie.Need-part-less-row-start-2
 part-less-row-start-2 c =
-    let e = c .before .before .before .before .before .before .before in
-    omega (arith, e .pre .0 .csr .rises (e .args .i) (e .pre .1), e .pre .0 .csr .ends (e .args .i) (e .pre .1), e .pre .0 .sizes)
+    let s = c .before .before .before .before .before .before .before in
+    let p = row-ends (s .pre .0) (s .pre .1) in omega arith
 
 part-less-row-end-2 : tie.Need-part-less-row-end-2
 part-less-row-end-2 c =
-    let e = c .before .before .before .before .before .before .before in
-    omega (arith, e .pre .0 .csr .rises (e .args .i) (e .pre .1), e .pre .0 .csr .ends (e .args .i) (e .pre .1), e .pre .0 .sizes)
+    let s = c .before .before .before .before .before .before .before in
+    let p = row-ends (s .pre .0) (s .pre .1) in omega arith
 
 less-row-requires : tie.Need-less-row-requires
-less-row-requires c κs = ((span-same (c .before .before .before .before .before .before .before .before .pre .0 .csr) (c .before .before .before .before .before .before .before .before .args .i) (c .before .before .before .before .before .before .before .before .pre .1) (c .before .before .before .before .before .before .before .before .args .vals .now) (c .before .before .before .before .before .before .before .before .pre .0 .sizes), span-all (c .before .before .before .before .before .before .before .before .pre .0 .csr) (c .before .before .before .before .before .before .before .before .args .i) (c .before .before .before .before .before .before .before .before .pre .1) (c .before .before .before .before .before .before .before .before .args .cols .now) (λ (e : ℕ). e < c .before .before .before .before .before .before .before .before .args .n) refl (c .before .before .before .before .before .before .before .before .pre .0 .csr .below)), (c .before .before .before .before .before .before .before .before .pre .2, c .before .before .before .before .before .before .before .before .pre .3))
+less-row-requires c κs = let s = c .before .before .before .before .before .before .before .before in (row-lent (s .pre .0) (s .pre .1), (s .pre .2, s .pre .3))
 
 returns : tie.Need-returns
 unfolding lessRow
 returns c = c .less-row .ensures
 
 pub row-less-spec : {M : Type 1} → statement M
-row-less-spec =
-    tie.close
-    (tie.spec
-    mul-a
-    shared-slice-read-a
-    cast-a
-    add-g
-    mul-g
-    shared-slice-read-g
-    cast-g
-    mul-less-row
-    sub-less-row
-    part-less-row-start
-    part-less-row-end
-    mul-less-row-2
-    sub-less-row-2
-    part-less-row-start-2
-    part-less-row-end-2
-    less-row-requires
-    returns)
+row-less-spec = tie.close (tie.spec mul-a shared-slice-read-a cast-a add-g mul-g shared-slice-read-g cast-g mul-less-row sub-less-row part-less-row-start part-less-row-end mul-less-row-2 sub-less-row-2 part-less-row-start-2 part-less-row-end-2 less-row-requires returns)

@@ -1,7 +1,7 @@
 use Rattle.lanes.proofs.Quads.{on}
 use Rattle.lanes.proofs.Regions.{room-le, kept-room}
 use native.Mathlib.Omega.{arith}
-use Rattle.lanes.specs.Region.{before, after}
+use Rattle.kernels.proofs.Turns.{laid}
 use Rattle.plan_laws.proofs.Follows.{cols-for}
 use Rattle.memory.proofs.Plans.{indexed, prepared}
 use Rattle.step.proofs.Steps.{changed}
@@ -25,14 +25,14 @@ column-changes-requires : tie.Need-column-changes-requires
 column-changes-requires c κs =
     let s = c .before .before .before .before .before .before .before .before in
     rw (c .before .before .before .before .regions .ensures, c .before .before .before .atindptr .ensures, c .before .before .atindices .ensures, c .before .atmap .ensures)
-    (cols-for (prepared (s .pre .0 .is)) .ranges, omega arith, before (omega arith), before (omega arith), after (omega arith), omega (arith, s .pre .1), omega (arith, s .pre .1), omega (arith, s .pre .1), omega (arith, s .pre .1), s .pre .2)
+    (cols-for (prepared (s .pre .0 .is)) .ranges, laid (s .pre .2) (s .pre .1))
 
 slack-changes-requires : tie.Need-slack-changes-requires
 slack-changes-requires c κs =
     let s = c .before .before .before .before .before .before .before .before .before .before .before .before in
     let z = kept-room (c .before .before .before .column-changes .ensures .0 .kept) in
     rw (c .before .before .before .before .before .before .before .before .regions .ensures)
-    (before (omega arith), before (omega (arith, s .pre .0 .is .slack)), before (omega (arith, s .pre .0 .is .slack)), omega (arith, s .pre .1, s .pre .0 .is .slack, z), omega (arith, s .pre .1, s .pre .0 .is .slack, z), omega (arith, s .pre .1, s .pre .0 .is .slack, z), omega (arith, s .pre .1, s .pre .0 .is .slack, z), s .pre .2)
+    (laid (s .pre .2) (omega (arith, s .pre .1, z)))
 
 larger4-requires : tie.Need-larger4-requires
 larger4-requires c κs = search needs

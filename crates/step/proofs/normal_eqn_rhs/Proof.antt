@@ -1,6 +1,6 @@
 use Rattle.lanes.proofs.Regions.{room-le, kept-room}
 use native.Mathlib.Omega.{arith}
-use Rattle.lanes.specs.Region.{before, after}
+use Rattle.kernels.proofs.Turns.{laid}
 use Rattle.plan_laws.proofs.Follows.{rows-for, cols-for}
 use Rattle.memory.proofs.Plans.{indexed, prepared}
 use Rattle.memory.specs.Numbers.{dataAt}
@@ -25,14 +25,14 @@ rhs-u-requires : tie.Need-rhs-u-requires
 rhs-u-requires c κs =
     let s = c .before .before .before .before .before .before .before .before .before .before .before .before in
     rw (c .before .before .before .before .regions .ensures, c .before .before .before .atindptr .ensures, c .before .before .atindices .ensures, c .before .atmap .ensures)
-    (cols-for (prepared (s .pre .0)) .ranges, s .pre .1 .c-long, omega arith, omega arith, before (omega arith), before (omega arith), after (omega arith), omega (arith, s .pre .2), omega (arith, s .pre .2), omega (arith, s .pre .2), omega (arith, s .pre .2), s .pre .1 .within, s .pre .1 .wide)
+    (cols-for (prepared (s .pre .0)) .ranges, laid (s .pre .1 .wide) (s .pre .2), record { lanes = s .pre .1 .within; long = s .pre .1 .c-long })
 
 rhs-f-requires : tie.Need-rhs-f-requires
 rhs-f-requires c κs =
     let s = c .before .before .before .before .before .before .before .before .before .before .before .before .before .before .before .before in
     let z = kept-room (c .before .before .before .rhs-u .ensures .kept) in
     rw (c .before .before .before .before .before .before .before .before .regions .ensures)
-    (rows-for (prepared (s .pre .0)) .ranges, s .pre .1 .b-long, before (omega arith), before (omega arith), before (omega arith), omega (arith, s .pre .2, z), omega (arith, s .pre .2, z), omega (arith, s .pre .2, z), omega (arith, s .pre .2, z), s .pre .1 .within, s .pre .1 .wide)
+    (rows-for (prepared (s .pre .0)) .ranges, laid (s .pre .1 .wide) (omega (arith, s .pre .2, z)), record { lanes = s .pre .1 .within; long = s .pre .1 .b-long })
 
 same-length : tie.Need-same-length
 same-length c = search needs
