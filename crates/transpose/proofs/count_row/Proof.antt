@@ -105,11 +105,11 @@ returns c =
     let s = c .before .before .before .before .before .before .before .before in
     let a = s .args in
     let l = c .before .loop in
-    let e : l .k ≡ getD (a .off .now) (a .i + 1) 0 = omega (arith, l .inv .3, c .before .before .word-at2 .ensures, c .loop-test .left) in (
-      law.count-end (a .off .now) (colsOf (a .side) (a .cols .now) (a .bytes .now)) (a .m) (a .n) (a .i) (s .pre .0) (s .pre .1) (l .next) (l .k) (omega (arith, e)) (l .inv .2),
-      pairs.pairs-end (a .off .now) (colsOf (a .side) (a .cols .now) (a .bytes .now)) (a .m) (a .n) (a .i) (s .pre .0) (s .pre .1) (l .k) (l .s) (omega (arith, e)) (l .inv .4),
-      omega (arith, e, l .inv .5),
-    )
+    let e : l .k ≡ getD (a .off .now) (a .i + 1) 0 = omega (arith, l .inv .3, c .before .before .word-at2 .ensures, c .loop-test .left) in record {
+      tally = law.count-end (a .off .now) (colsOf (a .side) (a .cols .now) (a .bytes .now)) (a .m) (a .n) (a .i) (s .pre .0) (s .pre .1) (l .next) (l .k) (omega (arith, e)) (l .inv .2);
+      pairs = pairs.pairs-end (a .off .now) (colsOf (a .side) (a .cols .now) (a .bytes .now)) (a .m) (a .n) (a .i) (s .pre .0) (s .pre .1) (l .k) (l .s) (omega (arith, e)) (l .inv .4);
+      few = omega (arith, e, l .inv .5);
+    }
 
 pub count-row-spec : {M : Type 1} → statement M
 count-row-spec =
