@@ -10,14 +10,6 @@ const SPACE: u8 = b' ';
 
 const LINE_FEED: u8 = b'\n';
 
-fn put_byte(out: &mut [u8], at: usize, b: u8) -> usize
-    requires { ⌜ at < length (now out) ⌝ }
-    ensures { λ r. ⌜ Wrote (now (out .entry)) (now (out .exit)) at (b ∷ []) r ⌝ }
-{
-    out[at] = b;
-    at + 1
-}
-
 fn put(out: &mut [u8], at: usize, s: &[u8]) -> usize
     requires { ⌜ at + length (now s) ≤ length (now out) ⌝ }
     ensures { λ r. ⌜ Wrote (now (out .entry)) (now (out .exit)) at (now (s .entry)) r ⌝ }
@@ -39,7 +31,7 @@ fn put_whole(out: &mut [u8], at: usize, x: u64, after: u8) -> usize
     let mut digits = [0u8; 20];
     let k = io::decimal(x, &mut digits);
     let end = put(out, at, &digits[..k]);
-    put_byte(out, end, after)
+    base::byte(out, end, after)
 }
 
 // A float's pattern in hexadecimal digits, and a byte after it.
@@ -51,7 +43,7 @@ fn put_float(out: &mut [u8], at: usize, x: f64, after: u8) -> usize
     let mut digits = [0u8; 16];
     let k = io::hex(root::bits_of(x), 16, &mut digits);
     let end = put(out, at, &digits[..k]);
-    put_byte(out, end, after)
+    base::byte(out, end, after)
 }
 
 // The four lanes of column e.

@@ -2,9 +2,10 @@
 use mathlib.Core.Path.{_≡_}
 use mathlib.Core.Bool.{_&&_, cond}
 use mathlib.Core.List.{List, _++_}
-use Prim.Native.Nat.{ℕ, _<_, _≤_}
+use Prim.Native.Nat.{ℕ, suc, _<_, _≤_}
 use lib.Dec.{leb, ltb}
 use lib.ListN.{length, drop}
+use Rattle.base.specs.Sums.{sum}
 use Rattle.csr.specs.Verdict.{Verdict, passed, planned, accepted, refused, ask, andThen, refusal}
 use Rattle.csr.specs.Questions.{firstNo}
 use Rattle.csr.specs.Counts.{countE, countS, countD, sizeW}
@@ -13,9 +14,9 @@ use Rattle.ipm_common.specs.declared.PlanAnswer.{PlanAnswer}
 use Rattle.ipm_common.specs.declared.PlanAnswer.the-variants.{Planned, Refused}
 
 -- each case of the answer, by document 01's number and values
-abbrev pub told : PlanAnswer → Verdict
-told (Planned w) = planned w
-told (Refused r) = refusal r
+abbrev pub toldPlan : PlanAnswer → Verdict
+toldPlan (Planned w) = planned w
+toldPlan (Refused r) = refusal r
 
 -- question 6: has the index memory at least W words?
 unfoldable pub roomVerdict : ℕ → ℕ → List ℕ → List ℕ → ℕ → Verdict
@@ -46,6 +47,15 @@ planIndex m n offsets columns index =
 pub record Room (m n : ℕ) (s : List ℕ) : Type 0 where
   pub rows : m < length s
   pub columns : n < length s
+
+-- what a plan of m rows and n columns is made in: the factor's rows as lists, and three memories over the columns
+pub record Memories (m n : ℕ) (lp li mark next again : List ℕ) : Type 0 where
+  pub starts : m < length lp
+  pub columns : sum m suc ≤ length li
+  pub short : length li ≤ 65536
+  pub marks : n ≤ length mark
+  pub counts : Room m n next
+  pub firsts : Room m n again
 
 -- E, S and D
 pub record Tallied (offsets columns : List ℕ) (m e s d : ℕ) : Type 0 where

@@ -1,14 +1,13 @@
 // The plan: the sixteen lists of a matrix, by the Rust's `from_matrix` with its transpose.
 ghost use mathlib.Core.Path.{_≡_};
-ghost use Prim.Native.Nat.{suc, _+_, _*_, _<_, _≤_};
+ghost use Prim.Native.Nat.{_+_, _*_, _≤_};
 ghost use lib.ListN.{length};
 ghost use Rattle.pattern.specs.Word.{bit};
-ghost use Rattle.base.specs.Sums.{sum};
 ghost use Rattle.base.specs.Cat.{Wrote};
 ghost use Rattle.lists.specs.Lists.{shape, planOf};
 ghost use Rattle.lists.specs.Ready.{Ready, Accepted};
 ghost use Rattle.pair_lists.specs.Kept.{Rows};
-ghost use Rattle.ipm_common.specs.Plan.{Room, told, planVerdict, planIndex, Answered, Tallied, Counted};
+ghost use Rattle.ipm_common.specs.Plan.{Room, Memories, toldPlan, planVerdict, planIndex, Answered, Tallied, Counted};
 use csr::Asked;
 use csr::Refusal;
 use lists::Side;
@@ -36,14 +35,14 @@ pub fn put_plan(
 }
 
 // E, S and D.
-pub struct Tally {
+pub struct Counts {
     pub e: u32,
     pub s: usize,
     pub d: u32,
 }
 
 // E is a count of ones, S and D + E count what pairs of rows share, of the matrix and of the factor.
-fn count_all(
+pub fn count_all(
     m: usize,
     n: usize,
     offsets: &[u32],
@@ -52,7 +51,7 @@ fn count_all(
     lp: &[u32],
     li: &[u8],
     next: &mut [u32],
-) -> Tally
+) -> Counts
     requires { ⌜ Accepted (now offsets) (now columns) m n × Ready (now offsets) (now columns) m (now p) × Rows (bit (now p)) (now lp) (now li) m × Room m n (now next) ⌝ }
     ensures { λ r. ⌜ Tallied (now (offsets .entry)) (now (columns .entry)) m (r .e) (r .s) (r .d) ⌝ }
 {
@@ -61,7 +60,7 @@ fn count_all(
     let s = transpose::count_rows(Side::Matrix, offsets, columns, li, m, n, next);
     base::clear(next, m);
     let b = transpose::count_rows(Side::Factor, lp, columns, li, m, m, next);
-    Tally {
+    Counts {
         e,
         s,
         d: (b as u32) - e,
@@ -69,13 +68,13 @@ fn count_all(
 }
 
 // W.
-fn words(m: usize, n: usize, t: usize, sizes: Tally) -> usize
-    requires { ⌜ (m ≤ 256) × (n ≤ 1024) × (t ≤ 16384) × (sizes .s ≤ 16777216) ⌝ }
-    ensures { λ r. ⌜ r ≡ 5 * sizes .e + 3 * sizes .s + 2 * sizes .d + 3 * m + n + 2 * t + 5 ⌝ }
+fn words(m: usize, n: usize, t: usize, counts: Counts) -> usize
+    requires { ⌜ (m ≤ 256) × (n ≤ 1024) × (t ≤ 16384) × (counts .s ≤ 16777216) ⌝ }
+    ensures { λ r. ⌜ r ≡ 5 * counts .e + 3 * counts .s + 2 * counts .d + 3 * m + n + 2 * t + 5 ⌝ }
 {
-    let e = sizes.e as usize;
-    let d = sizes.d as usize;
-    5 * e + 3 * sizes.s + 2 * d + 3 * m + n + 2 * t + 5
+    let e = counts.e as usize;
+    let d = counts.d as usize;
+    5 * e + 3 * counts.s + 2 * d + 3 * m + n + 2 * t + 5
 }
 
 // The counts of a matrix that is accepted, and the plan where E is below a bound and it has room; the memories are long enough.
@@ -91,8 +90,8 @@ fn plan_in(
     again: &mut [u32],
     index: &mut [u32],
     below: usize,
-) -> Tally
-    requires { ⌜ Accepted (now offsets) (now columns) m n × (m < length (now lp)) × (sum m suc ≤ length (now li)) × (length (now li) ≤ 65536) × (n ≤ length (now mark)) × Room m n (now next) × Room m n (now again) ⌝ }
+) -> Counts
+    requires { ⌜ Accepted (now offsets) (now columns) m n × Memories m n (now lp) (now li) (now mark) (now next) (now again) ⌝ }
     ensures { λ r. ⌜ Counted m n (now (offsets .entry)) (now (columns .entry)) below (now (index .entry)) (now (index .exit)) (r .e) (r .s) (r .d) ⌝ }
 {
     let mut p = [0u64; 1024];
@@ -122,7 +121,7 @@ fn plan_few(
     columns: &[u32],
     index: &mut [u32],
     below: usize,
-) -> Tally
+) -> Counts
     requires { ⌜ Accepted (now offsets) (now columns) m n × (m ≤ 16) × (n ≤ 32) ⌝ }
     ensures { λ r. ⌜ Counted m n (now (offsets .entry)) (now (columns .entry)) below (now (index .entry)) (now (index .exit)) (r .e) (r .s) (r .d) ⌝ }
 {
@@ -154,7 +153,7 @@ fn plan_many(
     columns: &[u32],
     index: &mut [u32],
     below: usize,
-) -> Tally
+) -> Counts
     requires { ⌜ Accepted (now offsets) (now columns) m n ⌝ }
     ensures { λ r. ⌜ Counted m n (now (offsets .entry)) (now (columns .entry)) below (now (index .entry)) (now (index .exit)) (r .e) (r .s) (r .d) ⌝ }
 {
@@ -186,7 +185,7 @@ pub fn plan_below(
     columns: &[u32],
     index: &mut [u32],
     below: usize,
-) -> Tally
+) -> Counts
     requires { ⌜ Accepted (now offsets) (now columns) m n ⌝ }
     ensures { λ r. ⌜ Counted m n (now (offsets .entry)) (now (columns .entry)) below (now (index .entry)) (now (index .exit)) (r .e) (r .s) (r .d) ⌝ }
 {
@@ -215,7 +214,7 @@ fn plan_accepted(
     index: &mut [u32],
 ) -> PlanAnswer
     requires { ⌜ Accepted (now offsets) (now columns) m n ⌝ }
-    ensures { λ r. ⌜ Answered m n (now (offsets .entry)) (now (columns .entry)) (now (index .entry)) (now (index .exit)) (told r) ⌝ }
+    ensures { λ r. ⌜ Answered m n (now (offsets .entry)) (now (columns .entry)) (now (index .entry)) (now (index .exit)) (toldPlan r) ⌝ }
 {
     let t = plan_below(m, n, offsets, columns, index, ANY_SIZE);
     let w = words(m, n, columns.len(), t);
@@ -228,7 +227,7 @@ fn plan_accepted(
 
 // Questions 1 to 6, and after six yeses the plan.
 pub fn plan(m: usize, n: usize, offsets: &[u32], columns: &[u32], index: &mut [u32]) -> PlanAnswer
-    ensures answer { λ r. ⌜ told r ≡ planVerdict m n (now (offsets .entry)) (now (columns .entry)) (length (now (index .entry))) ⌝ }
+    ensures answer { λ r. ⌜ toldPlan r ≡ planVerdict m n (now (offsets .entry)) (now (columns .entry)) (length (now (index .entry))) ⌝ }
     ensures words { λ r. ⌜ now (index .exit) ≡ planIndex m n (now (offsets .entry)) (now (columns .entry)) (now (index .entry)) ⌝ }
 {
     match csr::ask(m, n, offsets, columns, columns.len()) {

@@ -2,4 +2,5 @@ pub mod Lists
 pub mod Factor
 pub mod Through
 pub mod Stored
+pub mod Pieces
 pub mod Turns

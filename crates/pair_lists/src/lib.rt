@@ -2,15 +2,16 @@
 ghost use mathlib.Core.Path.{_≡_};
 ghost use mathlib.Core.List.{[], _∷_};
 ghost use mathlib.Core.Bool.{true, false};
-ghost use Prim.Native.Nat.{ℕ, suc, _+_, _*_, _<_, _≤_};
+ghost use Prim.Native.Nat.{ℕ, suc, _+_, _<_, _≤_};
 ghost use lib.ListN.{length, getD};
 ghost use Rattle.pattern.specs.Word.{bit};
 ghost use Rattle.base.specs.Sums.{sum};
 ghost use Rattle.base.specs.Cat.{Wrote, cat, pick};
 ghost use Rattle.base.specs.Numbers.{Below};
-ghost use Rattle.lists.specs.Lists.{shape, walkOf, piece, weight, before, listOf, tenOf};
+ghost use Rattle.lists.specs.Lists.{shape, walkOf, piece, weight, listOf, tenOf};
 ghost use Rattle.lists.specs.Ready.{Ready};
 ghost use Rattle.pair_lists.specs.Kept.{kept, Rows, placesOf, marksRead};
+ghost use Rattle.pair_lists.specs.Listing.{Listing, MarksFor, Counting, AtPair};
 ghost use Rattle.shared_columns.specs.Marked.{Marked};
 ghost use Rattle.transpose.specs.Bins.{Grid};
 ghost use Rattle.csr.specs.Pattern.{row};
@@ -22,6 +23,9 @@ use base::word;
 use base::word_at;
 use lists::Take;
 use lists::Which;
+use shared_columns::count_shared;
+use shared_columns::mark_row;
+use shared_columns::put_shared;
 
 // Row i of the pattern as a list of bytes.
 pub fn list_row(p: &[u64], i: usize, li: &mut [u8], start: usize) -> usize
@@ -105,7 +109,7 @@ fn reads_marks(which: Which) -> bool
 }
 
 // Row i marked for a list that reads the marks.
-fn mark_for(
+pub fn mark_for(
     which: Which,
     off: &[u32],
     cols: &[u32],
@@ -119,7 +123,7 @@ fn mark_for(
     ensures next { λ _. ⌜ ((c : ℕ) → c < wide → getD (now (mark .exit)) c 0 ≤ getD (now (off .entry)) (i + 1) 0) ⌝ }
 {
     if reads_marks(which) {
-        shared_columns::mark_row(off, cols, m, wide, i, mark);
+        mark_row(off, cols, m, wide, i, mark);
     }
 }
 
@@ -135,11 +139,11 @@ pub fn weigh(
     i: usize,
     j: usize,
 ) -> u32
-    requires { ⌜ Ready (now off) (now cols) m (now p) × (i < m) × (j ≤ i) × Grid (now off) (now cols) m wide × (wide ≤ length (now mark)) × (marksRead which ≡ true → Marked (now mark) (getD (now off) i 0) (row (now off) (now cols) i) wide) ⌝ }
+    requires { ⌜ Ready (now off) (now cols) m (now p) × Grid (now off) (now cols) m wide × MarksFor which (now off) (now cols) i wide (now mark) × (i < m) × (j ≤ i) ⌝ }
     ensures { λ r. ⌜ (r ≡ weight (shape (now (off .entry)) (now (cols .entry))) which i j) × (r ≤ 16384) ⌝ }
 {
     match which {
-        Which::AnormIndptr => shared_columns::count_shared(off, cols, m, wide, mark, i, j) as u32,
+        Which::AnormIndptr => count_shared(off, cols, m, wide, mark, i, j) as u32,
         Which::LdecompIndptr => {
             let t = pattern::both_ones(p, i, j);
             if pattern::test(p, i, j) { t - 1 } else { t }
@@ -155,7 +159,15 @@ pub fn weigh(
     }
 }
 
-// What the stored pair (i, j) adds to a list. t is its place among the stored, n what the list has counted.
+// A stored pair of rows (i, j): its place t among the stored, and n, what a list has counted up to it.
+pub struct Pair {
+    pub i: usize,
+    pub j: usize,
+    pub t: usize,
+    pub n: u32,
+}
+
+// What a stored pair adds to a list. Row i is marked where the list reads marks.
 pub fn put_piece(
     which: Which,
     off: &[u32],
@@ -166,63 +178,34 @@ pub fn put_piece(
     li: &[u8],
     wide: usize,
     mark: &[u32],
-    i: usize,
-    j: usize,
-    t: usize,
-    n: u32,
+    pair: Pair,
     index: &mut [u32],
-    start: usize,
+    at: usize,
 ) -> usize
-    requires { ⌜ Ready (now off) (now cols) m (now p) × Rows (bit (now p)) (now lp) (now li) m × (i < m) × (getD (now lp) i 0 ≤ t) × (t < getD (now lp) (i + 1) 0) × (j ≡ getD (now li) t 0) × (n ≡ before (weight (shape (now off) (now cols)) which) i (suc j)) × (start + length (piece (shape (now off) (now cols)) which i j) ≤ length (now index)) × Grid (now off) (now cols) m wide × (wide ≤ length (now mark)) × (marksRead which ≡ true → Marked (now mark) (getD (now off) i 0) (row (now off) (now cols) i) wide) ⌝ }
-    ensures { λ r. ⌜ Wrote (now (index .entry)) (now (index .exit)) start (piece (shape (now (off .entry)) (now (cols .entry))) which i j) r ⌝ }
+    requires { ⌜ Listing (now off) (now cols) m (now p) (now lp) (now li) wide × AtPair which (now off) (now cols) (now lp) (now li) m pair × MarksFor which (now off) (now cols) (pair .i) wide (now mark) × (at + length (piece (shape (now off) (now cols)) which (pair .i) (pair .j)) ≤ length (now index)) ⌝ }
+    ensures { λ r. ⌜ Wrote (now (index .entry)) (now (index .exit)) at (piece (shape (now (off .entry)) (now (cols .entry))) which (pair .i) (pair .j)) r ⌝ }
 {
+    let i = pair.i;
+    let j = pair.j;
+    let t = pair.t;
     match which {
-        Which::AnormIndptr => word(index, start, n),
-        Which::AnormIndptrI => shared_columns::shared_marked(
-            Take::Left,
-            off,
-            cols,
-            m,
-            wide,
-            mark,
-            i,
-            j,
-            index,
-            start,
-        ),
-        Which::AnormIndptrJ => shared_columns::shared_marked(
-            Take::Right,
-            off,
-            cols,
-            m,
-            wide,
-            mark,
-            i,
-            j,
-            index,
-            start,
-        ),
-        Which::AnormIndices => shared_columns::shared_marked(
-            Take::Column,
-            off,
-            cols,
-            m,
-            wide,
-            mark,
-            i,
-            j,
-            index,
-            start,
-        ),
-        Which::LdecompIndptr => word(index, start, n),
-        Which::LdecompIndptrI => products(p, lp, li, m, i, j, t, index, start),
-        Which::LdecompIndptrJ => products(p, lp, li, m, j, i, word_at(lp, j + 1) - 1, index, start),
-        Which::Lindptr => keep(index, start, j == i, (t as u32) + 1),
-        Which::LdiagIndptr => keep(index, start, j == i, t as u32),
-        Which::Lindices => word(index, start, j as u32),
+        Which::AnormIndptr => word(index, at, pair.n),
+        Which::AnormIndptrI => put_shared(Take::Left, off, cols, m, wide, mark, i, j, index, at),
+        Which::AnormIndptrJ => put_shared(Take::Right, off, cols, m, wide, mark, i, j, index, at),
+        Which::AnormIndices => put_shared(Take::Column, off, cols, m, wide, mark, i, j, index, at),
+        Which::LdecompIndptr => word(index, at, pair.n),
+        Which::LdecompIndptrI => products(p, lp, li, m, i, j, t, index, at),
+        Which::LdecompIndptrJ => {
+            let last = word_at(lp, j + 1) - 1;
+            products(p, lp, li, m, j, i, last, index, at)
+        }
+        Which::Lindptr => keep(index, at, j == i, (t as u32) + 1),
+        Which::LdiagIndptr => keep(index, at, j == i, t as u32),
+        Which::Lindices => word(index, at, j as u32),
     }
 }
 
+// Where a list goes on, and what it has counted.
 pub struct Spot {
     pub at: usize,
     pub n: u32,
@@ -240,37 +223,21 @@ pub fn fill_row(
     wide: usize,
     mark: &[u32],
     i: usize,
-    count: u32,
+    spot: Spot,
     index: &mut [u32],
-    start: usize,
 ) -> Spot
-    requires { ⌜ Ready (now off) (now cols) m (now p) × Rows (bit (now p)) (now lp) (now li) m × (i < m) × (count ≡ before (weight (shape (now off) (now cols)) which) i 0) × (count ≤ 4210688 * i) × (start + length (cat (i + 1) (piece (shape (now off) (now cols)) which i)) ≤ length (now index)) × Grid (now off) (now cols) m wide × (wide ≤ length (now mark)) × (marksRead which ≡ true → Marked (now mark) (getD (now off) i 0) (row (now off) (now cols) i) wide) ⌝ }
-    ensures { λ r. ⌜ Wrote (now (index .entry)) (now (index .exit)) start (cat (i + 1) (piece (shape (now (off .entry)) (now (cols .entry))) which i)) (r .at) × (r .n ≡ before (weight (shape (now (off .entry)) (now (cols .entry))) which) (i + 1) 0) × (r .n ≤ 4210688 * (i + 1)) ⌝ }
+    requires { ⌜ Listing (now off) (now cols) m (now p) (now lp) (now li) wide × MarksFor which (now off) (now cols) i wide (now mark) × Counting which (now off) (now cols) i (spot .n) × (i < m) × (spot .at + length (cat (i + 1) (piece (shape (now off) (now cols)) which i)) ≤ length (now index)) ⌝ }
+    ensures { λ r. ⌜ Wrote (now (index .entry)) (now (index .exit)) (spot .at) (cat (i + 1) (piece (shape (now (off .entry)) (now (cols .entry))) which i)) (r .at) × Counting which (now (off .entry)) (now (cols .entry)) (i + 1) (r .n) ⌝ }
 {
     let b = word_at(lp, i + 1);
-    let mut at = start;
-    let mut n = count;
+    let mut at = spot.at;
+    let mut n = spot.n;
     let mut t = word_at(lp, i);
     while t < b {
         let j = byte_at(li, t);
         n += weigh(which, off, cols, m, p, wide, mark, i, j);
-        at = put_piece(
-            which,
-            off,
-            cols,
-            m,
-            p,
-            lp,
-            li,
-            wide,
-            mark,
-            i,
-            j,
-            t,
-            n,
-            index,
-            at,
-        );
+        let pair = Pair { i, j, t, n };
+        at = put_piece(which, off, cols, m, p, lp, li, wide, mark, pair, index, at);
         t += 1;
     }
     Spot { at, n }
@@ -290,7 +257,7 @@ pub fn fill(
     index: &mut [u32],
     start: usize,
 ) -> usize
-    requires { ⌜ Ready (now off) (now cols) m (now p) × Rows (bit (now p)) (now lp) (now li) m × (start + length (listOf (shape (now off) (now cols)) which m) ≤ length (now index)) × Grid (now off) (now cols) m wide × (wide ≤ length (now mark)) × ((c : ℕ) → c < wide → getD (now mark) c 0 ≤ getD (now off) 0 0) ⌝ }
+    requires { ⌜ Listing (now off) (now cols) m (now p) (now lp) (now li) wide × (start + length (listOf (shape (now off) (now cols)) which m) ≤ length (now index)) × (wide ≤ length (now mark)) × ((c : ℕ) → c < wide → getD (now mark) c 0 ≤ getD (now off) 0 0) ⌝ }
     ensures { λ r. ⌜ Wrote (now (index .entry)) (now (index .exit)) start (listOf (shape (now (off .entry)) (now (cols .entry))) which m) r ⌝ }
 {
     let mut at = keep(index, start, lists::has_head(which), 0);
@@ -298,13 +265,17 @@ pub fn fill(
     let mut i: usize = 0;
     while i < m {
         mark_for(which, off, cols, m, wide, i, mark);
-        let s = fill_row(which, off, cols, m, p, lp, li, wide, mark, i, n, index, at);
+        let spot = Spot { at, n };
+        let s = fill_row(which, off, cols, m, p, lp, li, wide, mark, i, spot, index);
         at = s.at;
         n = s.n;
         i += 1;
     }
     at
 }
+
+// How many lists are written pair by pair.
+const LISTS: usize = 10;
 
 // The ten lists of pairs, one after the other.
 pub fn put_ten(
@@ -319,12 +290,12 @@ pub fn put_ten(
     index: &mut [u32],
     start: usize,
 ) -> usize
-    requires { ⌜ Ready (now off) (now cols) m (now p) × Rows (bit (now p)) (now lp) (now li) m × (start + length (tenOf (shape (now off) (now cols)) m 10) ≤ length (now index)) × Grid (now off) (now cols) m wide × (wide ≤ length (now mark)) ⌝ }
+    requires { ⌜ Listing (now off) (now cols) m (now p) (now lp) (now li) wide × (start + length (tenOf (shape (now off) (now cols)) m 10) ≤ length (now index)) × (wide ≤ length (now mark)) ⌝ }
     ensures { λ r. ⌜ Wrote (now (index .entry)) (now (index .exit)) start (tenOf (shape (now (off .entry)) (now (cols .entry))) m 10) r ⌝ }
 {
     let mut at = start;
     let mut k: usize = 0;
-    while k < 10 {
+    while k < LISTS {
         base::clear(mark, wide);
         at = fill(
             lists::which_field(k),

@@ -2,30 +2,14 @@
 // the t columns, W and the W words; all numbers are u32, little-endian.
 use ipm_common::PlanAnswer;
 use libc::STDOUT_FILENO;
-ghost use Prim.Native.Nat.{ℕ, _+_, _<_, _≤_};
+ghost use Prim.Native.Nat.{_≤_};
 ghost use lib.ListN.{length};
 
 // What stands in the index memory before.
 const OLD: u32 = 77;
 
-fn le16(s: &[u8], at: usize) -> u32
-    requires { ⌜ at + 2 ≤ length (now s) ⌝ }
-    ensures { λ r. ⌜ r < 65536 ⌝ }
-{
-    wide(s[at]) + wide(s[at + 1]) * 256
-}
-
-fn wide(b: u8) -> u32
-    ensures { λ r. ⌜ r < 256 ⌝ }
-{
-    b as u32
-}
-
-fn le32(s: &[u8], at: usize) -> u32
-    requires { ⌜ at + 4 ≤ length (now s) ⌝ }
-{
-    le16(s, at) + le16(s, at + 2) * 65536
-}
+// The bytes of a word.
+const WORD_BYTES: usize = 4;
 
 // The words of the file, and how many there are.
 fn decode(s: &[u8], words: &mut [u32]) -> usize
@@ -34,12 +18,12 @@ fn decode(s: &[u8], words: &mut [u32]) -> usize
     let mut k: usize = 0;
     let mut at: usize = 0;
     while k < words.len() {
-        if s.len() - at < 4 {
+        if s.len() - at < WORD_BYTES {
             return k;
         }
-        words[k] = le32(s, at);
+        words[k] = record::le32(s, at) as u32;
         k += 1;
-        at += 4;
+        at += WORD_BYTES;
     }
     k
 }

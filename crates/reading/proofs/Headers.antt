@@ -7,7 +7,7 @@ use native.Mathlib.Omega.{arith}
 use borrow.Author.Tests.{eqb-true, leb-true}
 use lib.Dec.{eqb, leb}
 use lib.ListN.{length}
-use Rattle.record.specs.declared.Sizes.{Sizes}
+use Rattle.record.specs.declared.RecordSizes.{RecordSizes}
 use Rattle.record.specs.declared.Header.the-variants.{Mismatch, Matches}
 use Rattle.record.specs.Record.{mostRows, mostColumns, mostEntries, lengthOf, kindOf, mOf, nOf, tOf, within, wellFormed, sizesOf, headerOf}
 use Rattle.answer_text.specs.Text.{inputText}
@@ -37,20 +37,20 @@ module _ (s : List ℕ) where
         ends = eqb-true (length s) _ (and-right (within (mOf s) (nOf s) (tOf s)) _ rest);
       }
 
-  matched : (z : Sizes) → headerOf s ≡ Matches z → (wellFormed s ≡ true) × (z ≡ sizesOf s)
+  matched : (z : RecordSizes) → headerOf s ≡ Matches z → (wellFormed s ≡ true) × (z ≡ sizesOf s)
   matched z h = go (wellFormed s) refl h
     where
       go : (t : Bool) → wellFormed s ≡ t → cond t (Matches (sizesOf s)) Mismatch ≡ Matches z → (wellFormed s ≡ true) × (z ≡ sizesOf s)
       go true e k = (e, cc)
       go false e k = let q : _≡_ {A = ℕ} 0 1 = cc in absurd (omega arith)
 
-  pub whole : (z : Sizes) → headerOf s ≡ Matches z → Whole s z
-  whole z h = let k = matched z h in subst (λ (y : Sizes). Whole s y) (sym (k .1)) (own-whole (k .0))
+  pub whole : (z : RecordSizes) → headerOf s ≡ Matches z → Whole s z
+  whole z h = let k = matched z h in subst (λ (y : RecordSizes). Whole s y) (sym (k .1)) (own-whole (k .0))
 
-  pub narrow : (z : Sizes) → headerOf s ≡ Matches z → nOf s ≤ mostColumns
+  pub narrow : (z : RecordSizes) → headerOf s ≡ Matches z → nOf s ≤ mostColumns
   narrow z h = own-whole (matched z h .0) .columns
 
-  pub matched-text : (z : Sizes) → headerOf s ≡ Matches z → solveText (givenOf s) (lentFor (nOf s)) ≡ answerText s
+  pub matched-text : (z : RecordSizes) → headerOf s ≡ Matches z → solveText (givenOf s) (lentFor (nOf s)) ≡ answerText s
   unfolding answerText
   matched-text z h = rw (matched z h .0)
 

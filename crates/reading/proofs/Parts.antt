@@ -10,7 +10,7 @@ use Rattle.lanes.specs.Lists.{grow, vec}
 use Rattle.lanes.proofs.Lists.{grow-length, grow-at}
 use Rattle.machine.specs.Demand3.{Buffers}
 use Rattle.ipm_simd.specs.Solve.{Given, given, lent}
-use Rattle.record.specs.declared.Sizes.{Sizes}
+use Rattle.record.specs.declared.RecordSizes.{RecordSizes}
 use Rattle.record.specs.Little.{le2, le8, shorts, floats}
 use Rattle.record.specs.Record.{mOf, nOf, tOf, columnsAt, valuesAt, tolerancesAt, bAt, cAt, sizesOf}
 use Rattle.reading.specs.Parts.{Whole, partsOf}
@@ -60,13 +60,13 @@ given-same : {m n s l : ℕ} {o o′ c c′ : List ℕ} {v v′ b b′ e e′ t 
 given-same p q r u w x = cc
 
 -- ---- how many shorts and floats there are, and where the floats start
-abbrev pub shortCount : Sizes → ℕ
+abbrev pub shortCount : RecordSizes → ℕ
 shortCount z = z .m + 1 + z .t
 
-abbrev pub floatCount : Sizes → ℕ
+abbrev pub floatCount : RecordSizes → ℕ
 floatCount z = z .t + 12 + 4 * z .m + 4 * z .n
 
-abbrev pub floatsFrom : Sizes → ℕ
+abbrev pub floatsFrom : RecordSizes → ℕ
 floatsFrom z = 16 + 2 * shortCount z
 
 own-parts : (s : List ℕ) → partsOf (sizesOf s) (shorts s 16 (shortCount (sizesOf s))) (floats s (floatsFrom (sizesOf s)) (floatCount (sizesOf s))) ≡ givenOf s
@@ -84,8 +84,8 @@ own-parts s =
     (floats-cut (t + 12 + 4 * m) (4 * n) (cAt m t) (omega arith) (omega arith))
     (floats-cut t 12 (tolerancesAt m t) (omega arith) (omega arith))
 
-parts-given : (s : List ℕ) (z : Sizes) → z ≡ sizesOf s → partsOf z (shorts s 16 (shortCount z)) (floats s (floatsFrom z) (floatCount z)) ≡ givenOf s
-parts-given s z e = subst (λ (y : Sizes). partsOf y (shorts s 16 (shortCount y)) (floats s (floatsFrom y) (floatCount y)) ≡ givenOf s) (sym e) (own-parts s)
+parts-given : (s : List ℕ) (z : RecordSizes) → z ≡ sizesOf s → partsOf z (shorts s 16 (shortCount z)) (floats s (floatsFrom z) (floatCount z)) ≡ givenOf s
+parts-given s z e = subst (λ (y : RecordSizes). partsOf y (shorts s 16 (shortCount y)) (floats s (floatsFrom y) (floatCount y)) ≡ givenOf s) (sym e) (own-parts s)
 
 take-replicate : {A : Type 0} (k n : ℕ) (x : A) → k ≤ n → take k (replicate n x) ≡ replicate k x
 take-replicate zero n x h = refl
@@ -105,7 +105,7 @@ unfolding blank
 blank-take k n h = take-replicate k n (ofBits binary64 0) h
 
 -- ---- the arrays are long enough
-module _ {s : List ℕ} {z : Sizes} (W : Whole s z) where
+module _ {s : List ℕ} {z : RecordSizes} (W : Whole s z) where
   pub shorts-fit : {l : ℕ} → 145 ≡ l → shortCount z ≤ l
   shorts-fit e = omega (arith, e, W .rows, W .entries)
 
@@ -116,10 +116,10 @@ module _ {s : List ℕ} {z : Sizes} (W : Whole s z) where
   output-long {arr} e = length-take-le (4 * z .n) arr (omega (arith, ap length e, blank-long 128, W .columns))
 
 -- ---- the text of what was read is the text of the record's solve
-module _ (s : List ℕ) (z : Sizes) (W : Whole s z) where
+module _ (s : List ℕ) (z : RecordSizes) (W : Whole s z) where
   lent-is : (o w : List Float) (i : List ℕ) → o ≡ blank 128 → i ≡ zeros indexWords → w ≡ blank workFloats → lent (take (4 * z .n) o) i w ≡ lentFor (nOf s)
   lent-is o w i eo ei ew =
-      let n-is : z .n ≡ nOf s = ap (λ (y : Sizes). y .n) (W .sizes) in
+      let n-is : z .n ≡ nOf s = ap (λ (y : RecordSizes). y .n) (W .sizes) in
       let o-is : take (4 * z .n) o ≡ blank (4 * nOf s) =
       ap (take (4 * z .n)) eo ∙ blank-take (4 * z .n) 128 (omega (arith, W .columns)) ∙ ap (λ (k : ℕ). blank (4 * k)) n-is in
       cc
@@ -144,7 +144,7 @@ module _ (s : List ℕ) (z : Sizes) (W : Whole s z) where
 cut : (a b : ℕ) → a + b - a ≡ b
 cut a b = omega arith
 
-pub cut-text : (z : Sizes) (shorts : List ℕ) (floats : List Float) (B : Buffers)
+pub cut-text : (z : RecordSizes) (shorts : List ℕ) (floats : List Float) (B : Buffers)
     → solveText
     (given (z .m) (z .n) (z .s)
     (take (z .m + 1) shorts)

@@ -5,12 +5,12 @@ use Prim.Native.Nat.{ℕ, _+_, _*_, _≤_}
 use lib.ListN.{length, take, drop}
 use lib.Ieee.{Float}
 use Rattle.ipm_simd.specs.Solve.{Given, given}
-use Rattle.record.specs.declared.Sizes.{Sizes}
+use Rattle.record.specs.declared.RecordSizes.{RecordSizes}
 use Rattle.record.specs.Record.{sizesOf, endAt, mostRows, mostColumns, mostEntries}
 use Rattle.reading.specs.Answer.{answerBytes}
 
 -- bytes that match, with the sizes that they start with
-pub record Whole (s : List ℕ) (z : Sizes) : Type 0 where
+pub record Whole (s : List ℕ) (z : RecordSizes) : Type 0 where
   pub sizes : z ≡ sizesOf s
   pub rows : z .m ≤ mostRows
   pub columns : z .n ≤ mostColumns
@@ -18,7 +18,7 @@ pub record Whole (s : List ℕ) (z : Sizes) : Type 0 where
   pub ends : length s ≡ endAt (z .m) (z .n) (z .t)
 
 -- lists that hold the parts of a record with these sizes, and room for the longest text
-pub record Parts (shorts floats output out : ℕ) (z : Sizes) : Type 0 where
+pub record Parts (shorts floats output out : ℕ) (z : RecordSizes) : Type 0 where
   pub rows : z .m ≤ mostRows
   pub columns : z .n ≤ mostColumns
   pub entries : z .t ≤ mostEntries
@@ -28,7 +28,7 @@ pub record Parts (shorts floats output out : ℕ) (z : Sizes) : Type 0 where
   pub room : answerBytes ≤ out
 
 -- what the parts give: the shorts are the offsets and the columns, the floats the values, the tolerances, b and c
-abbrev pub partsOf : Sizes → List ℕ → List Float → Given
+abbrev pub partsOf : RecordSizes → List ℕ → List Float → Given
 partsOf z shorts floats =
     given (z .m) (z .n) (z .s)
     (take (z .m + 1) shorts)

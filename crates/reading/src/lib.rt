@@ -14,8 +14,8 @@ use ipm_simd::SolveAnswer;
 use record::Header;
 use record::LANES;
 use record::OFFSETS_AT;
+use record::RecordSizes;
 use record::SHORT_BYTES;
-use record::Sizes;
 use record::TOLERANCES;
 
 // Solves, and puts the text of the answer at the start of out.
@@ -63,7 +63,7 @@ fn solve_text(
 fn solve_parts(
     shorts: &[u32],
     floats: &[f64],
-    sizes: Sizes,
+    sizes: RecordSizes,
     output: &mut [f64],
     index: &mut [u32],
     work: &mut [f64],
@@ -99,7 +99,7 @@ fn solve_parts(
 }
 
 // The answer to a record that matches.
-fn answer(bytes: &[u8], sizes: Sizes, out: &mut [u8]) -> usize
+fn answer(bytes: &[u8], sizes: RecordSizes, out: &mut [u8]) -> usize
     requires { ⌜ Whole (now bytes) sizes × (answerBytes ≤ length (now out)) ⌝ }
     ensures { λ r. ⌜ Wrote (now (out .entry)) (now (out .exit)) 0 (solveText (givenOf (now (bytes .entry))) (lentFor (nOf (now (bytes .entry))))) r ⌝ }
 {

@@ -5,7 +5,7 @@ use Prim.Native.Nat.{ℕ, _+_, _*_}
 use lib.Dec.{eqb, leb}
 use lib.ListN.{length}
 use lib.Ieee.{Float}
-use Rattle.record.specs.declared.Sizes.{Sizes}
+use Rattle.record.specs.declared.RecordSizes.{RecordSizes}
 use Rattle.record.specs.declared.Header.{Header}
 use Rattle.record.specs.declared.Header.the-variants.{Mismatch, Matches}
 use Rattle.record.specs.Little.{le2, le4, shorts, floats}
@@ -91,7 +91,7 @@ wellFormed s =
     && (eqb (kindOf s) 1 && (within (mOf s) (nOf s) (tOf s) && eqb (length s) (endAt (mOf s) (nOf s) (tOf s))))
 
 -- the five sizes that a record starts with
-abbrev pub sizesOf : List ℕ → Sizes
+abbrev pub sizesOf : List ℕ → RecordSizes
 sizesOf s = record { m = mOf s; n = nOf s; s = sOf s; limit = limitOf s; t = tOf s }
 
 abbrev pub headerOf : List ℕ → Header

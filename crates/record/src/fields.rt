@@ -7,7 +7,7 @@ ghost use lib.ListN.{length};
 ghost use Rattle.record.specs.Little.{shorts, floats};
 ghost use Rattle.record.specs.Record.{within, endAt, headerOf};
 use crate::Header;
-use crate::Sizes;
+use crate::RecordSizes;
 use crate::little;
 
 // What a record of the reading program may hold at most.
@@ -87,7 +87,7 @@ pub fn read_header(bytes: &[u8]) -> Header
     if bytes.len() != record_bytes(m, n, t) {
         return Header::Mismatch;
     }
-    Header::Matches(Sizes {
+    Header::Matches(RecordSizes {
         m,
         n,
         s: little::le16(bytes, S_AT),

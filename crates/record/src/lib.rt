@@ -9,10 +9,11 @@ pub use fields::TOLERANCES;
 pub use fields::read_floats;
 pub use fields::read_header;
 pub use fields::read_shorts;
+pub use little::le16;
 pub use little::le32;
 
 // The sizes that a record starts with: rows, columns, slack rows, the limit of tests and the stored entries.
-pub struct Sizes {
+pub struct RecordSizes {
     pub m: usize,
     pub n: usize,
     pub s: usize,
@@ -23,5 +24,5 @@ pub struct Sizes {
 // Whether a record's bytes match, and its sizes where they do.
 pub enum Header {
     Mismatch,
-    Matches(Sizes),
+    Matches(RecordSizes),
 }

@@ -4,12 +4,13 @@ use mathlib.Core.Bool.{Bool, true, false}
 use mathlib.Core.List.{List, [], _∷_, _++_}
 use Prim.Native.Nat.{ℕ, suc, _+_, _-_, _<_, _≤_}
 use lib.Dec.{ltb}
-use lib.ListN.{getD}
-use Rattle.csr.specs.Pattern.{has}
+use lib.ListN.{length, getD}
+use Rattle.csr.specs.Pattern.{has, row}
 use Rattle.base.specs.Sums.{one}
 use Rattle.base.specs.Cat.{pick}
 use Rattle.lists.specs.Lists.{find, chosen}
 use Rattle.lists.specs.declared.Take.{Take}
+use Rattle.transpose.specs.Bins.{Grid}
 
 -- what f makes of each number of a list and its place, from base on
 unfoldable pub alongOf : (ℕ → ℕ → List ℕ) → ℕ → List ℕ → List ℕ
@@ -20,6 +21,13 @@ alongOf f base (k ∷ ks) = f base k ++ alongOf f (suc base) ks
 pub record Marked (mark : List ℕ) (lo : ℕ) (xs : List ℕ) (n : ℕ) : Type 0 where
   pub into : (c : ℕ) → c < n → has xs c ≡ true → getD mark c 0 ≡ lo + find c xs + 1
   pub out : (c : ℕ) → c < n → has xs c ≡ false → getD mark c 0 ≤ lo
+
+-- row i of the lists is marked
+pub record RowMarked (off cols : List ℕ) (m n : ℕ) (mark : List ℕ) (i : ℕ) : Type 0 where
+  pub grid : Grid off cols m n
+  pub inside : i < m
+  pub long : n ≤ length mark
+  pub marks : Marked mark (getD off i 0) (row off cols i) n
 
 -- what a walk through a row writes at a column that is marked
 unfoldable pub hit : Take → List ℕ → ℕ → ℕ → ℕ → List ℕ

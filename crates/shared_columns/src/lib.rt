@@ -8,7 +8,7 @@ ghost use Rattle.csr.specs.Counts.{common};
 ghost use Rattle.base.specs.Cat.{Wrote};
 ghost use Rattle.lists.specs.Lists.{shape, chosen, sharedOf};
 ghost use Rattle.transpose.specs.Bins.{Grid};
-ghost use Rattle.shared_columns.specs.Marked.{Marked, hit, alongOf, marked, countOf};
+ghost use Rattle.shared_columns.specs.Marked.{Marked, RowMarked, hit, alongOf, marked, countOf};
 use base::store;
 use base::word;
 use base::word_at;
@@ -77,7 +77,7 @@ pub fn hits(
 }
 
 // What rows i and j of the matrix share, by the marks of row i.
-pub fn shared_marked(
+pub fn put_shared(
     take: Take,
     off: &[u32],
     cols: &[u32],
@@ -89,7 +89,7 @@ pub fn shared_marked(
     index: &mut [u32],
     start: usize,
 ) -> usize
-    requires { ⌜ Grid (now off) (now cols) m wide × (i < m) × (j < m) × (wide ≤ length (now mark)) × Marked (now mark) (getD (now off) i 0) (row (now off) (now cols) i) wide × (start + length (sharedOf (shape (now off) (now cols)) take i j) ≤ length (now index)) ⌝ }
+    requires { ⌜ RowMarked (now off) (now cols) m wide (now mark) i × (j < m) × (start + length (sharedOf (shape (now off) (now cols)) take i j) ≤ length (now index)) ⌝ }
     ensures { λ r. ⌜ Wrote (now (index .entry)) (now (index .exit)) start (sharedOf (shape (now (off .entry)) (now (cols .entry))) take i j) r ⌝ }
 {
     let lo = word_at(off, i);
@@ -125,7 +125,7 @@ pub fn count_shared(
     i: usize,
     j: usize,
 ) -> usize
-    requires { ⌜ Grid (now off) (now cols) m wide × (i < m) × (j < m) × (wide ≤ length (now mark)) × Marked (now mark) (getD (now off) i 0) (row (now off) (now cols) i) wide ⌝ }
+    requires { ⌜ RowMarked (now off) (now cols) m wide (now mark) i × (j < m) ⌝ }
     ensures { λ r. ⌜ (r ≡ common (row (now (off .entry)) (now (cols .entry)) i) (row (now (off .entry)) (now (cols .entry)) j)) × (r ≤ length (now (cols .entry))) ⌝ }
 {
     let lo = word_at(off, i);

@@ -2,9 +2,10 @@
 use mathlib.Core.Path.{_≡_}
 use mathlib.Core.Bool.{Bool, true, false}
 use mathlib.Core.List.{List, [], _∷_, _++_}
-use Prim.Native.Nat.{ℕ, suc, _+_, _<_, _≤_}
+use Prim.Native.Nat.{ℕ, suc, _+_, _*_, _-_, _<_, _≤_}
 use lib.Dec.{eqb}
 use lib.ListN.{length, getD, take}
+use Rattle.csr.specs.Counts.{common}
 use Rattle.csr.specs.Pattern.{has, row}
 use Rattle.base.specs.Cat.{pick, cat}
 use Rattle.base.specs.Numbers.{Below, Rising}
@@ -68,9 +69,28 @@ pub record Tally (next : List ℕ) (n : ℕ) (held : ℕ → List ℕ) : Type 0 
 pub record Starts (next : List ℕ) (n : ℕ) (size : ℕ → ℕ) : Type 0 where
   pub first : (c : ℕ) → c < n → getD next c 0 ≡ sum c size
 
+-- the first i of m rows stand in their bins, and the next can follow
+pub record Scattering (off cols : List ℕ) (m n : ℕ) (w : What) (i : ℕ) (index next : List ℕ) (start : ℕ) : Type 0 where
+  pub grid : Grid off cols m n
+  pub long : n ≤ length next
+  pub room : start + sum n (roomOf off cols m) ≤ length index
+  pub few : sum n (roomOf off cols m) ≤ 262144
+  pub bins : Bins index next start n (roomOf off cols m) (rowsOf off cols w i)
+
+-- the first i of m rows stand in their bins, and nothing else has changed
+pub record Scattered (off cols : List ℕ) (m n : ℕ) (w : What) (i : ℕ) (old index next : List ℕ) (start : ℕ) : Type 0 where
+  pub bins : Bins index next start n (roomOf off cols m) (rowsOf off cols w i)
+  pub outside : Outside old index start (start + sum n (roomOf off cols m))
+
 -- what the columns hold of the first i rows, by row
 abbrev pub seen : List ℕ → List ℕ → ℕ → ℕ → List ℕ
 seen off cols i c = rowsOf off cols Numbers i c
+
+-- row i is counted: in its columns, and how many columns it shares with the rows up to it
+pub record RowCounted (off cols : List ℕ) (n i : ℕ) (next : List ℕ) (shares : ℕ) : Type 0 where
+  pub tally : Tally next n (seen off cols (i + 1))
+  pub pairs : shares ≡ sum (suc i) (λ j. common (row off cols i) (row off cols j))
+  pub few : shares ≤ 256 * (getD off (i + 1) 0 - getD off i 0)
 
 -- a 0 and the ends of n bins
 unfoldable pub endsFrom : (ℕ → ℕ) → ℕ → List ℕ

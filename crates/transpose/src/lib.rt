@@ -1,14 +1,14 @@
 // The transpose of CSR lists by counting, and what pairs of rows share, counted by column.
 ghost use mathlib.Core.Path.{_≡_};
-ghost use Prim.Native.Nat.{ℕ, suc, _+_, _*_, _-_, _<_, _≤_};
+ghost use Prim.Native.Nat.{ℕ, _+_, _<_, _≤_};
 ghost use lib.ListN.{length, getD, set};
 ghost use Rattle.base.specs.Sums.{sum};
-ghost use Rattle.csr.specs.Counts.{common, countS};
-ghost use Rattle.csr.specs.Pattern.{row};
+ghost use Rattle.csr.specs.Counts.{countS};
 ghost use lib.Seq.{sets};
 ghost use Rattle.base.specs.Cat.{Wrote, cat};
-ghost use Rattle.transpose.specs.Bins.{Bins, rowsOf, roomOf, Outside, Grid, Tally, Starts, seen, endsFrom, sideIn, colsOf};
+ghost use Rattle.transpose.specs.Bins.{rowsOf, roomOf, Scattering, Scattered, Grid, Tally, Starts, seen, RowCounted, endsFrom, sideIn, colsOf};
 ghost use Rattle.lists.specs.Lists.{told};
+use base::word_at;
 use lists::Side;
 use lists::What;
 
@@ -23,15 +23,8 @@ pub fn put_in(index: &mut [u32], next: &mut [u32], start: usize, e: usize, x: u3
     next[e] = q + 1;
 }
 
-fn at(s: &[u32], i: usize) -> usize
-    requires { ⌜ i < length (now s) ⌝ }
-    ensures { λ r. ⌜ r ≡ getD (now (s .entry)) i 0 ⌝ }
-{
-    s[i] as usize
-}
-
 // Entry k of the columns: the matrix's are words, the factor's are bytes.
-fn column_at(side: Side, cols: &[u32], bytes: &[u8], k: usize) -> usize
+pub fn column_at(side: Side, cols: &[u32], bytes: &[u8], k: usize) -> usize
     requires { ⌜ k < length (colsOf side (now cols) (now bytes)) ⌝ }
     ensures { λ r. ⌜ r ≡ getD (colsOf side (now (cols .entry)) (now (bytes .entry))) k 0 ⌝ }
 {
@@ -41,7 +34,8 @@ fn column_at(side: Side, cols: &[u32], bytes: &[u8], k: usize) -> usize
     }
 }
 
-fn of_entry(what: What, i: u32, place: u32) -> u32
+// What a list has for an entry of row i: its row or its place.
+pub fn of_entry(what: What, i: u32, place: u32) -> u32
     ensures { λ r. ⌜ r ≡ told what i place ⌝ }
 {
     match what {
@@ -64,11 +58,11 @@ pub fn scatter_row(
     next: &mut [u32],
     start: usize,
 )
-    requires { ⌜ Grid (now off) (colsOf side (now cols) (now bytes)) m n × (i < m) × (n ≤ length (now next)) × (start + sum n (roomOf (now off) (colsOf side (now cols) (now bytes)) m) ≤ length (now index)) × (sum n (roomOf (now off) (colsOf side (now cols) (now bytes)) m) ≤ 262144) × Bins (now index) (now next) start n (roomOf (now off) (colsOf side (now cols) (now bytes)) m) (rowsOf (now off) (colsOf side (now cols) (now bytes)) what i) ⌝ }
-    ensures { λ _. ⌜ Bins (now (index .exit)) (now (next .exit)) start n (roomOf (now (off .entry)) (colsOf side (now (cols .entry)) (now (bytes .entry))) m) (rowsOf (now (off .entry)) (colsOf side (now (cols .entry)) (now (bytes .entry))) what (i + 1)) × Outside (now (index .entry)) (now (index .exit)) start (start + sum n (roomOf (now (off .entry)) (colsOf side (now (cols .entry)) (now (bytes .entry))) m)) ⌝ }
+    requires { ⌜ Scattering (now off) (colsOf side (now cols) (now bytes)) m n what i (now index) (now next) start × (i < m) ⌝ }
+    ensures { λ _. ⌜ Scattered (now (off .entry)) (colsOf side (now (cols .entry)) (now (bytes .entry))) m n what (i + 1) (now (index .entry)) (now (index .exit)) (now (next .exit)) start ⌝ }
 {
-    let a = at(off, i);
-    let b = at(off, i + 1);
+    let a = word_at(off, i);
+    let b = word_at(off, i + 1);
     let mut k = a;
     while k < b {
         let e = column_at(side, cols, bytes, k);
@@ -100,10 +94,10 @@ pub fn count_row(
     next: &mut [u32],
 ) -> usize
     requires { ⌜ Grid (now off) (colsOf side (now cols) (now bytes)) m n × (i < m) × (n ≤ length (now next)) × Tally (now next) n (seen (now off) (colsOf side (now cols) (now bytes)) i) ⌝ }
-    ensures { λ r. ⌜ Tally (now (next .exit)) n (seen (now (off .entry)) (colsOf side (now (cols .entry)) (now (bytes .entry))) (i + 1)) × (r ≡ sum (suc i) (λ j. common (row (now (off .entry)) (colsOf side (now (cols .entry)) (now (bytes .entry))) i) (row (now (off .entry)) (colsOf side (now (cols .entry)) (now (bytes .entry))) j))) × (r ≤ 256 * (getD (now (off .entry)) (i + 1) 0 - getD (now (off .entry)) i 0)) ⌝ }
+    ensures { λ r. ⌜ RowCounted (now (off .entry)) (colsOf side (now (cols .entry)) (now (bytes .entry))) n i (now (next .exit)) r ⌝ }
 {
-    let a = at(off, i);
-    let b = at(off, i + 1);
+    let a = word_at(off, i);
+    let b = word_at(off, i + 1);
     let mut s: usize = 0;
     let mut k = a;
     while k < b {
@@ -213,7 +207,7 @@ pub fn transpose(
     base::clear(next, n);
     count_rows(side, off, cols, bytes, m, n, next);
     let a = put_ends(n, index, next, again, start);
-    let t = at(again, n);
+    let t = word_at(again, n);
     scatter(side, What::Numbers, off, cols, bytes, m, n, index, next, a);
     scatter(
         side,

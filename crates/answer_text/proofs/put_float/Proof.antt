@@ -23,8 +23,8 @@ put-requires c κs =
     let made = c .before .before .hex .ensures in
     omega (arith, made .0 .1, hex-places _ _ (c .before .before .before .before .bits-of .ok) (made .1 .0))
 
-put-byte-requires : tie.Need-put-byte-requires
-put-byte-requires c κs =
+byte-requires : tie.Need-byte-requires
+byte-requires c κs =
     let made = c .before .before .before .before .before .before .hex .ensures in
     let put = c .before .before .before .put in
     omega (arith, put .ensures .next, put .kept .0, made .0 .1, hex-places _ _ (c .before .before .before .before .before .before .before .before .bits-of .ok) (made .1 .0))
@@ -39,7 +39,7 @@ returns c =
     let pattern = c .before .before .before .before .before .before .before .before .before .before .before .bits-of in
     let few = hex-places _ _ (pattern .ok) (made .1 .0) in
     let put = c .before .before .before .before .before .before .put .ensures in
-    let last = c .before .before .put-byte .ensures in (
+    let last = c .before .before .byte .ensures in (
       then-byte (made .1 .1 ∙ hex-is _ _ few (made .1 .0) ∙ ap hexText (pattern .ensures)) put last,
       omega (arith, last .next, put .next, made .0 .1, few, made .1 .0 .0),
     )
@@ -53,6 +53,6 @@ put-float-spec =
     array-share-prefix-digits
     slice-aggregate-put
     put-requires
-    put-byte-requires
+    byte-requires
     same-length
     returns)

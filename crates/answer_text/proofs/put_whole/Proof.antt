@@ -20,8 +20,8 @@ put-requires c κs =
     let made = c .before .before .decimal .ensures in
     omega (arith, made .0 .1, decimal-places _ _ (c .before .before .before .before .before .fits .x .fits) (made .1 .0))
 
-put-byte-requires : tie.Need-put-byte-requires
-put-byte-requires c κs =
+byte-requires : tie.Need-byte-requires
+byte-requires c κs =
     let made = c .before .before .before .before .before .before .decimal .ensures in
     let put = c .before .before .before .put in
     omega (arith, put .ensures .next, put .kept .0, made .0 .1, decimal-places _ _ (c .before .before .before .before .before .before .before .before .before .fits .x .fits) (made .1 .0))
@@ -35,7 +35,7 @@ returns c =
     let made = c .before .before .before .before .before .before .before .before .before .decimal .ensures in
     let few = decimal-places _ _ (c .before .before .before .before .before .before .before .before .before .before .before .before .fits .x .fits) (made .1 .0) in
     let put = c .before .before .before .before .before .before .put .ensures in
-    let last = c .before .before .put-byte .ensures in
+    let last = c .before .before .byte .ensures in
     (then-byte (made .1 .1 ∙ decimal-is 20 _ _ few (made .1 .0)) put last, omega (arith, last .next, put .next, made .0 .1, few))
 
 pub put-whole-spec : {M : Type 1} → statement M
@@ -46,6 +46,6 @@ put-whole-spec =
     array-share-prefix-digits
     slice-aggregate-put
     put-requires
-    put-byte-requires
+    byte-requires
     same-length
     returns)

@@ -3,7 +3,7 @@ use mathlib.Core.Path.{sym, ap, _∙_, subst}
 use lib.ListN.{length}
 use borrow.Author.Needs.{needs}
 use native.Mathlib.Omega.{arith}
-use Rattle.ipm_common.specs.Plan.{told}
+use Rattle.ipm_common.specs.Plan.{toldPlan}
 use Rattle.ipm_c.specs.Packed.{packed}
 use Rattle.ipm_c.proofs.Small.{Small, small-plan}
 use Rattle.ipm_c.proofs.ipm_plan.Statement.{statement}
@@ -18,7 +18,7 @@ enum-known-w c = search needs
 pack-requires : tie.Need-pack-requires
 pack-requires c κs =
     let a = c .before .before .before .before .before .before .before .before .before .before .args in
-    let said = sym (c .before .before .before .before .before .plan .ensures .0) ∙ ap told (c .before .w .given .1) in
+    let said = sym (c .before .before .before .before .before .plan .ensures .0) ∙ ap toldPlan (c .before .w .given .1) in
     (omega arith, subst Small said (small-plan (a .m) (a .n) (a .offsets .now) (a .columns .now) (length (a .index .now))), omega arith)
 
 enum-known-r : tie.Need-enum-known-r
@@ -27,7 +27,7 @@ enum-known-r c = search needs
 pack-requires-2 : tie.Need-pack-requires-2
 pack-requires-2 c κs =
     let a = c .before .before .before .before .before .before .before .before .before .before .args in
-    let said = sym (c .before .before .before .before .before .plan .ensures .0) ∙ ap told (c .before .r .given .1) in
+    let said = sym (c .before .before .before .before .before .plan .ensures .0) ∙ ap toldPlan (c .before .r .given .1) in
     subst Small said (small-plan (a .m) (a .n) (a .offsets .now) (a .columns .now) (length (a .index .now)))
 
 same-length : tie.Need-same-length
@@ -35,7 +35,7 @@ same-length c = search needs
 
 returns : tie.Need-returns
 returns c =
-    let said = sym (ap told (c .before .before .w .given .1)) ∙ c .before .before .before .before .before .before .plan .ensures .0 in
+    let said = sym (ap toldPlan (c .before .before .w .given .1)) ∙ c .before .before .before .before .before .before .plan .ensures .0 in
     (c .pack .ensures ∙ ap packed said, c .before .before .before .before .before .before .plan .ensures .1)
 
 same-length-2 : tie.Need-same-length-2
@@ -43,7 +43,7 @@ same-length-2 c = search needs
 
 returns-2 : tie.Need-returns-2
 returns-2 c =
-    let said = sym (ap told (c .before .before .r .given .1)) ∙ c .before .before .before .before .before .before .plan .ensures .0 in
+    let said = sym (ap toldPlan (c .before .before .r .given .1)) ∙ c .before .before .before .before .before .before .plan .ensures .0 in
     (c .pack2 .ensures ∙ ap packed said, c .before .before .before .before .before .before .plan .ensures .1)
 
 pub ipm-plan-spec : {M : Type 1} → statement M

@@ -90,9 +90,9 @@ put-plan-requires c κs =
       record { csr = s .pre .0 .csr; words = c .before .before .before .before .before .before .before .before .before .before .before .before .before .before .before .before .before .before .before .before .before .before .before .before .before .before .before .pattern .kept .1 .1 .1 .0; rows = c .before .before .before .before .before .before .before .before .before .before .before .before .before .before .before .before .before .before .before .before .before .before .before .before .before .before .before .pattern .ensures },
       c .before .before .before .before .before .before .before .before .before .before .before .before .before .before .before .before .before .before .before .before .before .before .list-rows .ensures,
       omega (arith, z, w, c .before .before .before .before .before .before .before .if2 .left),
-      s .pre .4,
-      record { rows = omega (arith, s .pre .5 .rows, l); columns = omega (arith, s .pre .5 .columns, l) },
-      s .pre .6,
+      s .pre .1 .marks,
+      record { rows = omega (arith, s .pre .1 .counts .rows, l); columns = omega (arith, s .pre .1 .counts .columns, l) },
+      s .pre .1 .firsts,
     )
 
 same-length-7 : tie.Need-same-length-7

@@ -13,7 +13,7 @@ put-ten-requires : tie.Need-put-ten-requires
 put-ten-requires c κs =
     let s = c .before .before .before .before .before .before .before .before .before .before .before in
     let a = s .args in
-    (s .pre .1, s .pre .2, omega (arith, s .pre .3, fin.plan-long (a .off .now) (a .cols .now) (a .m) (a .n) (a .p .now) (a .lp .now) (a .li .now) (s .pre .1) (s .pre .2)), fin.accepted-grid (a .off .now) (a .cols .now) (a .m) (a .n) (s .pre .0), s .pre .4)
+    (record { ready = s .pre .1; rows = s .pre .2; grid = fin.accepted-grid (a .off .now) (a .cols .now) (a .m) (a .n) (s .pre .0) }, omega (arith, s .pre .3, fin.plan-long (a .off .now) (a .cols .now) (a .m) (a .n) (a .p .now) (a .lp .now) (a .li .now) (s .pre .1) (s .pre .2)), s .pre .4)
 
 transpose-requires : tie.Need-transpose-requires
 transpose-requires c κs =

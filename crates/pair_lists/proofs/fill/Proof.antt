@@ -1,4 +1,4 @@
--- `pairs::fill` meets its contract. Assumes nothing.
+-- `pair_lists::fill` meets its contract. Assumes nothing.
 use Prim.Native.Nat.{ℕ, _≤_, _<_, _+_, _*_, _-_}
 use mathlib.Core.Path.{_≡_, refl, sym, ap, _∙_}
 use native.Mathlib.Omega.{arith}
@@ -27,19 +27,19 @@ keep-requires : tie.Need-keep-requires Inv-loop μ-loop
 keep-requires c κs =
     let s = c .before .before .before .before .before .before .before .before .before in
     let a = s .args in
-    omega (arith, head-room (shape (a .off .now) (a .cols .now)) (a .which) (a .m) (a .start) (length (a .index .now)) (s .pre .2), ap (λ (t : Bool). length (pick t 0)) (c .has-head .ensures))
+    omega (arith, head-room (shape (a .off .now) (a .cols .now)) (a .which) (a .m) (a .start) (length (a .index .now)) (s .pre .1), ap (λ (t : Bool). length (pick t 0)) (c .has-head .ensures))
 
 loop-holds : tie.Need-loop-holds Inv-loop μ-loop
 loop-holds c =
     let s = c .before .before .before .before .before .before .before .before .before .before .before .before in
     let a = s .args in
-    (omega arith, refl, sym (before-start (weight (shape (a .off .now) (a .cols .now)) (a .which))), omega arith, turns.rows-start (shape (a .off .now) (a .cols .now)) (a .which) (c .before .before .keep .last .0) (c .before .before .keep .result), refl, s .pre .5)
+    (omega arith, refl, sym (before-start (weight (shape (a .off .now) (a .cols .now)) (a .which))), omega arith, turns.rows-start (shape (a .off .now) (a .cols .now)) (a .which) (c .before .before .keep .last .0) (c .before .before .keep .result), refl, s .pre .3)
 
 mark-for-requires : tie.Need-mark-for-requires Inv-loop μ-loop
 mark-for-requires c κs =
     let s = c .before .before .before .before .before .before .before .before .before .before .before .before .before .before .before in
     let l = c .before .before .loop in
-    (s .pre .3, c .before .loop-test .taken, omega (arith, s .pre .4, l .inv .5), l .inv .6)
+    (s .pre .0 .grid, c .before .loop-test .taken, omega (arith, s .pre .2, l .inv .5), l .inv .6)
 
 fill-row-requires : tie.Need-fill-row-requires Inv-loop μ-loop
 fill-row-requires c κs =
@@ -49,19 +49,15 @@ fill-row-requires c κs =
     let k = c .before .before .before .before .before .before .before .before .before .before .keep in
     let r = c .before .before .before .before .mark-for in (
       s .pre .0,
-      s .pre .1,
+      record { long = omega (arith, s .pre .2, l .inv .5, r .kept .1 .1 .1 .1 .1 .1 .0); marks = r .ensures .0 },
+      record { count = l .inv .2; few = l .inv .3 },
       c .before .before .before .before .before .before .loop-test .taken,
-      l .inv .2,
-      l .inv .3,
-      turns.row-room (shape (a .off .now) (a .cols .now)) (a .which) (a .m) (l .i) (a .start) (length (l .index)) (k .result) (l .at) (c .before .before .before .before .before .before .loop-test .taken) (omega (arith, s .pre .2, l .inv .1, k .kept .0))
+      turns.row-room (shape (a .off .now) (a .cols .now)) (a .which) (a .m) (l .i) (a .start) (length (l .index)) (k .result) (l .at) (c .before .before .before .before .before .before .loop-test .taken) (omega (arith, s .pre .1, l .inv .1, k .kept .0))
           (k .ensures .next ∙ ap (λ (t : Bool). a .start + length (pick t 0)) (c .before .before .before .before .before .before .before .before .before .before .before .has-head .ensures)) (l .inv .4 .next),
-      s .pre .3,
-      omega (arith, s .pre .4, l .inv .5, r .kept .1 .1 .1 .1 .1 .1 .0),
-      r .ensures .0,
     )
 
 add-i : tie.Need-add-i Inv-loop μ-loop
-add-i c = omega (arith, c .before .before .before .before .before .before .before .before .before .before .before .before .before .before .before .before .before .before .before .before .before .before .before .pre .1 .few, c .before .before .before .before .before .before .before .before .before .loop-test .taken)
+add-i c = omega (arith, c .before .before .before .before .before .before .before .before .before .before .before .before .before .before .before .before .before .before .before .before .before .before .before .pre .0 .rows .few, c .before .before .before .before .before .before .before .before .before .loop-test .taken)
 
 loop-less : tie.Need-loop-less Inv-loop μ-loop
 loop-less c = omega (arith, c .before .before .before .before .before .before .before .before .before .loop-test .taken)
@@ -74,7 +70,7 @@ loop-again c =
     let k = c .before .before .before .before .before .before .before .before .before .before .before .before .before .keep in
     let r = c .before .before .before .before .before .before .before .mark-for in
     let q = c .before .before .fill-row in
-    (omega (arith, c .before .before .before .before .before .before .before .before .before .loop-test .taken), q .kept .1 .1 .1 .1 .1 .1 .1 .1 .1 .1 .1 .0 ∙ l .inv .1, q .ensures .1, q .ensures .2, turns.rows-next (shape (a .off .now) (a .cols .now)) (a .which) (k .last .0) (l .index) (q .last .1 .1 .1 .1 .1 .1 .1 .1 .1 .1 .1 .0) (k .result) (l .at) (q .result .at) (l .i) (l .inv .4) (q .ensures .0), r .kept .1 .1 .1 .1 .1 .1 .0 ∙ l .inv .5, r .ensures .1)
+    (omega (arith, c .before .before .before .before .before .before .before .before .before .loop-test .taken), q .kept .1 .1 .1 .1 .1 .1 .1 .1 .1 .1 .1 .0 ∙ l .inv .1, q .ensures .1 .count, q .ensures .1 .few, turns.rows-next (shape (a .off .now) (a .cols .now)) (a .which) (k .last .0) (l .index) (q .last .1 .1 .1 .1 .1 .1 .1 .1 .1 .1 .1 .0) (k .result) (l .at) (q .result .at) (l .i) (l .inv .4) (q .ensures .0), r .kept .1 .1 .1 .1 .1 .1 .0 ∙ l .inv .5, r .ensures .1)
 
 same-length : tie.Need-same-length Inv-loop μ-loop
 same-length c = c .before .loop .inv .5

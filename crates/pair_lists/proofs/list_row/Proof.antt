@@ -1,4 +1,4 @@
--- `pairs::list_row` meets its contract. Assumes nothing.
+-- `pair_lists::list_row` meets its contract. Assumes nothing.
 use Prim.Native.Nat.{ℕ, _≤_, _+_, _-_}
 use mathlib.Core.Path.{_≡_, refl, _∙_, subst}
 use native.Mathlib.Omega.{arith}

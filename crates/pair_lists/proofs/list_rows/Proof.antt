@@ -1,4 +1,4 @@
--- `pairs::list_rows` meets its contract. Assumes nothing.
+-- `pair_lists::list_rows` meets its contract. Assumes nothing.
 use Prim.Native.Nat.{_≤_, _<_, _+_, _-_}
 use mathlib.Core.Path.{_≡_, refl, _∙_}
 use native.Mathlib.Omega.{arith}

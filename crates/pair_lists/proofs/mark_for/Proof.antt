@@ -1,4 +1,4 @@
--- `pairs::mark_for` meets its contract. Assumes nothing.
+-- `pair_lists::mark_for` meets its contract. Assumes nothing.
 use mathlib.Core.Path.{sym, _∙_}
 use mathlib.Core.Bool.{true≢false}
 use native.Mathlib.Omega.{arith}

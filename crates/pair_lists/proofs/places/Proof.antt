@@ -1,4 +1,4 @@
--- `pairs::places` meets its contract. Assumes nothing.
+-- `pair_lists::places` meets its contract. Assumes nothing.
 use Prim.Native.Nat.{ℕ, _≤_, _<_, _+_, _-_}
 use mathlib.Core.Path.{_≡_, refl, sym, ap, _∙_, subst}
 use mathlib.Core.List.{_++_}

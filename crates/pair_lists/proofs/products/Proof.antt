@@ -1,4 +1,4 @@
--- `pairs::products` meets its contract. Assumes nothing.
+-- `pair_lists::products` meets its contract. Assumes nothing.
 use Prim.Native.Nat.{_-_}
 use mathlib.Core.Path.{ap}
 use native.Mathlib.Omega.{arith}

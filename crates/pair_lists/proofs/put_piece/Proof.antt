@@ -1,14 +1,11 @@
--- `pairs::put_piece` meets its contract. Assumes nothing.
-use Prim.Native.Nat.{ℕ, suc, _-_}
-use mathlib.Core.Path.{sym, ap, _∙_}
+-- `pair_lists::put_piece` meets its contract. Assumes nothing.
+use Prim.Native.Nat.{ℕ, _-_}
+use mathlib.Core.Path.{sym, ap}
 use native.Mathlib.Omega.{arith}
 use lib.ListN.{length}
 use Rattle.base.proofs.Write.{wrote-as}
-use Rattle.pair_lists.proofs.Stored as st
-use Rattle.lists.proofs.Pieces as old
-use Rattle.lists.specs.Lists.{weight, shape, piece, before}
-use Rattle.lists.specs.declared.Which.{Which}
 use Rattle.pair_lists.specs.Kept.{marksRead}
+use Rattle.pair_lists.proofs.Pieces as law
 use borrow.Author.Needs.{needs}
 use Rattle.pair_lists.proofs.put_piece.Statement.{statement}
 use Rattle.pair_lists.proofs.put_piece.Tie as tie
@@ -19,43 +16,44 @@ enum-told c = search needs
 word-requires : tie.Need-word-requires
 word-requires c κs =
     let s = c .before .before .before .before .before .before .before .before .before .before in
-    let a = s .args in
     let t = c .before .enum-told .given .1 in
-    let e = ap (λ (w : Which). piece (shape (a .off .now) (a .cols .now)) w (a .i) (a .j)) t ∙ st.of-AnormIndptr (a .off .now) (a .cols .now) (a .m) (a .p .now) (s .pre .0) (a .lp .now) (a .li .now) (s .pre .1) (a .i) (a .j) (a .t) (s .pre .2) (s .pre .3) (s .pre .4) (s .pre .5) (a .n) (s .pre .6 ∙ ap (λ (w : Which). before (weight (shape (a .off .now) (a .cols .now)) w) (a .i) (suc (a .j))) t) in
-    omega (arith, s .pre .7, ap length e)
+    omega (arith, s .pre .3, ap length (law.of-AnormIndptr (s .pre .0) (s .pre .1) t))
 
 enum-told-2 : tie.Need-enum-told-2
 enum-told-2 c = search needs
 
-shared-marked-requires : tie.Need-shared-marked-requires
-shared-marked-requires c κs =
+put-shared-requires : tie.Need-put-shared-requires
+put-shared-requires c κs =
     let s = c .before .before .before .before .before .before .before .before .before .before in
-    let a = s .args in
-    let t = c .before .enum-told2 .given .1 in
-    let e = ap (λ (w : Which). piece (shape (a .off .now) (a .cols .now)) w (a .i) (a .j)) t ∙ old.of-AnormIndptrI (a .off .now) (a .cols .now) (a .m) (a .p .now) (s .pre .0) (a .i) (a .j) (s .pre .2) (st.le (a .off .now) (a .cols .now) (a .m) (a .p .now) (s .pre .0) (a .lp .now) (a .li .now) (s .pre .1) (a .i) (a .j) (a .t) (s .pre .2) (s .pre .3) (s .pre .4) (s .pre .5)) in
-    (s .pre .8, s .pre .2, omega (arith, s .pre .2, st.le (a .off .now) (a .cols .now) (a .m) (a .p .now) (s .pre .0) (a .lp .now) (a .li .now) (s .pre .1) (a .i) (a .j) (a .t) (s .pre .2) (s .pre .3) (s .pre .4) (s .pre .5)), s .pre .9, s .pre .10 (ap marksRead t), omega (arith, s .pre .7, ap length e))
+    let t = c .before .enum-told2 .given .1 in (
+      record { grid = s .pre .0 .grid; inside = s .pre .1 .inside; long = s .pre .2 .long; marks = s .pre .2 .marks (ap marksRead t) },
+      law.below (s .pre .0) (s .pre .1) .0,
+      omega (arith, s .pre .3, ap length (law.of-AnormIndptrI (s .pre .0) (s .pre .1) t)),
+    )
 
 enum-told-3 : tie.Need-enum-told-3
 enum-told-3 c = search needs
 
-shared-marked-requires-2 : tie.Need-shared-marked-requires-2
-shared-marked-requires-2 c κs =
+put-shared-requires-2 : tie.Need-put-shared-requires-2
+put-shared-requires-2 c κs =
     let s = c .before .before .before .before .before .before .before .before .before .before in
-    let a = s .args in
-    let t = c .before .enum-told3 .given .1 in
-    let e = ap (λ (w : Which). piece (shape (a .off .now) (a .cols .now)) w (a .i) (a .j)) t ∙ old.of-AnormIndptrJ (a .off .now) (a .cols .now) (a .m) (a .p .now) (s .pre .0) (a .i) (a .j) (s .pre .2) (st.le (a .off .now) (a .cols .now) (a .m) (a .p .now) (s .pre .0) (a .lp .now) (a .li .now) (s .pre .1) (a .i) (a .j) (a .t) (s .pre .2) (s .pre .3) (s .pre .4) (s .pre .5)) in
-    (s .pre .8, s .pre .2, omega (arith, s .pre .2, st.le (a .off .now) (a .cols .now) (a .m) (a .p .now) (s .pre .0) (a .lp .now) (a .li .now) (s .pre .1) (a .i) (a .j) (a .t) (s .pre .2) (s .pre .3) (s .pre .4) (s .pre .5)), s .pre .9, s .pre .10 (ap marksRead t), omega (arith, s .pre .7, ap length e))
+    let t = c .before .enum-told3 .given .1 in (
+      record { grid = s .pre .0 .grid; inside = s .pre .1 .inside; long = s .pre .2 .long; marks = s .pre .2 .marks (ap marksRead t) },
+      law.below (s .pre .0) (s .pre .1) .0,
+      omega (arith, s .pre .3, ap length (law.of-AnormIndptrJ (s .pre .0) (s .pre .1) t)),
+    )
 
 enum-told-4 : tie.Need-enum-told-4
 enum-told-4 c = search needs
 
-shared-marked-requires-3 : tie.Need-shared-marked-requires-3
-shared-marked-requires-3 c κs =
+put-shared-requires-3 : tie.Need-put-shared-requires-3
+put-shared-requires-3 c κs =
     let s = c .before .before .before .before .before .before .before .before .before .before in
-    let a = s .args in
-    let t = c .before .enum-told4 .given .1 in
-    let e = ap (λ (w : Which). piece (shape (a .off .now) (a .cols .now)) w (a .i) (a .j)) t ∙ old.of-AnormIndices (a .off .now) (a .cols .now) (a .m) (a .p .now) (s .pre .0) (a .i) (a .j) (s .pre .2) (st.le (a .off .now) (a .cols .now) (a .m) (a .p .now) (s .pre .0) (a .lp .now) (a .li .now) (s .pre .1) (a .i) (a .j) (a .t) (s .pre .2) (s .pre .3) (s .pre .4) (s .pre .5)) in
-    (s .pre .8, s .pre .2, omega (arith, s .pre .2, st.le (a .off .now) (a .cols .now) (a .m) (a .p .now) (s .pre .0) (a .lp .now) (a .li .now) (s .pre .1) (a .i) (a .j) (a .t) (s .pre .2) (s .pre .3) (s .pre .4) (s .pre .5)), s .pre .9, s .pre .10 (ap marksRead t), omega (arith, s .pre .7, ap length e))
+    let t = c .before .enum-told4 .given .1 in (
+      record { grid = s .pre .0 .grid; inside = s .pre .1 .inside; long = s .pre .2 .long; marks = s .pre .2 .marks (ap marksRead t) },
+      law.below (s .pre .0) (s .pre .1) .0,
+      omega (arith, s .pre .3, ap length (law.of-AnormIndices (s .pre .0) (s .pre .1) t)),
+    )
 
 enum-told-5 : tie.Need-enum-told-5
 enum-told-5 c = search needs
@@ -63,10 +61,8 @@ enum-told-5 c = search needs
 word-requires-2 : tie.Need-word-requires-2
 word-requires-2 c κs =
     let s = c .before .before .before .before .before .before .before .before .before .before in
-    let a = s .args in
     let t = c .before .enum-told5 .given .1 in
-    let e = ap (λ (w : Which). piece (shape (a .off .now) (a .cols .now)) w (a .i) (a .j)) t ∙ st.of-LdecompIndptr (a .off .now) (a .cols .now) (a .m) (a .p .now) (s .pre .0) (a .lp .now) (a .li .now) (s .pre .1) (a .i) (a .j) (a .t) (s .pre .2) (s .pre .3) (s .pre .4) (s .pre .5) (a .n) (s .pre .6 ∙ ap (λ (w : Which). before (weight (shape (a .off .now) (a .cols .now)) w) (a .i) (suc (a .j))) t) in
-    omega (arith, s .pre .7, ap length e)
+    omega (arith, s .pre .3, ap length (law.of-LdecompIndptr (s .pre .0) (s .pre .1) t))
 
 enum-told-6 : tie.Need-enum-told-6
 enum-told-6 c = search needs
@@ -74,10 +70,15 @@ enum-told-6 c = search needs
 products-requires : tie.Need-products-requires
 products-requires c κs =
     let s = c .before .before .before .before .before .before .before .before .before .before in
-    let a = s .args in
-    let t = c .before .enum-told6 .given .1 in
-    let e = ap (λ (w : Which). piece (shape (a .off .now) (a .cols .now)) w (a .i) (a .j)) t ∙ st.of-LdecompIndptrI (a .off .now) (a .cols .now) (a .m) (a .p .now) (s .pre .0) (a .lp .now) (a .li .now) (s .pre .1) (a .i) (a .j) (a .t) (s .pre .2) (s .pre .3) (s .pre .4) (s .pre .5) in
-    (s .pre .0 .words, s .pre .1, s .pre .2, omega (arith, s .pre .2, st.le (a .off .now) (a .cols .now) (a .m) (a .p .now) (s .pre .0) (a .lp .now) (a .li .now) (s .pre .1) (a .i) (a .j) (a .t) (s .pre .2) (s .pre .3) (s .pre .4) (s .pre .5), s .pre .1 .few), s .pre .3, s .pre .4, omega (arith, s .pre .7, ap length e))
+    let t = c .before .enum-told6 .given .1 in (
+      s .pre .0 .ready .words,
+      s .pre .0 .rows,
+      s .pre .1 .inside,
+      omega (arith, law.left (s .pre .0) (s .pre .1), law.below (s .pre .0) (s .pre .1) .1),
+      s .pre .1 .first,
+      s .pre .1 .last,
+      omega (arith, s .pre .3, ap length (law.of-LdecompIndptrI (s .pre .0) (s .pre .1) t)),
+    )
 
 enum-told-7 : tie.Need-enum-told-7
 enum-told-7 c = search needs
@@ -85,34 +86,32 @@ enum-told-7 c = search needs
 add-word-at : tie.Need-add-word-at
 add-word-at c =
     let s = c .before .before .before .before .before .before .before .before .before in
-    let a = s .args in
-    let t = c .enum-told7 .given .1 in
-    omega (arith, s .pre .2, st.le (a .off .now) (a .cols .now) (a .m) (a .p .now) (s .pre .0) (a .lp .now) (a .li .now) (s .pre .1) (a .i) (a .j) (a .t) (s .pre .2) (s .pre .3) (s .pre .4) (s .pre .5), s .pre .1 .few)
+    omega (arith, law.left (s .pre .0) (s .pre .1), law.below (s .pre .0) (s .pre .1) .1)
 
 word-at-requires : tie.Need-word-at-requires
 word-at-requires c κs =
     let s = c .before .before .before .before .before .before .before .before .before in
-    let a = s .args in
-    let t = c .enum-told7 .given .1 in
-    omega (arith, s .pre .2, st.le (a .off .now) (a .cols .now) (a .m) (a .p .now) (s .pre .0) (a .lp .now) (a .li .now) (s .pre .1) (a .i) (a .j) (a .t) (s .pre .2) (s .pre .3) (s .pre .4) (s .pre .5), s .pre .1 .offsets)
+    omega (arith, law.below (s .pre .0) (s .pre .1) .0, s .pre .0 .rows .offsets)
 
-sub-products : tie.Need-sub-products
-sub-products c =
+sub-last : tie.Need-sub-last
+sub-last c =
     let s = c .before .before .before .before .before .before .before .before .before .before in
-    let a = s .args in
-    let t = c .before .enum-told7 .given .1 in
-    let l = st.last-of (a .off .now) (a .cols .now) (a .m) (a .p .now) (s .pre .0) (a .lp .now) (a .li .now) (s .pre .1) (a .j) (omega (arith, s .pre .2, st.le (a .off .now) (a .cols .now) (a .m) (a .p .now) (s .pre .0) (a .lp .now) (a .li .now) (s .pre .1) (a .i) (a .j) (a .t) (s .pre .2) (s .pre .3) (s .pre .4) (s .pre .5))) in
-    omega (arith, l .some, c .word-at .ensures)
+    omega (arith, law.ends (s .pre .0) (s .pre .1) .some, c .word-at .ensures)
 
 products-requires-2 : tie.Need-products-requires-2
 products-requires-2 c κs =
     let s = c .before .before .before .before .before .before .before .before .before .before .before in
-    let a = s .args in
     let t = c .before .before .enum-told7 .given .1 in
-    let w = c .before .word-at in
-    let l = st.last-of (a .off .now) (a .cols .now) (a .m) (a .p .now) (s .pre .0) (a .lp .now) (a .li .now) (s .pre .1) (a .j) (omega (arith, s .pre .2, st.le (a .off .now) (a .cols .now) (a .m) (a .p .now) (s .pre .0) (a .lp .now) (a .li .now) (s .pre .1) (a .i) (a .j) (a .t) (s .pre .2) (s .pre .3) (s .pre .4) (s .pre .5))) in
-    let e = ap (λ (w : Which). piece (shape (a .off .now) (a .cols .now)) w (a .i) (a .j)) t ∙ st.of-LdecompIndptrJ (a .off .now) (a .cols .now) (a .m) (a .p .now) (s .pre .0) (a .lp .now) (a .li .now) (s .pre .1) (a .i) (a .j) (a .t) (s .pre .2) (s .pre .3) (s .pre .4) (s .pre .5) (w .result - 1) (ap (λ (x : ℕ). x - 1) (w .ensures)) in
-    (s .pre .0 .words, s .pre .1, omega (arith, s .pre .2, st.le (a .off .now) (a .cols .now) (a .m) (a .p .now) (s .pre .0) (a .lp .now) (a .li .now) (s .pre .1) (a .i) (a .j) (a .t) (s .pre .2) (s .pre .3) (s .pre .4) (s .pre .5)), omega (arith, s .pre .2, s .pre .1 .few), omega (arith, l .low, w .ensures), omega (arith, l .high, l .some, w .ensures), omega (arith, s .pre .7, ap length e))
+    let x = c .before .word-at in
+    let l = law.ends (s .pre .0) (s .pre .1) in (
+      s .pre .0 .ready .words,
+      s .pre .0 .rows,
+      law.below (s .pre .0) (s .pre .1) .0,
+      law.below (s .pre .0) (s .pre .1) .1,
+      omega (arith, l .low, x .ensures),
+      omega (arith, l .high, l .some, x .ensures),
+      omega (arith, s .pre .3, ap length (law.of-LdecompIndptrJ (s .pre .0) (s .pre .1) t (x .result - 1) (ap (λ (y : ℕ). y - 1) (x .ensures)))),
+    )
 
 enum-told-8 : tie.Need-enum-told-8
 enum-told-8 c = search needs
@@ -120,24 +119,18 @@ enum-told-8 c = search needs
 cast-keep : tie.Need-cast-keep
 cast-keep c =
     let s = c .before .before .before .before .before .before .before .before .before .before in
-    let a = s .args in
-    let t = c .before .enum-told8 .given .1 in
-    omega (arith, st.t-small (a .off .now) (a .cols .now) (a .m) (a .p .now) (s .pre .0) (a .lp .now) (a .li .now) (s .pre .1) (a .i) (a .j) (a .t) (s .pre .2) (s .pre .3) (s .pre .4) (s .pre .5))
+    omega (arith, law.small (s .pre .0) (s .pre .1))
 
 add-keep : tie.Need-add-keep
 add-keep c =
     let s = c .before .before .before .before .before .before .before .before .before .before in
-    let a = s .args in
-    let t = c .before .enum-told8 .given .1 in
-    omega (arith, st.t-small (a .off .now) (a .cols .now) (a .m) (a .p .now) (s .pre .0) (a .lp .now) (a .li .now) (s .pre .1) (a .i) (a .j) (a .t) (s .pre .2) (s .pre .3) (s .pre .4) (s .pre .5))
+    omega (arith, law.small (s .pre .0) (s .pre .1))
 
 keep-requires : tie.Need-keep-requires
 keep-requires c κs =
     let s = c .before .before .before .before .before .before .before .before .before .before in
-    let a = s .args in
     let t = c .before .enum-told8 .given .1 in
-    let e = ap (λ (w : Which). piece (shape (a .off .now) (a .cols .now)) w (a .i) (a .j)) t ∙ st.of-Lindptr (a .off .now) (a .cols .now) (a .m) (a .p .now) (s .pre .0) (a .lp .now) (a .li .now) (s .pre .1) (a .i) (a .j) (a .t) (s .pre .2) (s .pre .3) (s .pre .4) (s .pre .5) in
-    omega (arith, s .pre .7, ap length e)
+    omega (arith, s .pre .3, ap length (law.of-Lindptr (s .pre .0) (s .pre .1) t))
 
 enum-told-9 : tie.Need-enum-told-9
 enum-told-9 c = search needs
@@ -145,17 +138,13 @@ enum-told-9 c = search needs
 cast-keep-2 : tie.Need-cast-keep-2
 cast-keep-2 c =
     let s = c .before .before .before .before .before .before .before .before .before .before in
-    let a = s .args in
-    let t = c .before .enum-told9 .given .1 in
-    omega (arith, st.t-small (a .off .now) (a .cols .now) (a .m) (a .p .now) (s .pre .0) (a .lp .now) (a .li .now) (s .pre .1) (a .i) (a .j) (a .t) (s .pre .2) (s .pre .3) (s .pre .4) (s .pre .5))
+    omega (arith, law.small (s .pre .0) (s .pre .1))
 
 keep-requires-2 : tie.Need-keep-requires-2
 keep-requires-2 c κs =
     let s = c .before .before .before .before .before .before .before .before .before .before in
-    let a = s .args in
     let t = c .before .enum-told9 .given .1 in
-    let e = ap (λ (w : Which). piece (shape (a .off .now) (a .cols .now)) w (a .i) (a .j)) t ∙ st.of-LdiagIndptr (a .off .now) (a .cols .now) (a .m) (a .p .now) (s .pre .0) (a .lp .now) (a .li .now) (s .pre .1) (a .i) (a .j) (a .t) (s .pre .2) (s .pre .3) (s .pre .4) (s .pre .5) in
-    omega (arith, s .pre .7, ap length e)
+    omega (arith, s .pre .3, ap length (law.of-LdiagIndptr (s .pre .0) (s .pre .1) t))
 
 enum-told-10 : tie.Need-enum-told-10
 enum-told-10 c = search needs
@@ -163,17 +152,13 @@ enum-told-10 c = search needs
 cast-word : tie.Need-cast-word
 cast-word c =
     let s = c .before .before .before .before .before .before .before .before .before .before in
-    let a = s .args in
-    let t = c .before .enum-told10 .given .1 in
-    omega (arith, s .pre .2, st.le (a .off .now) (a .cols .now) (a .m) (a .p .now) (s .pre .0) (a .lp .now) (a .li .now) (s .pre .1) (a .i) (a .j) (a .t) (s .pre .2) (s .pre .3) (s .pre .4) (s .pre .5), s .pre .1 .few)
+    omega (arith, law.left (s .pre .0) (s .pre .1), law.below (s .pre .0) (s .pre .1) .1)
 
 word-requires-3 : tie.Need-word-requires-3
 word-requires-3 c κs =
     let s = c .before .before .before .before .before .before .before .before .before .before in
-    let a = s .args in
     let t = c .before .enum-told10 .given .1 in
-    let e = ap (λ (w : Which). piece (shape (a .off .now) (a .cols .now)) w (a .i) (a .j)) t ∙ st.of-Lindices (a .off .now) (a .cols .now) (a .m) (a .p .now) (s .pre .0) (a .lp .now) (a .li .now) (s .pre .1) (a .i) (a .j) (a .t) (s .pre .2) (s .pre .3) (s .pre .4) (s .pre .5) in
-    omega (arith, s .pre .7, ap length e)
+    omega (arith, s .pre .3, ap length (law.of-Lindices (s .pre .0) (s .pre .1) t))
 
 same-length : tie.Need-same-length
 same-length c = search needs
@@ -181,10 +166,8 @@ same-length c = search needs
 returns : tie.Need-returns
 returns c =
     let s = c .before .before .before .before .before .before .before .before .before .before .before .before .before in
-    let a = s .args in
     let t = c .before .before .before .before .enum-told .given .1 in
-    let e = ap (λ (w : Which). piece (shape (a .off .now) (a .cols .now)) w (a .i) (a .j)) t ∙ st.of-AnormIndptr (a .off .now) (a .cols .now) (a .m) (a .p .now) (s .pre .0) (a .lp .now) (a .li .now) (s .pre .1) (a .i) (a .j) (a .t) (s .pre .2) (s .pre .3) (s .pre .4) (s .pre .5) (a .n) (s .pre .6 ∙ ap (λ (w : Which). before (weight (shape (a .off .now) (a .cols .now)) w) (a .i) (suc (a .j))) t) in
-    wrote-as _ _ _ _ _ _ (sym e) (c .before .before .word .ensures)
+    wrote-as _ _ _ _ _ _ (sym (law.of-AnormIndptr (s .pre .0) (s .pre .1) t)) (c .before .before .word .ensures)
 
 same-length-2 : tie.Need-same-length-2
 same-length-2 c = search needs
@@ -192,10 +175,8 @@ same-length-2 c = search needs
 returns-2 : tie.Need-returns-2
 returns-2 c =
     let s = c .before .before .before .before .before .before .before .before .before .before .before .before .before in
-    let a = s .args in
     let t = c .before .before .before .before .enum-told2 .given .1 in
-    let e = ap (λ (w : Which). piece (shape (a .off .now) (a .cols .now)) w (a .i) (a .j)) t ∙ old.of-AnormIndptrI (a .off .now) (a .cols .now) (a .m) (a .p .now) (s .pre .0) (a .i) (a .j) (s .pre .2) (st.le (a .off .now) (a .cols .now) (a .m) (a .p .now) (s .pre .0) (a .lp .now) (a .li .now) (s .pre .1) (a .i) (a .j) (a .t) (s .pre .2) (s .pre .3) (s .pre .4) (s .pre .5)) in
-    wrote-as _ _ _ _ _ _ (sym e) (c .before .before .shared-marked .ensures)
+    wrote-as _ _ _ _ _ _ (sym (law.of-AnormIndptrI (s .pre .0) (s .pre .1) t)) (c .before .before .put-shared .ensures)
 
 same-length-3 : tie.Need-same-length-3
 same-length-3 c = search needs
@@ -203,10 +184,8 @@ same-length-3 c = search needs
 returns-3 : tie.Need-returns-3
 returns-3 c =
     let s = c .before .before .before .before .before .before .before .before .before .before .before .before .before in
-    let a = s .args in
     let t = c .before .before .before .before .enum-told3 .given .1 in
-    let e = ap (λ (w : Which). piece (shape (a .off .now) (a .cols .now)) w (a .i) (a .j)) t ∙ old.of-AnormIndptrJ (a .off .now) (a .cols .now) (a .m) (a .p .now) (s .pre .0) (a .i) (a .j) (s .pre .2) (st.le (a .off .now) (a .cols .now) (a .m) (a .p .now) (s .pre .0) (a .lp .now) (a .li .now) (s .pre .1) (a .i) (a .j) (a .t) (s .pre .2) (s .pre .3) (s .pre .4) (s .pre .5)) in
-    wrote-as _ _ _ _ _ _ (sym e) (c .before .before .shared-marked2 .ensures)
+    wrote-as _ _ _ _ _ _ (sym (law.of-AnormIndptrJ (s .pre .0) (s .pre .1) t)) (c .before .before .put-shared2 .ensures)
 
 same-length-4 : tie.Need-same-length-4
 same-length-4 c = search needs
@@ -214,10 +193,8 @@ same-length-4 c = search needs
 returns-4 : tie.Need-returns-4
 returns-4 c =
     let s = c .before .before .before .before .before .before .before .before .before .before .before .before .before in
-    let a = s .args in
     let t = c .before .before .before .before .enum-told4 .given .1 in
-    let e = ap (λ (w : Which). piece (shape (a .off .now) (a .cols .now)) w (a .i) (a .j)) t ∙ old.of-AnormIndices (a .off .now) (a .cols .now) (a .m) (a .p .now) (s .pre .0) (a .i) (a .j) (s .pre .2) (st.le (a .off .now) (a .cols .now) (a .m) (a .p .now) (s .pre .0) (a .lp .now) (a .li .now) (s .pre .1) (a .i) (a .j) (a .t) (s .pre .2) (s .pre .3) (s .pre .4) (s .pre .5)) in
-    wrote-as _ _ _ _ _ _ (sym e) (c .before .before .shared-marked3 .ensures)
+    wrote-as _ _ _ _ _ _ (sym (law.of-AnormIndices (s .pre .0) (s .pre .1) t)) (c .before .before .put-shared3 .ensures)
 
 same-length-5 : tie.Need-same-length-5
 same-length-5 c = search needs
@@ -225,10 +202,8 @@ same-length-5 c = search needs
 returns-5 : tie.Need-returns-5
 returns-5 c =
     let s = c .before .before .before .before .before .before .before .before .before .before .before .before .before in
-    let a = s .args in
     let t = c .before .before .before .before .enum-told5 .given .1 in
-    let e = ap (λ (w : Which). piece (shape (a .off .now) (a .cols .now)) w (a .i) (a .j)) t ∙ st.of-LdecompIndptr (a .off .now) (a .cols .now) (a .m) (a .p .now) (s .pre .0) (a .lp .now) (a .li .now) (s .pre .1) (a .i) (a .j) (a .t) (s .pre .2) (s .pre .3) (s .pre .4) (s .pre .5) (a .n) (s .pre .6 ∙ ap (λ (w : Which). before (weight (shape (a .off .now) (a .cols .now)) w) (a .i) (suc (a .j))) t) in
-    wrote-as _ _ _ _ _ _ (sym e) (c .before .before .word2 .ensures)
+    wrote-as _ _ _ _ _ _ (sym (law.of-LdecompIndptr (s .pre .0) (s .pre .1) t)) (c .before .before .word2 .ensures)
 
 same-length-6 : tie.Need-same-length-6
 same-length-6 c = search needs
@@ -236,10 +211,8 @@ same-length-6 c = search needs
 returns-6 : tie.Need-returns-6
 returns-6 c =
     let s = c .before .before .before .before .before .before .before .before .before .before .before .before .before in
-    let a = s .args in
     let t = c .before .before .before .before .enum-told6 .given .1 in
-    let e = ap (λ (w : Which). piece (shape (a .off .now) (a .cols .now)) w (a .i) (a .j)) t ∙ st.of-LdecompIndptrI (a .off .now) (a .cols .now) (a .m) (a .p .now) (s .pre .0) (a .lp .now) (a .li .now) (s .pre .1) (a .i) (a .j) (a .t) (s .pre .2) (s .pre .3) (s .pre .4) (s .pre .5) in
-    wrote-as _ _ _ _ _ _ (sym e) (c .before .before .products .ensures)
+    wrote-as _ _ _ _ _ _ (sym (law.of-LdecompIndptrI (s .pre .0) (s .pre .1) t)) (c .before .before .products .ensures)
 
 same-length-7 : tie.Need-same-length-7
 same-length-7 c = search needs
@@ -247,10 +220,9 @@ same-length-7 c = search needs
 returns-7 : tie.Need-returns-7
 returns-7 c =
     let s = c .before .before .before .before .before .before .before .before .before .before .before .before .before .before in
-    let a = s .args in
     let t = c .before .before .before .before .before .enum-told7 .given .1 in
-    let e = ap (λ (w : Which). piece (shape (a .off .now) (a .cols .now)) w (a .i) (a .j)) t ∙ st.of-LdecompIndptrJ (a .off .now) (a .cols .now) (a .m) (a .p .now) (s .pre .0) (a .lp .now) (a .li .now) (s .pre .1) (a .i) (a .j) (a .t) (s .pre .2) (s .pre .3) (s .pre .4) (s .pre .5) (c .before .before .before .before .word-at .result - 1) (ap (λ (x : ℕ). x - 1) (c .before .before .before .before .word-at .ensures)) in
-    wrote-as _ _ _ _ _ _ (sym e) (c .before .before .products2 .ensures)
+    let x = c .before .before .before .before .word-at in
+    wrote-as _ _ _ _ _ _ (sym (law.of-LdecompIndptrJ (s .pre .0) (s .pre .1) t (x .result - 1) (ap (λ (y : ℕ). y - 1) (x .ensures)))) (c .before .before .products2 .ensures)
 
 same-length-8 : tie.Need-same-length-8
 same-length-8 c = search needs
@@ -258,10 +230,8 @@ same-length-8 c = search needs
 returns-8 : tie.Need-returns-8
 returns-8 c =
     let s = c .before .before .before .before .before .before .before .before .before .before .before .before .before in
-    let a = s .args in
     let t = c .before .before .before .before .enum-told8 .given .1 in
-    let e = ap (λ (w : Which). piece (shape (a .off .now) (a .cols .now)) w (a .i) (a .j)) t ∙ st.of-Lindptr (a .off .now) (a .cols .now) (a .m) (a .p .now) (s .pre .0) (a .lp .now) (a .li .now) (s .pre .1) (a .i) (a .j) (a .t) (s .pre .2) (s .pre .3) (s .pre .4) (s .pre .5) in
-    wrote-as _ _ _ _ _ _ (sym e) (c .before .before .keep .ensures)
+    wrote-as _ _ _ _ _ _ (sym (law.of-Lindptr (s .pre .0) (s .pre .1) t)) (c .before .before .keep .ensures)
 
 same-length-9 : tie.Need-same-length-9
 same-length-9 c = search needs
@@ -269,10 +239,8 @@ same-length-9 c = search needs
 returns-9 : tie.Need-returns-9
 returns-9 c =
     let s = c .before .before .before .before .before .before .before .before .before .before .before .before .before in
-    let a = s .args in
     let t = c .before .before .before .before .enum-told9 .given .1 in
-    let e = ap (λ (w : Which). piece (shape (a .off .now) (a .cols .now)) w (a .i) (a .j)) t ∙ st.of-LdiagIndptr (a .off .now) (a .cols .now) (a .m) (a .p .now) (s .pre .0) (a .lp .now) (a .li .now) (s .pre .1) (a .i) (a .j) (a .t) (s .pre .2) (s .pre .3) (s .pre .4) (s .pre .5) in
-    wrote-as _ _ _ _ _ _ (sym e) (c .before .before .keep2 .ensures)
+    wrote-as _ _ _ _ _ _ (sym (law.of-LdiagIndptr (s .pre .0) (s .pre .1) t)) (c .before .before .keep2 .ensures)
 
 same-length-10 : tie.Need-same-length-10
 same-length-10 c = search needs
@@ -280,10 +248,8 @@ same-length-10 c = search needs
 returns-10 : tie.Need-returns-10
 returns-10 c =
     let s = c .before .before .before .before .before .before .before .before .before .before .before .before .before in
-    let a = s .args in
     let t = c .before .before .before .before .enum-told10 .given .1 in
-    let e = ap (λ (w : Which). piece (shape (a .off .now) (a .cols .now)) w (a .i) (a .j)) t ∙ st.of-Lindices (a .off .now) (a .cols .now) (a .m) (a .p .now) (s .pre .0) (a .lp .now) (a .li .now) (s .pre .1) (a .i) (a .j) (a .t) (s .pre .2) (s .pre .3) (s .pre .4) (s .pre .5) in
-    wrote-as _ _ _ _ _ _ (sym e) (c .before .before .word3 .ensures)
+    wrote-as _ _ _ _ _ _ (sym (law.of-Lindices (s .pre .0) (s .pre .1) t)) (c .before .before .word3 .ensures)
 
 pub put-piece-spec : {M : Type 1} → statement M
 put-piece-spec =
@@ -292,11 +258,11 @@ put-piece-spec =
     enum-told
     word-requires
     enum-told-2
-    shared-marked-requires
+    put-shared-requires
     enum-told-3
-    shared-marked-requires-2
+    put-shared-requires-2
     enum-told-4
-    shared-marked-requires-3
+    put-shared-requires-3
     enum-told-5
     word-requires-2
     enum-told-6
@@ -304,7 +270,7 @@ put-piece-spec =
     enum-told-7
     add-word-at
     word-at-requires
-    sub-products
+    sub-last
     products-requires-2
     enum-told-8
     cast-keep

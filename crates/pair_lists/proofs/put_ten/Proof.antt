@@ -1,4 +1,4 @@
--- `pairs::put_ten` meets its contract. Assumes nothing.
+-- `pair_lists::put_ten` meets its contract. Assumes nothing.
 use Prim.Native.Nat.{ℕ, _≤_, _-_}
 use mathlib.Core.Path.{_≡_, refl, _∙_, subst}
 use native.Mathlib.Omega.{arith}
@@ -23,7 +23,7 @@ loop-holds c =
     (omega arith, refl, refl, all.ten-start (shape (a .off .now) (a .cols .now)) (a .m) (a .index .now) (a .start))
 
 clear-requires : tie.Need-clear-requires Inv-loop μ-loop
-clear-requires c κs = omega (arith, c .before .before .before .before .before .before .before .before .before .before .pre .4, c .before .before .loop .inv .1)
+clear-requires c κs = omega (arith, c .before .before .before .before .before .before .before .before .before .before .pre .2, c .before .before .loop .inv .1)
 
 which-field-requires : tie.Need-which-field-requires Inv-loop μ-loop
 which-field-requires c κs = tt
@@ -33,7 +33,7 @@ fill-requires c κs =
     let s = c .before .before .before .before .before .before .before .before .before .before .before .before .before .before .before .before in
     let a = s .args in
     let l = c .before .before .before .before .before .before .before .before .loop in
-    (s .pre .0, s .pre .1, all.ten-room (shape (a .off .now) (a .cols .now)) (a .m) 10 (a .start) (length (l .index)) (l .at) (l .k) (c .before .before .which-field .result) (c .before .before .which-field .ensures) (omega (arith, c .before .before .before .before .before .before .before .loop-test .taken)) (omega (arith, s .pre .2, l .inv .2)) (l .inv .3 .next), s .pre .3, omega (arith, s .pre .4, l .inv .1, c .before .before .before .before .before .clear .kept .0), λ x h. omega (arith, c .before .before .before .before .before .clear .ensures x h))
+    (s .pre .0, all.ten-room (shape (a .off .now) (a .cols .now)) (a .m) 10 (a .start) (length (l .index)) (l .at) (l .k) (c .before .before .which-field .result) (c .before .before .which-field .ensures) (omega (arith, c .before .before .before .before .before .before .before .loop-test .taken)) (omega (arith, s .pre .1, l .inv .2)) (l .inv .3 .next), omega (arith, s .pre .2, l .inv .1, c .before .before .before .before .before .clear .kept .0), λ x h. omega (arith, c .before .before .before .before .before .clear .ensures x h))
 
 add-k : tie.Need-add-k Inv-loop μ-loop
 add-k c = omega (arith, c .before .before .before .before .before .before .before .before .before .before .before .before .loop-test .taken)

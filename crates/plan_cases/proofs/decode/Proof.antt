@@ -27,6 +27,9 @@ returns c = omega arith
 le32-requires : tie.Need-le32-requires Inv-loop μ-loop
 le32-requires c κs = omega arith
 
+cast-words : tie.Need-cast-words Inv-loop μ-loop
+cast-words c = omega (arith, c .le32 .ensures .1)
+
 mul-words : tie.Need-mul-words Inv-loop μ-loop
 mul-words c = omega arith
 
@@ -62,6 +65,7 @@ decode-spec =
     same-length
     returns
     le32-requires
+    cast-words
     mul-words
     slice-write-words
     add-k

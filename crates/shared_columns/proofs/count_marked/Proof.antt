@@ -1,4 +1,4 @@
--- `shared::count_marked` meets its contract. Assumes nothing.
+-- `shared_columns::count_marked` meets its contract. Assumes nothing.
 use Prim.Native.Nat.{_+_, _≤_, _-_}
 use mathlib.Core.Path.{_≡_, sym, ap, _∙_}
 use mathlib.Core.Logic.{⊎-elim}

@@ -1,4 +1,4 @@
--- `shared::hit_one` meets its contract. Assumes nothing.
+-- `shared_columns::hit_one` meets its contract. Assumes nothing.
 use Prim.Native.Nat.{ℕ, _-_}
 use mathlib.Core.Path.{refl, sym, ap, _∙_}
 use mathlib.Core.List.{[], _∷_}

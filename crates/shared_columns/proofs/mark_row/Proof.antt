@@ -1,4 +1,4 @@
--- `shared::mark_row` meets its contract. Assumes nothing.
+-- `shared_columns::mark_row` meets its contract. Assumes nothing.
 use Prim.Native.Nat.{ℕ, _≤_, _<_, _+_, _-_}
 use mathlib.Core.Path.{_≡_, refl, sym, _∙_, subst}
 use mathlib.Core.List.{List}

@@ -22,38 +22,38 @@ Inv-loop side off cols₀ bytes m n i next₀ a b s₀ k₀ next s k =
 abbrev μ-loop : tie.MeasureT-loop
 μ-loop side off cols₀ bytes m n i next₀ a b s₀ k₀ next s k = b - k
 
-at-requires : tie.Need-at-requires Inv-loop μ-loop
-at-requires c κs = let s = c .before .before .before .before in omega (arith, s .pre .0 .offsets, s .pre .1)
+word-at-requires : tie.Need-word-at-requires Inv-loop μ-loop
+word-at-requires c κs = let s = c .before .before .before .before in omega (arith, s .pre .0 .offsets, s .pre .1)
 
-add-at : tie.Need-add-at Inv-loop μ-loop
-add-at c = let s = c .before .before .before .before .before in omega (arith, s .pre .0 .few, s .pre .1)
+add-word-at : tie.Need-add-word-at Inv-loop μ-loop
+add-word-at c = let s = c .before .before .before .before .before in omega (arith, s .pre .0 .few, s .pre .1)
 
-at-requires-2 : tie.Need-at-requires-2 Inv-loop μ-loop
-at-requires-2 c κs = let s = c .before .before .before .before .before in omega (arith, s .pre .0 .offsets, s .pre .1)
+word-at-requires-2 : tie.Need-word-at-requires-2 Inv-loop μ-loop
+word-at-requires-2 c κs = let s = c .before .before .before .before .before in omega (arith, s .pre .0 .offsets, s .pre .1)
 
 loop-holds : tie.Need-loop-holds Inv-loop μ-loop
 loop-holds c =
     let s = c .before .before .before .before .before .before in
     let a = s .args in (
-      omega (arith, c .before .at .ensures),
+      omega (arith, c .before .word-at .ensures),
       refl,
-      law.count-start (a .off .now) (colsOf (a .side) (a .cols .now) (a .bytes .now)) (a .m) (a .n) (a .i) (s .pre .0) (s .pre .1) (a .next .now) (c .before .at .result) (c .before .at .ensures) (s .pre .3),
-      omega (arith, c .before .at .ensures, s .pre .0 .order (a .i) (s .pre .1)),
-      pairs.pairs-start (a .off .now) (colsOf (a .side) (a .cols .now) (a .bytes .now)) (a .m) (a .n) (a .i) (s .pre .0) (s .pre .1) (c .before .at .result) (c .before .at .ensures),
+      law.count-start (a .off .now) (colsOf (a .side) (a .cols .now) (a .bytes .now)) (a .m) (a .n) (a .i) (s .pre .0) (s .pre .1) (a .next .now) (c .before .word-at .result) (c .before .word-at .ensures) (s .pre .3),
+      omega (arith, c .before .word-at .ensures, s .pre .0 .order (a .i) (s .pre .1)),
+      pairs.pairs-start (a .off .now) (colsOf (a .side) (a .cols .now) (a .bytes .now)) (a .m) (a .n) (a .i) (s .pre .0) (s .pre .1) (c .before .word-at .result) (c .before .word-at .ensures),
       omega arith,
     )
 
 column-at-requires : tie.Need-column-at-requires Inv-loop μ-loop
 column-at-requires c κs =
     let s = c .before .before .before .before .before .before .before .before in
-    omega (arith, c .before .before .at2 .ensures, s .pre .0 .ends (s .args .i + 1) (omega (arith, s .pre .1)))
+    omega (arith, c .before .before .word-at2 .ensures, s .pre .0 .ends (s .args .i + 1) (omega (arith, s .pre .1)))
 
 bump-requires : tie.Need-bump-requires Inv-loop μ-loop
 bump-requires c κs =
     let s = c .before .before .before .before .before .before .before .before .before .before in
     let a = s .args in
     let l = c .before .before .before .loop in
-    law.count-asks (a .off .now) (colsOf (a .side) (a .cols .now) (a .bytes .now)) (a .m) (a .n) (a .i) (s .pre .0) (s .pre .1) (l .k) (c .before .column-at .result) (l .inv .0) (omega (arith, c .before .before .before .before .at2 .ensures, c .before .before .loop-test .taken)) (c .before .column-at .ensures) (l .next) (omega (arith, s .pre .2, l .inv .1)) (l .inv .2)
+    law.count-asks (a .off .now) (colsOf (a .side) (a .cols .now) (a .bytes .now)) (a .m) (a .n) (a .i) (s .pre .0) (s .pre .1) (l .k) (c .before .column-at .result) (l .inv .0) (omega (arith, c .before .before .before .before .word-at2 .ensures, c .before .before .loop-test .taken)) (c .before .column-at .ensures) (l .next) (omega (arith, s .pre .2, l .inv .1)) (l .inv .2)
 
 add-s : tie.Need-add-s Inv-loop μ-loop
 add-s c =
@@ -63,16 +63,16 @@ add-s c =
       c .before .before .bump .ensures .0,
       c .before .before .before .before .before .before .loop .inv .5,
       c .before .before .before .before .before .loop-test .taken,
-      c .before .before .before .before .before .before .before .at2 .ensures,
+      c .before .before .before .before .before .before .before .word-at2 .ensures,
       s .pre .0 .ends (s .args .i + 1) (omega (arith, s .pre .1)),
       s .pre .0 .nnz,
-      law.count-asks (s .args .off .now) (colsOf (s .args .side) (s .args .cols .now) (s .args .bytes .now)) (s .args .m) (s .args .n) (s .args .i) (s .pre .0) (s .pre .1) (c .before .before .before .before .before .before .loop .k) (c .before .before .before .before .column-at .result) (c .before .before .before .before .before .before .loop .inv .0) (omega (arith, c .before .before .before .before .before .before .before .at2 .ensures, c .before .before .before .before .before .loop-test .taken)) (c .before .before .before .before .column-at .ensures) (c .before .before .before .before .before .before .loop .next) (omega (arith, s .pre .2, c .before .before .before .before .before .before .loop .inv .1)) (c .before .before .before .before .before .before .loop .inv .2) .1,
+      law.count-asks (s .args .off .now) (colsOf (s .args .side) (s .args .cols .now) (s .args .bytes .now)) (s .args .m) (s .args .n) (s .args .i) (s .pre .0) (s .pre .1) (c .before .before .before .before .before .before .loop .k) (c .before .before .before .before .column-at .result) (c .before .before .before .before .before .before .loop .inv .0) (omega (arith, c .before .before .before .before .before .before .before .word-at2 .ensures, c .before .before .before .before .before .loop-test .taken)) (c .before .before .before .before .column-at .ensures) (c .before .before .before .before .before .before .loop .next) (omega (arith, s .pre .2, c .before .before .before .before .before .before .loop .inv .1)) (c .before .before .before .before .before .before .loop .inv .2) .1,
     )
 
 add-k : tie.Need-add-k Inv-loop μ-loop
 add-k c =
     let s = c .before .before .before .before .before .before .before .before .before .before .before .before .before in
-    omega (arith, c .before .before .before .before .before .before .before .at2 .ensures, c .before .before .before .before .before .loop-test .taken, s .pre .0 .ends (s .args .i + 1) (omega (arith, s .pre .1)), s .pre .0 .nnz)
+    omega (arith, c .before .before .before .before .before .before .before .word-at2 .ensures, c .before .before .before .before .before .loop-test .taken, s .pre .0 .ends (s .args .i + 1) (omega (arith, s .pre .1)), s .pre .0 .nnz)
 
 loop-less : tie.Need-loop-less Inv-loop μ-loop
 loop-less c = omega (arith, c .before .before .before .before .before .loop-test .taken)
@@ -83,7 +83,7 @@ loop-again c =
     let a = s .args in
     let l = c .before .before .before .before .before .before .loop in
     let q = c .before .before .bump in
-    let up : l .k < getD (a .off .now) (a .i + 1) 0 = omega (arith, c .before .before .before .before .before .before .before .at2 .ensures, c .before .before .before .before .before .loop-test .taken) in
+    let up : l .k < getD (a .off .now) (a .i + 1) 0 = omega (arith, c .before .before .before .before .before .before .before .word-at2 .ensures, c .before .before .before .before .before .loop-test .taken) in
     let long : a .n ≤ length (l .next) = omega (arith, s .pre .2, l .inv .1) in
     let asks = law.count-asks (a .off .now) (colsOf (a .side) (a .cols .now) (a .bytes .now)) (a .m) (a .n) (a .i) (s .pre .0) (s .pre .1) (l .k) (c .before .before .before .before .column-at .result) (l .inv .0) up (c .before .before .before .before .column-at .ensures) (l .next) long (l .inv .2) in
     let t = law.count-turn (a .off .now) (colsOf (a .side) (a .cols .now) (a .bytes .now)) (a .m) (a .n) (a .i) (s .pre .0) (s .pre .1) (l .k) (c .before .before .before .before .column-at .result) (l .inv .0) up (c .before .before .before .before .column-at .ensures) (l .next) long (l .inv .2) in (
@@ -105,11 +105,11 @@ returns c =
     let s = c .before .before .before .before .before .before .before .before in
     let a = s .args in
     let l = c .before .loop in
-    let e : l .k ≡ getD (a .off .now) (a .i + 1) 0 = omega (arith, l .inv .3, c .before .before .at2 .ensures, c .loop-test .left) in (
-      law.count-end (a .off .now) (colsOf (a .side) (a .cols .now) (a .bytes .now)) (a .m) (a .n) (a .i) (s .pre .0) (s .pre .1) (l .next) (l .k) (omega (arith, e)) (l .inv .2),
-      pairs.pairs-end (a .off .now) (colsOf (a .side) (a .cols .now) (a .bytes .now)) (a .m) (a .n) (a .i) (s .pre .0) (s .pre .1) (l .k) (l .s) (omega (arith, e)) (l .inv .4),
-      omega (arith, e, l .inv .5),
-    )
+    let e : l .k ≡ getD (a .off .now) (a .i + 1) 0 = omega (arith, l .inv .3, c .before .before .word-at2 .ensures, c .loop-test .left) in record {
+      tally = law.count-end (a .off .now) (colsOf (a .side) (a .cols .now) (a .bytes .now)) (a .m) (a .n) (a .i) (s .pre .0) (s .pre .1) (l .next) (l .k) (omega (arith, e)) (l .inv .2);
+      pairs = pairs.pairs-end (a .off .now) (colsOf (a .side) (a .cols .now) (a .bytes .now)) (a .m) (a .n) (a .i) (s .pre .0) (s .pre .1) (l .k) (l .s) (omega (arith, e)) (l .inv .4);
+      few = omega (arith, e, l .inv .5);
+    }
 
 pub count-row-spec : {M : Type 1} → statement M
 count-row-spec =
@@ -117,9 +117,9 @@ count-row-spec =
     (tie.spec
     Inv-loop
     μ-loop
-    at-requires
-    add-at
-    at-requires-2
+    word-at-requires
+    add-word-at
+    word-at-requires-2
     loop-holds
     column-at-requires
     bump-requires

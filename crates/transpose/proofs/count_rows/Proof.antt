@@ -38,7 +38,7 @@ add-s c =
     let s = c .before .before .before .before .before .before .before .before .before .before in
     let l = c .before .before .before .before .before .loop in
     let h : l .i < s .args .m = c .before .before .before .before .loop-test .taken in
-    omega (arith, l .inv .4, c .before .before .count-row .ensures .2, s .pre .0 .order (l .i) h, s .pre .0 .ends (l .i + 1) (omega arith), s .pre .0 .nnz)
+    omega (arith, l .inv .4, c .before .before .count-row .ensures .few, s .pre .0 .order (l .i) h, s .pre .0 .ends (l .i + 1) (omega arith), s .pre .0 .nnz)
 
 add-i : tie.Need-add-i Inv-loop μ-loop
 add-i c = omega (arith, c .before .before .before .before .before .before .before .before .before .before .pre .0 .few, c .before .before .before .before .loop-test .taken)
@@ -55,9 +55,9 @@ loop-again c =
     let h : l .i < a .m = c .before .before .before .before .loop-test .taken in (
       omega (arith, h),
       q .kept .1 .1 .1 .1 .1 .1 .1 .0 ∙ l .inv .1,
-      q .ensures .0,
-      ap₂ _+_ (l .inv .3) (q .ensures .1) ∙ sym (sum-next (l .i) (λ x. sum (suc x) (λ y. common (row (a .off .now) (colsOf (a .side) (a .cols .now) (a .bytes .now)) x) (row (a .off .now) (colsOf (a .side) (a .cols .now) (a .bytes .now)) y)))),
-      omega (arith, l .inv .4, q .ensures .2, s .pre .0 .order (l .i) h),
+      q .ensures .tally,
+      ap₂ _+_ (l .inv .3) (q .ensures .pairs) ∙ sym (sum-next (l .i) (λ x. sum (suc x) (λ y. common (row (a .off .now) (colsOf (a .side) (a .cols .now) (a .bytes .now)) x) (row (a .off .now) (colsOf (a .side) (a .cols .now) (a .bytes .now)) y)))),
+      omega (arith, l .inv .4, q .ensures .few, s .pre .0 .order (l .i) h),
     )
 
 same-length : tie.Need-same-length Inv-loop μ-loop

@@ -28,8 +28,8 @@ put-ends-requires c κs =
     let q = c .before .before .before .before .before .count-rows in
     (omega (arith, s .pre .2, q .kept .1 .1 .1 .1 .1 .1 .0, c .before .before .before .before .before .before .before .before .before .clear .kept .0), s .pre .3, s .pre .0 .wide, (λ x h. omega (arith, q .ensures .0 .count x h, law.column-long (a .off .now) (colsOf (a .side) (a .cols .now) (a .bytes .now)) Numbers (a .m) x, law.room-few (a .off .now) (colsOf (a .side) (a .cols .now) (a .bytes .now)) (a .m) x, s .pre .0 .few)), omega (arith, s .pre .1, law.side-long (a .off .now) (colsOf (a .side) (a .cols .now) (a .bytes .now)) (a .m) (a .n)))
 
-at-requires : tie.Need-at-requires
-at-requires c κs = omega (arith, c .before .before .before .before .before .before .before .before .before .before .before .before .before .before .before .before .before .before .before .before .before .before .before .before .before .pre .3, c .before .before .before .before .before .before .before .put-ends .kept .1 .1 .1 .0)
+word-at-requires : tie.Need-word-at-requires
+word-at-requires c κs = omega (arith, c .before .before .before .before .before .before .before .before .before .before .before .before .before .before .before .before .before .before .before .before .before .before .before .before .before .pre .3, c .before .before .before .before .before .before .before .put-ends .kept .1 .1 .1 .0)
 
 scatter-requires : tie.Need-scatter-requires
 scatter-requires c κs =
@@ -49,7 +49,7 @@ add-scatter c =
     let a = s .args in
     let q = c .before .before .before .before .before .before .before .before .before .before .before .before .before .before .before .before .before .before .before .before .before .before .before .count-rows in
     let p = c .before .before .before .before .before .before .before .before .before .before .before .before .before .before .before .before .before .put-ends in
-    let t = c .before .before .before .before .before .before .before .before .before .at in
+    let t = c .before .before .before .before .before .before .before .before .before .word-at in
     let z : t .result ≡ sum (a .n) (roomOf (a .off .now) (colsOf (a .side) (a .cols .now) (a .bytes .now)) (a .m)) = t .ensures ∙ law.starts-are (a .off .now) (colsOf (a .side) (a .cols .now) (a .bytes .now)) (a .m) (a .n) (q .last .1 .1 .1 .1 .1 .1 .0) (p .last .1 .1 .1 .0) (a .n + 1) (omega arith) (q .ensures .0) (p .ensures .1 .1) .first (a .n) (omega arith) in
     omega (arith, z, s .good .1 .1 .1 .1 .1 .1 .1 .1 .0, s .pre .1, law.side-long (a .off .now) (colsOf (a .side) (a .cols .now) (a .bytes .now)) (a .m) (a .n), p .ensures .0 .next, ap length (law.ends-are (a .off .now) (colsOf (a .side) (a .cols .now) (a .bytes .now)) (a .m) (a .n) (q .last .1 .1 .1 .1 .1 .1 .0) (q .ensures .0)), law.ends-long (a .off .now) (colsOf (a .side) (a .cols .now) (a .bytes .now)) (a .m) (a .n))
 
@@ -59,7 +59,7 @@ scatter-requires-2 c κs =
     let a = s .args in
     let q = c .before .before .before .before .before .before .before .before .before .before .before .before .before .before .before .before .before .before .before .before .before .before .before .count-rows in
     let p = c .before .before .before .before .before .before .before .before .before .before .before .before .before .before .before .before .before .put-ends in
-    let t = c .before .before .before .before .before .before .before .before .before .at in
+    let t = c .before .before .before .before .before .before .before .before .before .word-at in
     let k = c .before .before .before .before .before .before .scatter in
     let z : t .result ≡ sum (a .n) (roomOf (a .off .now) (colsOf (a .side) (a .cols .now) (a .bytes .now)) (a .m)) = t .ensures ∙ law.starts-are (a .off .now) (colsOf (a .side) (a .cols .now) (a .bytes .now)) (a .m) (a .n) (q .last .1 .1 .1 .1 .1 .1 .0) (p .last .1 .1 .1 .0) (a .n + 1) (omega arith) (q .ensures .0) (p .ensures .1 .1) .first (a .n) (omega arith) in (
       s .pre .0,
@@ -74,7 +74,7 @@ add-result c =
     let a = s .args in
     let q = c .before .before .before .before .before .before .before .before .before .before .before .before .before .before .before .before .before .before .before .before .before .before .before .before .before .before .before .before .count-rows in
     let p = c .before .before .before .before .before .before .before .before .before .before .before .before .before .before .before .before .before .before .before .before .before .before .put-ends in
-    let t = c .before .before .before .before .before .before .before .before .before .before .before .before .before .before .at in
+    let t = c .before .before .before .before .before .before .before .before .before .before .before .before .before .before .word-at in
     let z : t .result ≡ sum (a .n) (roomOf (a .off .now) (colsOf (a .side) (a .cols .now) (a .bytes .now)) (a .m)) = t .ensures ∙ law.starts-are (a .off .now) (colsOf (a .side) (a .cols .now) (a .bytes .now)) (a .m) (a .n) (q .last .1 .1 .1 .1 .1 .1 .0) (p .last .1 .1 .1 .0) (a .n + 1) (omega arith) (q .ensures .0) (p .ensures .1 .1) .first (a .n) (omega arith) in
     omega (arith, z, s .good .1 .1 .1 .1 .1 .1 .1 .1 .0, s .pre .1, law.side-long (a .off .now) (colsOf (a .side) (a .cols .now) (a .bytes .now)) (a .m) (a .n), p .ensures .0 .next, ap length (law.ends-are (a .off .now) (colsOf (a .side) (a .cols .now) (a .bytes .now)) (a .m) (a .n) (q .last .1 .1 .1 .1 .1 .1 .0) (q .ensures .0)), law.ends-long (a .off .now) (colsOf (a .side) (a .cols .now) (a .bytes .now)) (a .m) (a .n))
 
@@ -84,7 +84,7 @@ add-result-2 c =
     let a = s .args in
     let q = c .before .before .before .before .before .before .before .before .before .before .before .before .before .before .before .before .before .before .before .before .before .before .before .before .before .before .before .before .count-rows in
     let p = c .before .before .before .before .before .before .before .before .before .before .before .before .before .before .before .before .before .before .before .before .before .before .put-ends in
-    let t = c .before .before .before .before .before .before .before .before .before .before .before .before .before .before .at in
+    let t = c .before .before .before .before .before .before .before .before .before .before .before .before .before .before .word-at in
     let z : t .result ≡ sum (a .n) (roomOf (a .off .now) (colsOf (a .side) (a .cols .now) (a .bytes .now)) (a .m)) = t .ensures ∙ law.starts-are (a .off .now) (colsOf (a .side) (a .cols .now) (a .bytes .now)) (a .m) (a .n) (q .last .1 .1 .1 .1 .1 .1 .0) (p .last .1 .1 .1 .0) (a .n + 1) (omega arith) (q .ensures .0) (p .ensures .1 .1) .first (a .n) (omega arith) in
     omega (arith, z, s .good .1 .1 .1 .1 .1 .1 .1 .1 .0, s .pre .1, law.side-long (a .off .now) (colsOf (a .side) (a .cols .now) (a .bytes .now)) (a .m) (a .n), p .ensures .0 .next, ap length (law.ends-are (a .off .now) (colsOf (a .side) (a .cols .now) (a .bytes .now)) (a .m) (a .n) (q .last .1 .1 .1 .1 .1 .1 .0) (q .ensures .0)), law.ends-long (a .off .now) (colsOf (a .side) (a .cols .now) (a .bytes .now)) (a .m) (a .n))
 
@@ -103,7 +103,7 @@ returns c =
     let a = s .args in
     let q = c .before .before .before .before .before .before .before .before .before .before .before .before .before .before .before .before .before .before .before .before .before .before .before .before .before .before .before .before .count-rows in
     let p = c .before .before .before .before .before .before .before .before .before .before .before .before .before .before .before .before .before .before .before .before .before .before .put-ends in
-    let t = c .before .before .before .before .before .before .before .before .before .before .before .before .before .before .at in
+    let t = c .before .before .before .before .before .before .before .before .before .before .before .before .before .before .word-at in
     let k = c .before .before .before .before .before .before .before .before .before .before .before .scatter in
     let l = c .before .before .before .before .scatter2 in
     let z : t .result ≡ sum (a .n) (roomOf (a .off .now) (colsOf (a .side) (a .cols .now) (a .bytes .now)) (a .m)) = t .ensures ∙ law.starts-are (a .off .now) (colsOf (a .side) (a .cols .now) (a .bytes .now)) (a .m) (a .n) (q .last .1 .1 .1 .1 .1 .1 .0) (p .last .1 .1 .1 .0) (a .n + 1) (omega arith) (q .ensures .0) (p .ensures .1 .1) .first (a .n) (omega arith) in
@@ -117,7 +117,7 @@ transpose-spec =
     clear-requires
     count-rows-requires
     put-ends-requires
-    at-requires
+    word-at-requires
     scatter-requires
     add-scatter
     scatter-requires-2
