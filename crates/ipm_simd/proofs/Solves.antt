@@ -21,9 +21,11 @@ use Rattle.lists.proofs.Counts.{held-stored}
 use Rattle.machine.specs.declared.Outcome.{Outcome}
 use Rattle.machine.specs.declared.Outcome.the-variants.{Accepted as accepted, NoAt11 as noAt11, NoAt12 as noAt12}
 use Rattle.machine.specs.Machine.{standard}
-use Rattle.machine.specs.Outcome.{Call, solved, xAt}
+use Rattle.machine.specs.Outcome.{Call, solved}
 use Rattle.machine.specs.Demand3.{Buffers, Memory, outputAfter, leaves}
+use Rattle.machine.specs.Work.{Ran}
 use Rattle.machine.proofs.Demand3.{solved-ends, demand3}
+use Rattle.machine.proofs.Turns.{ran-field}
 use Rattle.plan_laws.proofs.Low.{row-cut}
 use Rattle.plan_laws.proofs.Picked.{picked-has}
 use Rattle.layout.specs.declared.Block.{Block}
@@ -32,9 +34,9 @@ use Rattle.layout.specs.Layout.{lAt}
 use Rattle.memory.specs.Numbers.{Lent}
 use Rattle.layout.specs.Lists.{wordsAt}
 use Rattle.memory.specs.Planned.{Planned, Counted}
+use Rattle.memory.specs.Calls.{callIn, memoryIn}
+use Rattle.memory.proofs.Calls.{region-is, lanes-all}
 use Rattle.step.specs.Steps.{Untouched}
-use Rattle.run.specs.Tests.{memoryAt, callBy, Run}
-use Rattle.run.proofs.Memories.{lanes-all}
 use Rattle.ipm_simd.specs.declared.SolveAnswer.{SolveAnswer}
 use Rattle.ipm_simd.specs.declared.SolveAnswer.the-variants as answers
 use Rattle.ipm_simd.specs.Solve.{Given, lent, call, words, room, plannedHas, told, outcomeVerdict, sizesVerdict, memoryVerdict, begun, solveVerdict, ifPassed, solveBuffers, Solved}
@@ -92,39 +94,41 @@ module _ (a : Given) {output work : List Float} {index : List ℕ} {e h d : ℕ}
   room-four = room-fits 4 work (lAt (a .n) (a .m) (a .s) + e) (omega arith) (Q .work)
 
   -- the block's lanes are the call's
-  pub run-four : {M : Memory} {o : Outcome} → Run (callBy standard four 4 (a .m) (a .n) (a .s) (a .offsets) (a .columns) (a .values) (a .b) (a .c) (a .tolerances)) (a .limit) M o → Run (call a) (a .limit) M o
+  pub run-four : {M : Memory} {o : Outcome} → Ran (callIn standard (planOf a e h d) four 4 (a .offsets) (a .columns) (a .values) (a .b) (a .c) (a .tolerances)) (a .limit) M o → Ran (call a) (a .limit) M o
   run-four R =
       rw (lanes-all 4 (a .m) (a .b) (omega arith) (Q .b-long), lanes-all 4 (a .n) (a .c) (omega arith) (Q .c-long), lanes-all 4 3 (a .tolerances) (omega arith) (Q .tol-long))
       at R
 
-  output-is : (o : Outcome) (work1 : List Float) → ((k : ℕ) → o ≡ accepted k → memoryAt 4 (a .m) (a .n) (a .s) work1 .x ≡ xAt (call a) k)
-      → written o (take (length output) work1) output ≡ outputAfter (call a) o output
-  output-is (accepted k) work1 x =
+  output-is : (o : Outcome) (work1 : List Float) → length work1 ≡ length work → Ran (call a) (a .limit) (memoryIn (planOf a e h d) 4 work1) o
+      → written o (take (length output) work1) output ≡ outputAfter (call a) (λ q. q .x) (a .n) o output
+  output-is (accepted k) work1 s R =
       let z : length output ≡ 4 * (0 + a .n) - 4 * 0 = omega (arith, Q .output) in
-      ap (λ (j : ℕ). take j work1) z ∙ x k refl
-  output-is (noAt11 k l) work1 x = refl
-  output-is (noAt12 k) work1 x = refl
+      ap (λ (j : ℕ). take j work1) z
+      ∙ region-is 4 work1 0 (a .n) (omega arith) (omega (arith, s, Q .work))
+      ∙ ran-field (call a) R (λ q. q .x) (a .n) k refl (omega arith)
+  output-is (noAt11 k l) work1 s R = refl
+  output-is (noAt12 k) work1 s R = refl
 
   pub finished : {index1 : List ℕ} {work1 output1 work2 : List Float} {o : Outcome} {r : SolveAnswer}
       → index1 ≡ words a ++ drop (sizeW (a .offsets) (a .columns) (a .m) (a .n)) index
       → Untouched 4 (lAt (a .n) (a .m) (a .s) + e) work work1
-      → Run (call a) (a .limit) (memoryAt 4 (a .m) (a .n) (a .s) work1) o
+      → Ran (call a) (a .limit) (memoryIn (planOf a e h d) 4 work1) o
       → told r ≡ outcomeVerdict o
       → output1 ≡ written o (take (length output) work1) output
       → work2 ≡ replicate (4 * (5 * a .n + 3 * a .m + 2 * a .s + e)) null ++ drop (4 * (5 * a .n + 3 * a .m + 2 * a .s + e)) work1
       → Finished a (lent output index work) (lent output1 index1 work2) r
   finished {index1} {work1} {output1} {work2} {o} {r} ei U R er eo ew = record {
-    answer = er ∙ ap outcomeVerdict (R .ran .answer);
+    answer = er ∙ ap outcomeVerdict (R .answer);
     buffers = all;
-    demand3 = demand3 (call a) (words a) (room a) (plannedHas a) (a .limit) (lent output index work) (lent output1 index1 work2) (solved (call a) (a .limit)) (memoryAt 4 (a .m) (a .n) (a .s) work1)
-        (R .ran .tests .0) (R .ran .tests .1) (λ i j l b. planned-stored (a .offsets) (a .columns) (a .m) i j b l) refl all;
+    demand3 = demand3 (call a) (words a) (room a) (plannedHas a) (a .limit) (lent output index work) (lent output1 index1 work2) (solved (call a) (a .limit)) (memoryIn (planOf a e h d) 4 work1)
+        (R .tests .0) (R .tests .1) (λ i j l b. planned-stored (a .offsets) (a .columns) (a .m) i j b l) refl all;
   }
     where
       F : ℕ
       F = 4 * (5 * a .n + 3 * a .m + 2 * a .s + e)
 
-      out : output1 ≡ outputAfter (call a) (solved (call a) (a .limit)) output
-      out = eo ∙ output-is o work1 (R .x) ∙ ap (λ (z : Outcome). outputAfter (call a) z output) (R .ran .answer)
+      out : output1 ≡ outputAfter (call a) (λ q. q .x) (a .n) (solved (call a) (a .limit)) output
+      out = eo ∙ output-is o work1 (U .size) R ∙ ap (λ (z : Outcome). outputAfter (call a) (λ q. q .x) (a .n) z output) (R .answer)
 
       plan : index1 ≡ words a ++ drop (length (words a)) index
       plan = ei ∙ ap (λ (k : ℕ). words a ++ drop k index) (sym (plan-size (a .offsets) (a .columns) (a .m) (a .n) (Q .ok)))

@@ -12,11 +12,12 @@ use Rattle.csr.specs.Counts.{countE, sizeW, sizeF}
 use Rattle.csr.specs.Pattern.{has, row}
 use Rattle.lists.specs.Lists.{shape, listOf, planWords}
 use Rattle.lists.specs.declared.Which.the-variants.{Lindptr, Lindices}
+use Rattle.machine.specs.Machine.{standard}
 use Rattle.machine.specs.declared.Outcome.{Outcome}
 use Rattle.machine.specs.declared.Outcome.the-variants.{Accepted as accepted, NoAt11 as noAt11, NoAt12 as noAt12}
 use Rattle.machine.specs.Outcome.{largestLimit, Call, solved}
 use Rattle.machine.specs.Demand3.{Buffers, leaves, Demand3}
-use Rattle.machine.specs.Work.{callOf}
+use Rattle.machine.specs.Work.{problemOf}
 use Rattle.ipm_simd.specs.declared.SolveAnswer.{SolveAnswer}
 use Rattle.ipm_simd.specs.declared.SolveAnswer.the-variants.{Accepted, Refused}
 
@@ -71,10 +72,19 @@ sizesVerdict W E m n s index b c tolerances output work N =
     (refused 6 0 0)
 
 module _ (a : Given) where
-  -- the four machines, the plan and the room that the working memory needs
+  -- four lanes with document 01's settings
   abbrev pub call : Call
-  call = callOf (a .m) (a .n) (a .s) (a .offsets) (a .columns) (a .values) (a .b) (a .c) (a .tolerances)
+  call =
+      record {
+        K = 4;
+        problem = problemOf (a .m) (a .n) (a .s) (a .offsets) (a .columns) (a .values);
+        settings = standard;
+        b = a .b;
+        c = a .c;
+        tolerances = a .tolerances;
+      }
 
+  -- the plan, and the room that the working memory needs
   abbrev pub words : List ℕ
   words = planWords (a .offsets) (a .columns) (a .m) (a .n)
 

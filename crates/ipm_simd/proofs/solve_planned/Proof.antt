@@ -30,14 +30,18 @@ mul-room-4 : tie.Need-mul-room-4
 mul-room-4 c = let p = c .before .before .before .before .before .before .before .before .before .pre .1 in omega (arith, p .work, p .slack)
 
 run-requires : tie.Need-run-requires
-run-requires c κs = let e = c .before .before .before .before .before .before .before .before .before .before in let p = e .pre in (p .0, lent-four (given (e .args .plan .m) (e .args .plan .n) (e .args .plan .s) (e .args .offsets .now) (e .args .columns .now) (e .args .values .now) (e .args .b .now) (e .args .c .now) (e .args .tolerances .now) (e .args .limit)) (p .1), room-four (given (e .args .plan .m) (e .args .plan .n) (e .args .plan .s) (e .args .offsets .now) (e .args .columns .now) (e .args .values .now) (e .args .b .now) (e .args .c .now) (e .args .tolerances .now) (e .args .limit)) (p .1), p .1 .from)
+run-requires c κs =
+    let e = c .before .before .before .before .before .before .before .before .before .before in
+    let p = e .pre in
+    let a = (given (e .args .plan .m) (e .args .plan .n) (e .args .plan .s) (e .args .offsets .now) (e .args .columns .now) (e .args .values .now) (e .args .b .now) (e .args .c .now) (e .args .tolerances .now) (e .args .limit)) in
+    (record { planned = p .0; lent = lent-four a (p .1); room = room-four a (p .1) }, p .1 .from)
 
 report-requires : tie.Need-report-requires
 report-requires c κs =
     let e = c .before .before .before .before .before .before .before .before .before .before .before .before .before .before .before in
     let p = e .pre .1 in
     let r = c .before .before .before .before .run .ensures in
-    (omega (arith, p .output, p .work, r .0 .size), lane-under (call (given (e .args .plan .m) (e .args .plan .n) (e .args .plan .s) (e .args .offsets .now) (e .args .columns .now) (e .args .values .now) (e .args .b .now) (e .args .c .now) (e .args .tolerances .now) (e .args .limit))) (e .args .limit) (c .before .before .before .before .run .result) (run-four (given (e .args .plan .m) (e .args .plan .n) (e .args .plan .s) (e .args .offsets .now) (e .args .columns .now) (e .args .values .now) (e .args .b .now) (e .args .c .now) (e .args .tolerances .now) (e .args .limit)) p (r .1 standard standard-runs) .ran .answer))
+    (omega (arith, p .output, p .work, r .0 .size), lane-under (call (given (e .args .plan .m) (e .args .plan .n) (e .args .plan .s) (e .args .offsets .now) (e .args .columns .now) (e .args .values .now) (e .args .b .now) (e .args .c .now) (e .args .tolerances .now) (e .args .limit))) (e .args .limit) (c .before .before .before .before .run .result) (run-four (given (e .args .plan .m) (e .args .plan .n) (e .args .plan .s) (e .args .offsets .now) (e .args .columns .now) (e .args .values .now) (e .args .b .now) (e .args .c .now) (e .args .tolerances .now) (e .args .limit)) p (r .1 standard standard-runs) .answer))
 
 clear-front-requires : tie.Need-clear-front-requires
 clear-front-requires c κs = let p = c .before .before .before .before .before .before .before .before .before .before .before .before .before .before .before .before .before .before .before .pre .1 in omega (arith, p .work, c .before .before .before .before .before .before .before .before .run .ensures .0 .size)
