@@ -3,25 +3,24 @@ use mathlib.Core.Path.{_≡_, refl, sym, ap, _∙_, subst}
 use mathlib.Core.Logic.{_⊎_, inl, inr, _↔_, _≢_}
 use mathlib.Core.Bool.{Bool, true, cond}
 use mathlib.Core.List.{List, _++_}
-use Prim.Native.Nat.{ℕ, _+_, _-_, _*_, _≤_, _<_}
+use Prim.Native.Nat.{ℕ, _+_, _≤_, _<_}
 use native.Mathlib.Nat.{eq-or-lt-of-le}
 use native.Mathlib.Omega.{arith}
-use lib.Ieee.{Float}
 use lib.ListN.{length, drop, replicate, getD}
 use Rattle.csr.specs.Pattern.{neighbours, stored}
 use Rattle.csr.specs.Chain.{Chain}
 use Rattle.csr.specs.Walks.{neighbours-sym}
 use Rattle.csr.proofs.Chain.{factor-stored, stored↔chain}
-use Rattle.lanes.specs.Lists.{at}
 use Rattle.machine.specs.Machine.{Problem, Status, spoilt, live, status, next, yields, machine, left, start, inFactor}
 use Rattle.lanes.specs.Arithmetic.{null}
-use Rattle.machine.specs.Outcome.{Outcome, accepted, noAt11, noAt12, largestLimit, testsMade, Call, laneData, laneMachine, laneStatus, solved}
+use Rattle.machine.specs.Outcome.{Outcome, noAt12, largestLimit, testsMade, Call, laneData, laneMachine, laneStatus, solved}
 use Rattle.machine.specs.Ends.{Ends}
-use Rattle.machine.specs.Demand3.{Memory, Buffers, isLost, Has, numbers, fresh, Moved, AtTest, Made, once, again, outputAfter, leaves, Demand3}
+use Rattle.machine.specs.Demand3.{Memory, Buffers, isLost, Started, Moved, AtTest, Made, once, again, outputAfter, leaves, Demand3}
 use Rattle.machine.specs.Work.{Says}
+use Rattle.machine.specs.Theorems.{in-x}
 use Rattle.machine.proofs.Ends.{ends, ends-once, larger}
-use Rattle.machine.proofs.Output.{no-nan}
-use Rattle.machine.proofs.Machines.{others, output-at, fresh-has, moved-has, said-of, lane-next}
+use Rattle.machine.proofs.Output.{output-of}
+use Rattle.machine.proofs.Machines.{others, fresh-has, moved-has, said-of, lane-next}
 
 -- the machine's factor below the diagonal, by chains
 pub factor-chain : (A : Problem) (i j : ℕ) → j < i → (inFactor A i j ≡ true) ↔ Chain (neighbours (A .off) (A .cols)) i j
@@ -32,11 +31,6 @@ factor-chain A i j h =
     (λ t. s .0 (sym e ∙ t), λ w. e ∙ s .1 w)
 
 module _ (C : Call) where
-  not-accepted : (o : Outcome) (v : List Float) → ((k : ℕ) → o ≢ accepted k) → outputAfter C o v ≡ v
-  not-accepted (accepted k) v n = absurd (n k refl)
-  not-accepted (noAt11 k l) v n = refl
-  not-accepted (noAt12 k) v n = refl
-
   pub solved-larger : (N N' : ℕ) → N ≤ N' → solved C N ≢ noAt12 N → solved C N' ≡ solved C N
   unfolding solved
   solved-larger N N' h n = larger (C .K) (laneStatus C) N N' h n
@@ -55,21 +49,13 @@ module _ (C : Call) where
   made-from k M said (once e a) = omega arith
   made-from k M said (again m v a) = omega arith
 
-  -- the first test: the memory is all 1000.0, and the test says what its numbers yield
-  first-memory : Memory
-  first-memory = fresh (C .K) (C .problem .m) (C .problem .n) (C .problem .s)
+  -- the first test: each lane's numbers are all 1000.0, and the test says what they yield
+  fresh-says : (M : Memory) → Started C M → (l : ℕ) → l < C .K → laneStatus C l 1 ≡ status (C .problem) (C .settings) (laneData C l) (M l)
+  unfolding laneStatus laneMachine machine left start
+  fresh-says M e l b = said-of C (laneMachine C l 1) l (M l) (fresh-has C M e l b)
 
-  fresh-says : (l : ℕ) → l < C .K → laneStatus C l 1 ≡ status (C .problem) (C .settings) (laneData C l) (numbers C first-memory l)
-  unfolding laneStatus laneMachine machine left start first-memory
-  fresh-says l b = said-of C (laneMachine C l 1) l (numbers C first-memory l) (fresh-has C l b)
-
-  pub made-once : (M : Memory) (said : List Status) → M ≡ fresh (C .K) (C .problem .m) (C .problem .n) (C .problem .s) → Says C M said → Made C 1 M said
-  unfolding first-memory
-  made-once M said e h =
-      once e (record {
-        has = λ l b. subst (λ (Z : Memory). Has (laneMachine C l 1) (numbers C Z l)) (sym e) (fresh-has C l b);
-        says = λ l b. h l b ∙ ap (λ (Z : Memory). status (C .problem) (C .settings) (laneData C l) (numbers C Z l)) e ∙ sym (fresh-says l b);
-      })
+  pub made-once : (M : Memory) (said : List Status) → Started C M → Says C M said → Made C 1 M said
+  made-once M said e h = once e (record { has = fresh-has C M e; says = λ l b. h l b ∙ sym (fresh-says M e l b) })
 
   -- each further one: the step moves every lane as its own machine does, and the test says spoilt of a lane that the step lost, and of any other what its numbers yield
   pub made-again : (k : ℕ) (M M' : Memory) (said said' : List Status)
@@ -77,7 +63,7 @@ module _ (C : Call) where
       → ((l : ℕ) → l < C .K → laneStatus C l k ≢ spoilt)
       → Moved C M M'
       → ((l : ℕ) → l < C .K → getD said' l spoilt
-      ≡ cond (isLost (next (C .problem) (C .settings) (laneData C l) (live (numbers C M l)))) spoilt (status (C .problem) (C .settings) (laneData C l) (numbers C M' l)))
+      ≡ cond (isLost (next (C .problem) (C .settings) (laneData C l) (live (M l)))) spoilt (status (C .problem) (C .settings) (laneData C l) (M' l)))
       → Made C (k + 1) M' said'
   unfolding laneStatus
   made-again k M M' said said' m n v h =
@@ -87,7 +73,7 @@ module _ (C : Call) where
         has = moved-has C k M M' said o a n v;
         says = λ l b.
             h l b
-            ∙ sym (said-of C (next (C .problem) (C .settings) (laneData C l) (live (numbers C M l))) l (numbers C M' l) (v l b))
+            ∙ sym (said-of C (next (C .problem) (C .settings) (laneData C l) (live (M l))) l (M' l) (v l b))
             ∙ ap (yields (C .problem) (C .settings) (laneData C l)) (sym (lane-next C k M said o a l b (n l b)));
       })
 
@@ -104,7 +90,7 @@ module _ (C : Call) where
     leaves-same : (N' : ℕ) → solved C N' ≡ solved C N → leaves C plan F N' B ≡ leaves C plan F N B
     leaves-same N' e i =
         record {
-          output = outputAfter C (e i) (B .output);
+          output = outputAfter C (λ q. q .x) (C .problem .n) (e i) (B .output);
           index = plan ++ drop (length plan) (B .index);
           work = replicate F null ++ drop F (B .work);
         }
@@ -126,15 +112,8 @@ module _ (C : Call) where
             factor-chain (C .problem) i j h,
           );
           ends = subst (Ends (C .K) (laneStatus C) N) (sym e) (solved-ends N);
-          output = λ k l x a h b.
-              ap (λ (Z : Buffers). at (Z .output) (C .K * x + l)) f
-              ∙ ap (λ (z : Outcome). at (outputAfter C z (B .output)) (C .K * x + l)) (sym e ∙ a)
-              ∙ output-at C k l x h b;
-          bits = λ k l x a h b z.
-              no-nan C l k x b (solved-ends N .reported k (sym e ∙ a) .0 .all l h)
-              (sym (output-at C k l x h b) ∙ ap (λ (y : Outcome). at (outputAfter C y (B .output)) (C .K * x + l)) (sym (sym e ∙ a)) ∙ ap (λ (Z : Buffers). at (Z .output) (C .K * x + l)) (sym f) ∙ z);
+          output = output-of C (λ q. q .x) (C .problem .n) (λ q i h z. in-x i h z) N o (B .output) (B' .output) e (ap (λ (Z : Buffers). Z .output) f);
           buffers = f;
-          kept = λ n. ap (λ (Z : Buffers). Z .output) f ∙ not-accepted (solved C N) (B .output) (λ k a. n k (e ∙ a));
           larger = λ N' h u n.
               let z : solved C N' ≡ solved C N = solved-larger N N' h (λ a. n (e ∙ a)) in
               (z ∙ sym e, leaves-same N' z ∙ sym f);

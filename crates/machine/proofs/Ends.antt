@@ -23,7 +23,7 @@ is-done spoilt e = absurd (true≢false e)
 is-done done e = refl
 is-done (steps v) e = absurd (true≢false e)
 
-both : (t : Status) → t ≡ done → t ≡ spoilt → ⊥
+pub both : (t : Status) → t ≡ done → t ≡ spoilt → ⊥
 both t d s = let z : _≡_ {A = ℕ} 0 1 = cc in omega arith
 
 or-false : (a b : Bool) → a || b ≡ false → (a ≡ false) × (b ≡ false)
@@ -295,3 +295,15 @@ module _ (K : ℕ) (says : ℕ → ℕ → Status) where
       go (no l) =
           let b : eqb (first N stops) N ≡ true = eq-eqb (first N stops) N (omega (arith, first-le stops N)) in
           (outcome-is N true b, made-is N true b)
+
+  -- an acceptance reports the last test made
+  pub made-accepted : (N k : ℕ) → outcome K says N ≡ accepted k → testsMade K says N ≡ k
+  made-accepted N k e = go (eqb (first N stops) N) refl
+    where
+      here : (t : Bool) → cond t (noAt11 (first N stops + 1) (lowestSpoilt K says (first N stops + 1))) (accepted (first N stops + 1)) ≡ accepted k → first N stops + 1 ≡ k
+      here true z = absurd (apart (accepted k) k (first N stops + 1) (lowestSpoilt K says (first N stops + 1)) refl (sym z))
+      here false z = cc
+
+      go : (t : Bool) → eqb (first N stops) N ≡ t → testsMade K says N ≡ k
+      go true b = absurd (apart-12 (outcome K says N) k N e (outcome-is N true b))
+      go false b = made-is N false b ∙ here (someSpoilt K says (first N stops + 1)) (sym (outcome-is N false b) ∙ e)

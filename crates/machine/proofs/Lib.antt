@@ -1,3 +1,4 @@
+pub mod Lanes
 pub mod Held
 pub mod Floats
 pub mod Wait

@@ -3,20 +3,12 @@ use mathlib.Core.Path.{_≡_, refl, sym, ap, _∙_, subst}
 use mathlib.Core.Logic.{_≢_}
 use mathlib.Core.Bool.{Bool, true, false, cond}
 use mathlib.Core.List.{List}
-use Prim.Native.Nat.{ℕ, zero, suc, _+_, _-_, _*_, _/_, _%_, _≤_, _<_}
-use native.Mathlib.Nat.{mul-suc, mul-le-mul-left, mul-add-div, mul-add-mod-self-left, mod-eq-of-lt, div-eq-of-lt, add-zero}
+use Prim.Native.Nat.{ℕ, zero, suc, _+_, _-_, _≤_, _<_}
 use native.Mathlib.Omega.{arith}
-use lib.ListN.{replicate, getD-replicate}
-use lib.Ieee.{Float, nan}
-use Rattle.lanes.specs.Lists.{at, lane, vec}
+use lib.Ieee.{Float}
 use Rattle.machine.specs.Machine.{Problem, LaneData, Settings, State, Machine, live, lost, Status, spoilt, done, status, mu, direction, allFinite, after, next, left, machine, yields, start}
-use Rattle.lanes.specs.Constants.{startValue}
-use Rattle.machine.specs.Outcome.{Call, laneData, laneMachine, laneStatus, xOf, xAt}
-use Rattle.machine.specs.Demand3.{Memory, isLost, Has, numbers, fresh, Moved, AtTest}
-use Rattle.lanes.proofs.Lists.{vec-at, vec-same}
-
-pub slot : (K n k l : ℕ) → l < K → k < n → K * k + l < K * n
-slot K n k l h b = omega (arith, mul-suc K k, mul-le-mul-left K b)
+use Rattle.machine.specs.Outcome.{Call, laneData, laneMachine, laneStatus}
+use Rattle.machine.specs.Demand3.{Memory, isLost, Has, Started, Moved, AtTest}
 
 module _ (A : Problem) (H : Settings) (d : LaneData) where
   pub machine-next : (k : ℕ) → 1 ≤ k → machine A H d (k + 1) ≡ next A H d (machine A H d k)
@@ -81,22 +73,22 @@ module _ (C : Call) where
 
   -- a lane that is not spoilt has a machine, and the machine has the lane's numbers
   pub lane-live : (k : ℕ) (M : Memory) (said : List Status) → AtTest C k M said → (l : ℕ) → l < C .K → laneStatus C l k ≢ spoilt
-      → laneMachine C l k ≡ live (numbers C M l)
+      → laneMachine C l k ≡ live (M l)
   unfolding laneStatus yields
   lane-live k M said a l h n =
-      Has-live (laneMachine C l k) (numbers C M l) (λ e. n (ap (yields (C .problem) (C .settings) (laneData C l)) e)) (a .has l h)
+      Has-live (laneMachine C l k) (M l) (λ e. n (ap (yields (C .problem) (C .settings) (laneData C l)) e)) (a .has l h)
 
   -- so the next test reads what the step leaves
   pub lane-next : (k : ℕ) (M : Memory) (said : List Status) → 1 ≤ k → AtTest C k M said → (l : ℕ) → l < C .K → laneStatus C l k ≢ spoilt
-      → laneMachine C l (k + 1) ≡ next (C .problem) (C .settings) (laneData C l) (live (numbers C M l))
+      → laneMachine C l (k + 1) ≡ next (C .problem) (C .settings) (laneData C l) (live (M l))
   unfolding laneMachine
   lane-next k M said o a l h n =
       machine-next (C .problem) (C .settings) (laneData C l) k o ∙ ap (next (C .problem) (C .settings) (laneData C l)) (lane-live k M said a l h n)
 
   pub moved-has : (k : ℕ) (M M' : Memory) (said : List Status) → 1 ≤ k → AtTest C k M said → ((l : ℕ) → l < C .K → laneStatus C l k ≢ spoilt)
-      → Moved C M M' → (l : ℕ) → l < C .K → Has (laneMachine C l (k + 1)) (numbers C M' l)
+      → Moved C M M' → (l : ℕ) → l < C .K → Has (laneMachine C l (k + 1)) (M' l)
   moved-has k M M' said o a n v l h =
-      subst (λ (X : Machine). Has X (numbers C M' l)) (sym (lane-next k M said o a l h (n l h))) (v l h)
+      subst (λ (X : Machine). Has X (M' l)) (sym (lane-next k M said o a l h (n l h))) (v l h)
 
   -- what a test says of a lane: spoilt where the step before lost it, else by its numbers
   pub said-of : (X : Machine) (l : ℕ) (p : State) → Has X p
@@ -107,30 +99,6 @@ module _ (C : Call) where
 
   -- ---- test 1
 
-  fresh-lane : (n l : ℕ) → l < C .K → lane (C .K) n l (replicate (C .K * n) (startValue)) ≡ vec n (λ _. startValue)
-  unfolding lane
-  fresh-lane n l h =
-      vec-same n (λ k. at (replicate (C .K * n) (startValue)) (C .K * k + l)) (λ _. startValue)
-      (λ k b. getD-replicate (C .K * n) (C .K * k + l) (startValue) nan (slot (C .K) n k l h b))
-
-  pub fresh-has : (l : ℕ) → l < C .K → Has (laneMachine C l 1) (numbers C (fresh (C .K) (C .problem .m) (C .problem .n) (C .problem .s)) l)
+  pub fresh-has : (M : Memory) → Started C M → (l : ℕ) → l < C .K → Has (laneMachine C l 1) (M l)
   unfolding laneMachine machine left start
-  fresh-has l h =
-      λ i. record {
-        x = fresh-lane (C .problem .n) l h i;
-        z = fresh-lane (C .problem .n) l h i;
-        y = fresh-lane (C .problem .m) l h i;
-        w = fresh-lane (C .problem .s) l h i;
-      }
-
-  -- ---- the output
-
-  pub output-at : (k l e : ℕ) → l < C .K → e < C .problem .n → at (xAt C k) (C .K * e + l) ≡ xOf C (laneMachine C l k) e
-  unfolding xAt
-  output-at k l e h b =
-      let p : 0 < C .K = omega arith in
-      let r : (C .K * e + l) % C .K ≡ l = mul-add-mod-self-left (C .K) e l ∙ mod-eq-of-lt h in
-      let q : (C .K * e + l) / C .K ≡ e = mul-add-div p e l ∙ ap (λ (j : ℕ). e + j) (div-eq-of-lt h) ∙ add-zero e in
-      vec-at (C .K * C .problem .n) (λ i. xOf C (laneMachine C (i % C .K) k) (i / C .K)) (C .K * e + l) (slot (C .K) (C .problem .n) e l h b)
-      ∙ ap (λ (j : ℕ). xOf C (laneMachine C j k) ((C .K * e + l) / C .K)) r
-      ∙ ap (xOf C (laneMachine C l k)) q
+  fresh-has M e l h = e l h

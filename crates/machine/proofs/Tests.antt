@@ -12,6 +12,7 @@ use lib.Seq.{getD-append-add}
 use lib.Ieee.{Float, nan, inf, fin, lt, isNan, up, down}
 use Rattle.lanes.specs.Arithmetic.{_⊕_, _⊗_, _⊘_, whole, Σ}
 use Rattle.lanes.specs.Lists.{at}
+use Rattle.lanes.proofs.Lists.{lane-at}
 use Rattle.machine.specs.Machine.{Problem, LaneData, Settings, State, spoilt, done, steps, status, R, Q, G, g, mu}
 use Rattle.machine.specs.Outcome.{Call, isDone, laneData}
 use Rattle.machine.specs.Theorems as theorems
@@ -58,6 +59,9 @@ module _ (A : Problem) (H : Settings) (d : LaneData) where
       s
 
 module _ (C : Call) where
+  pub lanes-in-order : theorems.Lanes-in-order C
+  lanes-in-order l k = (lane-at (C .K) (C .problem .m) l (C .b) k, lane-at (C .K) (C .problem .n) l (C .c) k)
+
   pub tolerances-in-order : theorems.Tolerances-in-order C
   tolerances-in-order primal dual gap p u e l h = (
     ap (λ (v : List Float). at v l) e ∙ List·getD-append primal (dual ++ gap) nan l (omega (arith, p)),

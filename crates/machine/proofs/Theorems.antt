@@ -6,16 +6,15 @@ use Prim.Native.Nat.{ℕ, _+_, _-_}
 use native.Mathlib.Decide.{ℕ-discrete}
 use native.Mathlib.Omega.{arith}
 use lib.Dec.{T}
-use lib.Ieee.{nan}
 use Rattle.csr.specs.Pattern.{neighbours}
 use Rattle.csr.specs.Chain.{Chain, stored-diag}
 use Rattle.csr.proofs.Chain.{factor-stored}
-use Rattle.machine.specs.Machine.{Problem, LaneData, Settings, State, Status, status, machine, next, yields, G, inFactor}
+use Rattle.machine.specs.Machine.{Problem, LaneData, Settings, Status, status, machine, next, yields, inFactor}
 use Rattle.machine.specs.Outcome.{Call}
 use Rattle.machine.specs.Theorems as theorems
-use Rattle.machine.specs.Theorems.{HasNan, in-x, in-z, in-y, in-w}
 use Rattle.machine.proofs.Floats.{unmoved, unmoved-nan, null-mul-nan}
-use Rattle.machine.proofs.Wait.{SoundMachine, left-sound, nan-x, nan-z, nan-y, nan-w, G-spoilt, rust-next}
+use Rattle.machine.proofs.Wait.{SoundMachine, left-sound, G-spoilt, rust-next}
+use Rattle.machine.proofs.Output.{nan-G}
 use Rattle.machine.proofs.Machines.{waits, wait-lost, machine-next, spoilt-on}
 use Rattle.machine.proofs.Factor.{factor-is}
 use Rattle.machine.proofs.Tests as tests
@@ -35,14 +34,8 @@ module _ (A : Problem) (H : Settings) (d : LaneData) where
   unfolding machine
   no-minus-zero k q e = subst (SoundMachine A H d) e (left-sound A H d (k - 1))
 
-  nan-G : (q : State) → HasNan A q → G A H d q ≡ nan
-  nan-G q (in-x e h z) = nan-x A H d q e h z
-  nan-G q (in-z e h z) = nan-z A H d q e h z
-  nan-G q (in-y i h z) = nan-y A H d q i h z
-  nan-G q (in-w i h z) = nan-w A H d q i h z
-
   pub nan-spoils : theorems.Nan-spoils A H d
-  nan-spoils q h = (nan-G q h, G-spoilt A H d q (nan-G q h))
+  nan-spoils q h = (nan-G A H d q h, G-spoilt A H d q (nan-G A H d q h))
 
   pub rust-steps : theorems.Rust-steps A H d
   rust-steps q n s = rust-next A H d q (status A H d q) refl n s
@@ -102,6 +95,9 @@ module _ (K : ℕ) (says : ℕ → ℕ → Status) where
 module _ (C : Call) where
   pub tolerances-in-order : theorems.Tolerances-in-order C
   tolerances-in-order = tests.tolerances-in-order C
+
+  pub lanes-in-order : theorems.Lanes-in-order C
+  lanes-in-order = tests.lanes-in-order C
 
   pub every-test : theorems.Every-test C
   every-test = demand.every-test C

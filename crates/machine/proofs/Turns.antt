@@ -9,13 +9,15 @@ use native.Mathlib.Omega.{arith}
 use borrow.Author.Tests.{ne-eqb, eq-eqb, lt-ltb, le-ltb}
 use lib.Dec.{eqb, ltb}
 use lib.ListN.{getD}
-use Rattle.lanes.specs.Lists.{first}
-use Rattle.machine.specs.Machine.{State, live, Status, spoilt, status, next, after, yields, machine}
-use Rattle.machine.specs.Outcome.{accepted, noAt11, noAt12, isSpoilt, isDone, lowestSpoilt, lowestUndone, someSpoilt, allDone, Call, laneData, laneMachine, laneStatus, solved}
-use Rattle.machine.specs.Demand3.{Memory, Has, numbers, fresh, Reads, AtTest, Made}
+use lib.Ieee.{Float}
+use Rattle.lanes.specs.Lists.{at, first}
+use Rattle.machine.specs.Machine.{State, Machine, live, Status, spoilt, status, next, after, yields, machine}
+use Rattle.machine.specs.Outcome.{Outcome, accepted, noAt11, noAt12, testsMade, isSpoilt, isDone, lowestSpoilt, lowestUndone, someSpoilt, allDone, Call, laneData, laneMachine, laneStatus, solved, interleaved, fieldOf, fieldAt}
+use Rattle.machine.specs.Demand3.{Memory, Has, Started, Reads, AtTest, Made}
 use Rattle.machine.specs.Work.{Says, Stepped, Ran}
 use Rattle.lanes.proofs.Lists.{first-same}
-use Rattle.machine.proofs.Ends.{Quiet, some-no, stop-spoilt, stop-done, stop-spent}
+use Rattle.machine.proofs.Ends.{Quiet, both, ends, some-no, stop-spoilt, stop-done, stop-spent, made-accepted}
+use Rattle.machine.proofs.Lanes.{interleaved-same}
 use Rattle.machine.proofs.Machines.{lane-live, said-of, fresh-has, moved-has}
 use Rattle.machine.specs.Theorems.{SoundState}
 use Rattle.machine.proofs.Wait.{SoundMachine, left-sound, rust-next}
@@ -24,7 +26,7 @@ use Rattle.machine.proofs.Demand3.{made-once, made-again, made-test, ma
 module _ (C : Call) where
   -- k tests are made, and M is what the next one reads
   pub data Ready : ℕ → Memory → Type 0 where
-    begin : {M : Memory} → M ≡ fresh (C .K) (C .problem .m) (C .problem .n) (C .problem .s) → Ready 0 M
+    begin : {M : Memory} → Started C M → Ready 0 M
     onward : {k : ℕ} {M M' : Memory} {said : List Status} → Made C k M said → ((l : ℕ) → l < C .K → laneStatus C l k ≢ spoilt) → Stepped C M M' → Ready k M'
 
   pub record Going (N k : ℕ) (M : Memory) : Type 0 where
@@ -36,28 +38,28 @@ module _ (C : Call) where
   unfolding laneMachine machine
   machine-sound l k = left-sound (C .problem) (C .settings) (laneData C l) (k - 1)
 
-  lane-sound : (k : ℕ) (M : Memory) (said : List Status) → AtTest C k M said → (l : ℕ) → l < C .K → laneStatus C l k ≢ spoilt → SoundState (C .problem) (numbers C M l)
+  lane-sound : (k : ℕ) (M : Memory) (said : List Status) → AtTest C k M said → (l : ℕ) → l < C .K → laneStatus C l k ≢ spoilt → SoundState (C .problem) (M l)
   lane-sound k M said a l h n =
       subst (SoundMachine (C .problem) (C .settings) (laneData C l)) (lane-live C k M said a l h n) (machine-sound l k)
 
   lane-status : (k : ℕ) (M : Memory) (said : List Status) → AtTest C k M said → (l : ℕ) → l < C .K → laneStatus C l k ≢ spoilt
-      → laneStatus C l k ≡ status (C .problem) (C .settings) (laneData C l) (numbers C M l)
+      → laneStatus C l k ≡ status (C .problem) (C .settings) (laneData C l) (M l)
   unfolding laneStatus yields
   lane-status k M said a l h n = ap (yields (C .problem) (C .settings) (laneData C l)) (lane-live C k M said a l h n)
 
   -- the step's promise, in the machine's terms
   module _ (k : ℕ) (M M' : Memory) (said : List Status) (a : AtTest C k M said) (n : (l : ℕ) → l < C .K → laneStatus C l k ≢ spoilt) (v : Stepped C M M') where
     lane-rust : (l : ℕ) → l < C .K
-        → Has (next (C .problem) (C .settings) (laneData C l) (live (numbers C M l))) (numbers C M' l)
-        × (status (C .problem) (C .settings) (laneData C l) (numbers C M' l) ≡ yields (C .problem) (C .settings) (laneData C l) (next (C .problem) (C .settings) (laneData C l) (live (numbers C M l))))
+        → Has (next (C .problem) (C .settings) (laneData C l) (live (M l))) (M' l)
+        × (status (C .problem) (C .settings) (laneData C l) (M' l) ≡ yields (C .problem) (C .settings) (laneData C l) (next (C .problem) (C .settings) (laneData C l) (live (M l))))
     unfolding next
     lane-rust l h =
-        subst (λ (p : State). Has (after (C .problem) (C .settings) (laneData C l) (numbers C M l) t) p × (status (C .problem) (C .settings) (laneData C l) p ≡ yields (C .problem) (C .settings) (laneData C l) (after (C .problem) (C .settings) (laneData C l) (numbers C M l) t)))
+        subst (λ (p : State). Has (after (C .problem) (C .settings) (laneData C l) (M l) t) p × (status (C .problem) (C .settings) (laneData C l) p ≡ yields (C .problem) (C .settings) (laneData C l) (after (C .problem) (C .settings) (laneData C l) (M l) t)))
         (sym (v l h))
-        (rust-next (C .problem) (C .settings) (laneData C l) (numbers C M l) t refl (λ e. n l h (lane-status k M said a l h (n l h) ∙ e)) (lane-sound k M said a l h (n l h)))
+        (rust-next (C .problem) (C .settings) (laneData C l) (M l) t refl (λ e. n l h (lane-status k M said a l h (n l h) ∙ e)) (lane-sound k M said a l h (n l h)))
       where
         t : Status
-        t = status (C .problem) (C .settings) (laneData C l) (numbers C M l)
+        t = status (C .problem) (C .settings) (laneData C l) (M l)
 
   pub ready-made : (k : ℕ) (M : Memory) (said : List Status) → Ready k M → Says C M said → Made C (k + 1) M said
   ready-made k M said (begin e) h = made-once C M said e h
@@ -67,11 +69,11 @@ module _ (C : Call) where
       (λ l b.
       h l b
       ∙ lane-rust k M₀ M said₀ a n v l b .1
-      ∙ said-of C (next (C .problem) (C .settings) (laneData C l) (live (numbers C M₀ l))) l (numbers C M l) (lane-rust k M₀ M said₀ a n v l b .0))
+      ∙ said-of C (next (C .problem) (C .settings) (laneData C l) (live (M₀ l))) l (M l) (lane-rust k M₀ M said₀ a n v l b .0))
 
   -- the next test reads its machines' numbers
   ready-reads : (k : ℕ) (M : Memory) → Ready k M → Reads C (k + 1) M
-  ready-reads k M (begin e) l b = subst (λ (Z : Memory). Has (laneMachine C l 1) (numbers C Z l)) (sym e) (fresh-has C l b)
+  ready-reads k M (begin e) l b = fresh-has C M e l b
   ready-reads k M (onward {M = M₀} {said = said₀} m n v) l b =
       let a = made-test C k M₀ said₀ m in
       moved-has C k M₀ M said₀ (made-from C k M₀ said₀ m) a n (λ i h. lane-rust k M₀ M said₀ a n v i h .0) l b
@@ -150,5 +152,21 @@ module _ (C : Call) where
               under = omega (arith, g .under);
             }
 
-  pub start-steps : (N : ℕ) (M : Memory) → 1 ≤ N → M ≡ fresh (C .K) (C .problem .m) (C .problem .n) (C .problem .s) → Going N 0 M
+  pub start-steps : (N : ℕ) (M : Memory) → 1 ≤ N → Started C M → Going N 0 M
   start-steps N M h e = record { ready = begin e; quiet = λ j o l. absurd (omega arith); under = h }
+
+  -- an accepted run's last memory has each machine's numbers
+  pub ran-live : {N : ℕ} {M : Memory} {o : Outcome} → Ran C N M o → (k : ℕ) → o ≡ accepted k → (l : ℕ) → l < C .K → laneMachine C l k ≡ live (M l)
+  unfolding solved
+  ran-live {N} {M} R k e l h =
+      let a = sym (R .answer) ∙ e in
+      let said = R .tests .0 in
+      let made = subst (λ (j : ℕ). AtTest C j M said) (made-accepted (C .K) (laneStatus C) N k a) (made-test C (testsMade (C .K) (laneStatus C) N) M said (R .tests .1)) in
+      lane-live C k M said made l h (both (laneStatus C l k) (ends (C .K) (laneStatus C) N .reported k a .0 .all l h))
+
+  -- so a list f of its lanes, interleaved, is the machines'
+  pub ran-field : {N : ℕ} {M : Memory} {o : Outcome} → Ran C N M o → (f : State → List Float) (count k : ℕ) → o ≡ accepted k → 1 ≤ C .K
+      → interleaved (C .K) count (λ l e. at (f (M l)) e) ≡ fieldAt C f count k
+  unfolding fieldAt
+  ran-field {N} {M} R f count k a p =
+      interleaved-same (C .K) count (λ l e. at (f (M l)) e) (λ l e. fieldOf f (laneMachine C l k) e) p (λ l e h b. sym (ap (λ (X : Machine). fieldOf f X e) (ran-live R k a l h)))

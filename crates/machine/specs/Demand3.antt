@@ -9,34 +9,20 @@ use lib.Ieee.{Float, nan}
 use Rattle.csr.specs.Pattern.{neighbours}
 use Rattle.csr.specs.Chain.{Chain}
 use Rattle.lanes.specs.Arithmetic.{null}
-use Rattle.lanes.specs.Constants.{startValue}
-use Rattle.lanes.specs.Lists.{at, lane}
-use Rattle.machine.specs.Machine.{State, Machine, live, lost, Status, spoilt, next, inFactor}
-use Rattle.machine.specs.Outcome.{Outcome, accepted, noAt11, noAt12, largestLimit, testsMade, Call, laneData, laneMachine, laneStatus, solved, xOf, xAt}
+use Rattle.lanes.specs.Lists.{at}
+use Rattle.machine.specs.Machine.{State, Machine, live, lost, Status, spoilt, fresh, next, inFactor}
+use Rattle.machine.specs.Outcome.{Outcome, accepted, noAt11, noAt12, largestLimit, testsMade, Call, laneData, laneMachine, laneStatus, solved, fieldOf, fieldAt}
 use Rattle.machine.specs.Ends.{Ends}
 
--- the lists in which a solve keeps the numbers of all its lanes
-pub record Memory : Type 0 where
-  pub x : List Float
-  pub z : List Float
-  pub y : List Float
-  pub w : List Float
+-- the numbers of each lane. Of K lanes those below K count: nothing is said of any other
+abbrev pub Memory : Type 0
+Memory = ℕ → State
 
 -- the lent lists that a solve may change
 pub record Buffers : Type 0 where
   pub output : List Float
   pub index : List ℕ
   pub work : List Float
-
--- all of it 1000.0
-abbrev pub fresh : ℕ → ℕ → ℕ → ℕ → Memory
-fresh K m n s =
-    record {
-      x = replicate (K * n) startValue;
-      z = replicate (K * n) startValue;
-      y = replicate (K * m) startValue;
-      w = replicate (K * s) startValue;
-    }
 
 abbrev pub isLost : Machine → Bool
 isLost (live q) = false
@@ -48,23 +34,17 @@ Has (live q) p = p ≡ q
 Has lost p = Unit {0}
 
 module _ (C : Call) where
-  -- lane l's numbers
-  abbrev pub numbers : Memory → ℕ → State
-  numbers M l =
-      record {
-        x = lane (C .K) (C .problem .n) l (M .x);
-        z = lane (C .K) (C .problem .n) l (M .z);
-        y = lane (C .K) (C .problem .m) l (M .y);
-        w = lane (C .K) (C .problem .s) l (M .w);
-      }
+  -- each lane's numbers are all 1000.0
+  abbrev pub Started : Memory → Type 0
+  Started M = (l : ℕ) → l < C .K → M l ≡ fresh (C .problem)
 
   -- each lane of M' has what the lane's own step or wait makes of its numbers in M: what the program's step promises
   abbrev pub Moved : Memory → Memory → Type 0
-  Moved M M' = (l : ℕ) → l < C .K → Has (next (C .problem) (C .settings) (laneData C l) (live (numbers M l))) (numbers M' l)
+  Moved M M' = (l : ℕ) → l < C .K → Has (next (C .problem) (C .settings) (laneData C l) (live (M l))) (M' l)
 
   -- each lane has the numbers that its machine's test k reads: a program's test requires this of its memory
   abbrev pub Reads : ℕ → Memory → Type 0
-  Reads k M = (l : ℕ) → l < C .K → Has (laneMachine C l k) (numbers M l)
+  Reads k M = (l : ℕ) → l < C .K → Has (laneMachine C l k) (M l)
 
   -- at test k each lane has its machine's numbers, and the test said of it what the machine's test yields
   pub record AtTest (k : ℕ) (M : Memory) (said : List Status) : Type 0 where
@@ -73,21 +53,29 @@ module _ (C : Call) where
 
   -- tests 1 to k were made, the last on the memory M, and it said this: a chain of memories, the first of 1000.0, each moved to the next
   pub data Made : ℕ → Memory → List Status → Type 0 where
-    once : {M : Memory} {said : List Status} → M ≡ fresh (C .K) (C .problem .m) (C .problem .n) (C .problem .s) → AtTest 1 M said → Made 1 M said
+    once : {M : Memory} {said : List Status} → Started M → AtTest 1 M said → Made 1 M said
     again : {k : ℕ} {M M' : Memory} {said said' : List Status}
         → Made k M said → Moved M M' → AtTest (k + 1) M' said' → Made (k + 1) M' said'
 
-  -- 'The output changes only on acceptance, when it holds the four machines' x'
-  abbrev pub outputAfter : Outcome → List Float → List Float
-  outputAfter (accepted k) v = xAt C k
-  outputAfter (noAt11 k l) v = v
-  outputAfter (noAt12 k) v = v
+  -- 'The output changes only on acceptance, when it holds the four machines' x': an output of `count` entries that takes the list f of each machine
+  abbrev pub outputAfter : (State → List Float) → ℕ → Outcome → List Float → List Float
+  outputAfter f count (accepted k) v = fieldAt C f count k
+  outputAfter f count (noAt11 k l) v = v
+  outputAfter f count (noAt12 k) v = v
+
+  -- such an output was `old` and is `new`, and the answer is o
+  pub record Output (f : State → List Float) (count : ℕ) (o : Outcome) (old new : List Float) : Type 0 where
+    -- 'the output is each machine's x there, bit for bit': no NaN, whose bits would be free, is among them
+    pub holds : (k l e : ℕ) → o ≡ accepted k → l < C .K → e < count → at new (C .K * e + l) ≡ fieldOf f (laneMachine C l k) e
+    pub bits : (k l e : ℕ) → o ≡ accepted k → l < C .K → e < count → at new (C .K * e + l) ≢ nan
+    -- without acceptance it is as before
+    pub kept : ((k : ℕ) → o ≢ accepted k) → new ≡ old
 
   -- 'After 11, 12 or acceptance the first W index words hold the plan, the first F working numbers are +0.0, and the rest is as before.'
   abbrev pub leaves : List ℕ → ℕ → ℕ → Buffers → Buffers
   leaves plan F N B =
       record {
-        output = outputAfter (solved C N) (B .output);
+        output = outputAfter (λ q. q .x) (C .problem .n) (solved C N) (B .output);
         index = plan ++ drop (length plan) (B .index);
         work = replicate F null ++ drop F (B .work);
       }
@@ -112,11 +100,9 @@ module _ (C : Call) where
         × ((inFactor (C .problem) i j ≡ true) ↔ Chain (neighbours (C .problem .off) (C .problem .cols)) i j)
     -- from 'The solve is accepted exactly when' to 'Otherwise the no is at 12': a field of Ends for each sentence
     pub ends : Ends (C .K) (laneStatus C) N o
-    -- 'the output is each machine's x there, bit for bit': no NaN, whose bits would be free, is among them
-    pub output : (k l e : ℕ) → o ≡ accepted k → l < C .K → e < C .problem .n → at (B' .output) (C .K * e + l) ≡ xOf C (laneMachine C l k) e
-    pub bits : (k l e : ℕ) → o ≡ accepted k → l < C .K → e < C .problem .n → at (B' .output) (C .K * e + l) ≢ nan
-    -- without acceptance it is as before; and the three lent lists are as document 01 leaves them
-    pub kept : ((k : ℕ) → o ≢ accepted k) → B' .output ≡ B .output
+    -- 'the output is each machine's x there', and without acceptance as before
+    pub output : Output (λ q. q .x) (C .problem .n) o (B .output) (B' .output)
+    -- the three lent lists are as document 01 leaves them
     pub buffers : B' ≡ leaves plan F N B
     -- 'Under every larger limit up to 10,000 an acceptance and a no at 11 stay the same, buffers too.'
     pub larger : (N' : ℕ) → N ≤ N' → N' ≤ largestLimit → o ≢ noAt12 N → (solved C N' ≡ o) × (leaves plan F N' B ≡ B')

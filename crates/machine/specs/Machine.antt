@@ -269,17 +269,20 @@ pub data Machine : Type 0 where
   live : State → Machine
   lost : Machine
 
+-- 'all 1000.0'
+abbrev pub fresh : Problem → State
+fresh A =
+    record {
+      x = vec (A .n) (λ _. startValue);
+      z = vec (A .n) (λ _. startValue);
+      y = vec (A .m) (λ _. startValue);
+      w = vec (A .s) (λ _. startValue);
+    }
+
 module _ (A : Problem) (H : Settings) (d : LaneData) where
-  -- 'all 1000.0'
   unfoldable pub start : Machine
   unfolding vec
-  start =
-      live (record {
-        x = vec (A .n) (λ _. startValue);
-        z = vec (A .n) (λ _. startValue);
-        y = vec (A .m) (λ _. startValue);
-        w = vec (A .s) (λ _. startValue);
-      })
+  start = live (fresh A)
 
   -- the step or the wait after a test: 'Spoilt .. and then at every later test too'; 'A done machine works out its step too. If all its dx, dz, dy, dw are finite
   -- it keeps its numbers, bit for bit; otherwise it is spoilt at every later test'

@@ -7,7 +7,7 @@ use lib.Ieee.{Float, nan}
 pub use Rattle.machine.specs.declared.Outcome.{Outcome}
 pub use Rattle.machine.specs.declared.Outcome.the-variants.{Accepted as accepted, NoAt11 as noAt11, NoAt12 as noAt12}
 use Rattle.lanes.specs.Lists.{at, vec, first, lane}
-use Rattle.machine.specs.Machine.{Problem, LaneData, Settings, Machine, live, lost, Status, spoilt, done, steps, machine, yields}
+use Rattle.machine.specs.Machine.{Problem, LaneData, Settings, State, Machine, live, lost, Status, spoilt, done, steps, machine, yields}
 
 abbrev pub isSpoilt : Status → Bool
 isSpoilt spoilt = true
@@ -58,6 +58,16 @@ module _ (K : ℕ) (says : ℕ → ℕ → Status) where
       let j = first N (λ i. someSpoilt (i + 1) || allDone (i + 1)) in
       cond (eqb j N) N (j + 1)
 
+-- the list of n entries of K lanes whose lane l has `f l e` as entry e, at K * e + l
+unfoldable pub interleaved : ℕ → ℕ → (ℕ → ℕ → Float) → List Float
+unfolding vec
+interleaved K n f = vec (K * n) (λ p. f (p % K) (p / K))
+
+-- entry e of one of a machine's lists; no lost machine has an output
+abbrev pub fieldOf : (State → List Float) → Machine → ℕ → Float
+fieldOf f (live q) e = at (f q) e
+fieldOf f lost e = nan
+
 -- ---- a call: the problem, and the lists of all lanes
 pub record Call : Type 0 where
   pub K : ℕ
@@ -92,12 +102,7 @@ module _ (C : Call) where
   unfolding outcome laneStatus
   solved N = outcome (C .K) laneStatus N
 
-  -- entry e of a machine's x; no lost machine has an output
-  abbrev pub xOf : Machine → ℕ → Float
-  xOf (live q) e = at (q .x) e
-  xOf lost e = nan
-
-  -- 'the four machines' x' at test k, lane l of entry e at K * e + l
-  unfoldable pub xAt : ℕ → List Float
-  unfolding vec laneMachine
-  xAt k = vec (C .K * C .problem .n) (λ p. xOf (laneMachine (p % C .K) k) (p / C .K))
+  -- one list of each machine at test k, of `count` entries, lane l of entry e at K * e + l
+  unfoldable pub fieldAt : (State → List Float) → ℕ → ℕ → List Float
+  unfolding interleaved laneMachine
+  fieldAt f count k = interleaved (C .K) count (λ l e. fieldOf f (laneMachine l k) e)

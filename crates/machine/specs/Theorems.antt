@@ -3,7 +3,7 @@ use mathlib.Core.Path.{_≡_}
 use mathlib.Core.Logic.{_⊎_, _↔_, _≢_}
 use mathlib.Core.Bool.{Bool, true, false}
 use mathlib.Core.List.{List, _++_}
-use Prim.Native.Nat.{ℕ, zero, suc, _+_, _≤_, _<_}
+use Prim.Native.Nat.{ℕ, zero, suc, _+_, _*_, _≤_, _<_}
 use lib.Dec.{T}
 use lib.ListN.{length}
 use lib.Ieee.{Float, nan, inf, fin, binary64, fits}
@@ -167,6 +167,13 @@ module _ (C : Call) where
       → (l : ℕ)
       → l < C .K
       → (laneData C l .primal ≡ at primal l) × (laneData C l .dual ≡ at dual l) × (laneData C l .gap ≡ at gap l)
+
+  -- 'Lane l of entry k is at 4k + l': entry k of what lane l is fed is entry K·k + l of b and of c
+  abbrev pub Lanes-in-order : Type 0
+  Lanes-in-order =
+      (l k : ℕ)
+      → (k < C .problem .m → at (laneData C l .b) k ≡ at (C .b) (C .K * k + l))
+      × (k < C .problem .n → at (laneData C l .c) k ≡ at (C .c) (C .K * k + l))
 
   -- what the tests made say of each one of them
   abbrev pub Every-test : Type 0

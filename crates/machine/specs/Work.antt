@@ -5,16 +5,13 @@ use Prim.Native.Nat.{ℕ, _<_}
 use lib.ListN.{getD}
 use lib.Ieee.{Float}
 use Rattle.lanes.specs.Arithmetic.{null}
-use Rattle.machine.specs.Machine.{Problem, LaneData, Settings, standard, State, Direction, Status, spoilt, done, steps, status, mu, direction, stepped, moved}
+use Rattle.machine.specs.Machine.{Problem, LaneData, Settings, State, Direction, Status, spoilt, done, steps, status, mu, direction, stepped, moved}
 use Rattle.machine.specs.Outcome.{Outcome, Call, laneData, laneStatus, solved, testsMade}
-use Rattle.machine.specs.Demand3.{Memory, numbers, Made}
+use Rattle.machine.specs.Demand3.{Memory, Made}
 
--- a call of document 01's solve, of its lists
+-- a problem, of its sizes and lists
 abbrev pub problemOf : ℕ → ℕ → ℕ → List ℕ → List ℕ → List Float → Problem
 problemOf m n s off cols vals = record { m = m; n = n; s = s; off = off; cols = cols; vals = vals }
-
-abbrev pub callOf : ℕ → ℕ → ℕ → List ℕ → List ℕ → List Float → List Float → List Float → List Float → Call
-callOf m n s off cols vals b c tol = record { K = 4; problem = problemOf m n s off cols vals; settings = standard; b = b; c = c; tolerances = tol }
 
 -- each number p becomes 1·p + h·dp
 abbrev pub stepBy : Problem → State → Float → Direction → State
@@ -35,14 +32,14 @@ stepOf A H d q (steps t) = stepped A H d q t
 module _ (C : Call) where
   -- the statuses are what the lanes' numbers yield
   abbrev pub Says : Memory → List Status → Type 0
-  Says M said = (l : ℕ) → l < C .K → getD said l spoilt ≡ status (C .problem) (C .settings) (laneData C l) (numbers C M l)
+  Says M said = (l : ℕ) → l < C .K → getD said l spoilt ≡ status (C .problem) (C .settings) (laneData C l) (M l)
 
   -- each lane's numbers are its own step of its own numbers
   abbrev pub Stepped : Memory → Memory → Type 0
   Stepped M M' =
       (l : ℕ)
       → l < C .K
-      → numbers C M' l ≡ stepOf (C .problem) (C .settings) (laneData C l) (numbers C M l) (status (C .problem) (C .settings) (laneData C l) (numbers C M l))
+      → M' l ≡ stepOf (C .problem) (C .settings) (laneData C l) (M l) (status (C .problem) (C .settings) (laneData C l) (M l))
 
   -- all the tests were made, and on no other numbers than the machines'; M is the memory of the last
   pub record Ran (N : ℕ) (M : Memory) (o : Outcome) : Type 0 where

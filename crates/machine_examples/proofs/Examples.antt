@@ -2,95 +2,95 @@
 use mathlib.Core.Path.{refl}
 use mathlib.Core.List.{List, [], _∷_, _++_}
 use lib.Ieee.{toBits, ofBits, add, sub, mul, div, neg, lt, ofInt, round, isNan}
-use Rattle.machine.specs.Outcome.{solved, xAt}
+use Rattle.machine.specs.Outcome.{solved, fieldAt}
 use Rattle.machine_examples.specs.Examples.{Row, Answers, Writes, All, firstTest, later, rows, paper-accepted, paper-strict, divisors, strict-R, strict-G, layout, spent, empty-done, empty-spent, paper-nan, chained}
 
 paper-accepted-answers : Answers paper-accepted
-unfolding solved xAt toBits ofBits add sub mul div neg lt ofInt round isNan
+unfolding solved fieldAt toBits ofBits add sub mul div neg lt ofInt round isNan
 paper-accepted-answers = refl
 
 paper-accepted-writes : Writes paper-accepted
-unfolding solved xAt toBits ofBits add sub mul div neg lt ofInt round isNan
+unfolding solved fieldAt toBits ofBits add sub mul div neg lt ofInt round isNan
 paper-accepted-writes = refl
 
 paper-strict-answers : Answers paper-strict
-unfolding solved xAt toBits ofBits add sub mul div neg lt ofInt round isNan
+unfolding solved fieldAt toBits ofBits add sub mul div neg lt ofInt round isNan
 paper-strict-answers = refl
 
 paper-strict-writes : Writes paper-strict
-unfolding solved xAt toBits ofBits add sub mul div neg lt ofInt round isNan
+unfolding solved fieldAt toBits ofBits add sub mul div neg lt ofInt round isNan
 paper-strict-writes = refl
 
 divisors-answers : Answers divisors
-unfolding solved xAt toBits ofBits add sub mul div neg lt ofInt round isNan
+unfolding solved fieldAt toBits ofBits add sub mul div neg lt ofInt round isNan
 divisors-answers = refl
 
 divisors-writes : Writes divisors
-unfolding solved xAt toBits ofBits add sub mul div neg lt ofInt round isNan
+unfolding solved fieldAt toBits ofBits add sub mul div neg lt ofInt round isNan
 divisors-writes = refl
 
 strict-R-answers : Answers strict-R
-unfolding solved xAt toBits ofBits add sub mul div neg lt ofInt round isNan
+unfolding solved fieldAt toBits ofBits add sub mul div neg lt ofInt round isNan
 strict-R-answers = refl
 
 strict-R-writes : Writes strict-R
-unfolding solved xAt toBits ofBits add sub mul div neg lt ofInt round isNan
+unfolding solved fieldAt toBits ofBits add sub mul div neg lt ofInt round isNan
 strict-R-writes = refl
 
 strict-G-answers : Answers strict-G
-unfolding solved xAt toBits ofBits add sub mul div neg lt ofInt round isNan
+unfolding solved fieldAt toBits ofBits add sub mul div neg lt ofInt round isNan
 strict-G-answers = refl
 
 strict-G-writes : Writes strict-G
-unfolding solved xAt toBits ofBits add sub mul div neg lt ofInt round isNan
+unfolding solved fieldAt toBits ofBits add sub mul div neg lt ofInt round isNan
 strict-G-writes = refl
 
 layout-answers : Answers layout
-unfolding solved xAt toBits ofBits add sub mul div neg lt ofInt round isNan
+unfolding solved fieldAt toBits ofBits add sub mul div neg lt ofInt round isNan
 layout-answers = refl
 
 layout-writes : Writes layout
-unfolding solved xAt toBits ofBits add sub mul div neg lt ofInt round isNan
+unfolding solved fieldAt toBits ofBits add sub mul div neg lt ofInt round isNan
 layout-writes = refl
 
 spent-answers : Answers spent
-unfolding solved xAt toBits ofBits add sub mul div neg lt ofInt round isNan
+unfolding solved fieldAt toBits ofBits add sub mul div neg lt ofInt round isNan
 spent-answers = refl
 
 spent-writes : Writes spent
-unfolding solved xAt toBits ofBits add sub mul div neg lt ofInt round isNan
+unfolding solved fieldAt toBits ofBits add sub mul div neg lt ofInt round isNan
 spent-writes = refl
 
 empty-done-answers : Answers empty-done
-unfolding solved xAt toBits ofBits add sub mul div neg lt ofInt round isNan
+unfolding solved fieldAt toBits ofBits add sub mul div neg lt ofInt round isNan
 empty-done-answers = refl
 
 empty-done-writes : Writes empty-done
-unfolding solved xAt toBits ofBits add sub mul div neg lt ofInt round isNan
+unfolding solved fieldAt toBits ofBits add sub mul div neg lt ofInt round isNan
 empty-done-writes = refl
 
 empty-spent-answers : Answers empty-spent
-unfolding solved xAt toBits ofBits add sub mul div neg lt ofInt round isNan
+unfolding solved fieldAt toBits ofBits add sub mul div neg lt ofInt round isNan
 empty-spent-answers = refl
 
 empty-spent-writes : Writes empty-spent
-unfolding solved xAt toBits ofBits add sub mul div neg lt ofInt round isNan
+unfolding solved fieldAt toBits ofBits add sub mul div neg lt ofInt round isNan
 empty-spent-writes = refl
 
 paper-nan-answers : Answers paper-nan
-unfolding solved xAt toBits ofBits add sub mul div neg lt ofInt round isNan
+unfolding solved fieldAt toBits ofBits add sub mul div neg lt ofInt round isNan
 paper-nan-answers = refl
 
 paper-nan-writes : Writes paper-nan
-unfolding solved xAt toBits ofBits add sub mul div neg lt ofInt round isNan
+unfolding solved fieldAt toBits ofBits add sub mul div neg lt ofInt round isNan
 paper-nan-writes = refl
 
 chained-answers : Answers chained
-unfolding solved xAt toBits ofBits add sub mul div neg lt ofInt round isNan
+unfolding solved fieldAt toBits ofBits add sub mul div neg lt ofInt round isNan
 chained-answers = refl
 
 chained-writes : Writes chained
-unfolding solved xAt toBits ofBits add sub mul div neg lt ofInt round isNan
+unfolding solved fieldAt toBits ofBits add sub mul div neg lt ofInt round isNan
 chained-writes = refl
 
 first-test-holds : All firstTest

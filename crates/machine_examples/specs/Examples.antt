@@ -24,7 +24,7 @@ abbrev pub Answers : Row → Type 0
 Answers r = solved (r .call) (r .limit) ≡ r .answer
 
 abbrev pub Writes : Row → Type 0
-Writes r = map (toBits binary64) (outputAfter (r .call) (r .answer) []) ≡ r .bits
+Writes r = map (toBits binary64) (outputAfter (r .call) (λ q. q .x) (r .call .problem .n) (r .answer) []) ≡ r .bits
 
 abbrev pub All : List Row → Type 0
 All [] = Unit {0}

@@ -1,68 +1,68 @@
 -- The tests of a block of lanes, over its real working memory. Definitions only.
 use mathlib.Core.Path.{_≡_}
+use mathlib.Core.Bool.{cond, not}
 use mathlib.Core.List.{List}
-use Prim.Native.Nat.{ℕ, _+_, _*_, _/_, _%_, _<_}
+use Prim.Native.Nat.{ℕ, _≤_, _<_}
+use lib.Dec.{eqb, ltb}
+use lib.ListN.{getD}
 use lib.Ieee.{Float}
-use Rattle.base.specs.Numbers.{cut}
-use Rattle.lanes.specs.Lists.{at, vec}
+use Rattle.lanes.specs.Lists.{first}
+use Rattle.lanes.specs.Lanes.{room as roomFor}
 use Rattle.lanes.specs.Arithmetic.{_⊕_, norm, one}
 use Rattle.lanes.specs.Constants.{centringValue, dampingValue}
 use Rattle.machine.specs.Machine.{Problem, LaneData, Settings, State, lost, status}
 use Rattle.machine.specs.declared.Status.{Status}
 use Rattle.machine.specs.declared.Status.the-variants.{Spoilt as spoilt}
-use Rattle.machine.specs.declared.Outcome.{Outcome}
-use Rattle.machine.specs.declared.Outcome.the-variants.{Accepted as accepted}
-use Rattle.machine.specs.Outcome.{Call, laneData, laneMachine, xAt}
-use Rattle.machine.specs.Demand3.{Memory, numbers, Reads, AtTest}
-use Rattle.machine.specs.Work.{problemOf, Says, Ran}
+use Rattle.machine.specs.declared.Outcome.the-variants.{Accepted as accepted, NoAt11 as noAt11, NoAt12 as noAt12}
+use Rattle.machine.specs.Outcome.{isSpoilt, isDone, Call, laneData, laneMachine}
+use Rattle.machine.specs.Demand3.{Memory, Reads, AtTest}
+use Rattle.machine.specs.Work.{Says}
 use Rattle.layout.specs.declared.Block.{Block}
 use Rattle.layout.specs.declared.Plan.{Plan}
-use Rattle.layout.specs.Layout.{yAt, wAt}
+use Rattle.memory.specs.Numbers.{Lent}
+use Rattle.memory.specs.Planned.{Planned, problemIn, topIn}
+use Rattle.memory.specs.Calls.{callIn}
+use Rattle.lane_test.specs.declared.Measures.{Measures}
+use Rattle.lane_test.specs.Measures.{Measured}
+use Rattle.run.specs.declared.Turn.{Turn}
+use Rattle.run.specs.declared.Turn.the-variants.{Ends as ends, Steps as steps}
 
--- the k entries from entry o, all lanes of each
-abbrev pub part : ℕ → List Float → ℕ → ℕ → List Float
-part width v o k = cut (width * o) (width * (o + k)) v
+-- what a run is lent: an index memory that begins with the plan, lists that have the block's lanes, and a working memory with room
+pub record Provided (plan : Plan) (block : Block) (width : ℕ) (off cols : List ℕ) (vals : List Float) (index : List ℕ) (b c tol work : List Float) : Type 0 where
+  pub planned : Planned off cols vals plan index
+  pub lent : Lent block width (plan .m) (plan .n) (plan .s) b c tol
+  pub room : topIn plan ≤ roomFor width work
 
--- x, z, y and w of all the block's lanes, in its working memory
-abbrev pub memoryAt : ℕ → ℕ → ℕ → ℕ → List Float → Memory
-memoryAt width m n s v = record { x = part width v 0 n; z = part width v n n; y = part width v (yAt n) m; w = part width v (wAt n m) s }
-
--- the block's lanes of a list of k entries: lane t of an entry is lane first + t of the list's
-unfoldable pub lanesOf : Block → ℕ → ℕ → List Float → List Float
-unfolding vec
-lanesOf block width k v = vec (width * k) (λ p. at v (block .total * (p / width) + (block .first + p % width)))
-
--- the block's lanes as a call of their own; the tolerances are three entries
-abbrev pub callBy : Settings → Block → ℕ → ℕ → ℕ → ℕ → List ℕ → List ℕ → List Float → List Float → List Float → List Float → Call
-callBy H block width m n s off cols vals b c tol =
-    record { K = width; problem = problemOf m n s off cols vals; settings = H; b = lanesOf block width m b; c = lanesOf block width n c; tolerances = lanesOf block width 3 tol }
-
--- both by the plan's sizes
-abbrev pub callIn : Settings → Plan → Block → ℕ → List ℕ → List ℕ → List Float → List Float → List Float → List Float → Call
-callIn H p block width off cols vals b c tol = callBy H block width (p .m) (p .n) (p .s) off cols vals b c tol
-
-abbrev pub memoryIn : Plan → ℕ → List Float → Memory
-memoryIn p width v = memoryAt width (p .m) (p .n) (p .s) v
-
--- the settings whose numbers the run passes: its centring and its damping, and 1 + the norms of x and y as divisors
+-- the settings that the run works by: its centring and its damping, and 1 + the norms of x and y as divisors
 pub record Runs (A : Problem) (H : Settings) : Type 0 where
   pub centring : H .centring ≡ centringValue
   pub damping : H .damping ≡ dampingValue
   pub primal : (d : LaneData) (q : State) → (H .divisorR) A d q ≡ one ⊕ norm (A .n) (q .x)
   pub dual : (d : LaneData) (q : State) → (H .divisorQ) A d q ≡ one ⊕ norm (A .m) (q .y)
 
+-- what was measured for a test, by the run's centring
+abbrev pub MeasuredIn : Plan → ℕ → List Float → Measures → Type 0
+MeasuredIn plan width ws sums = Measured width (plan .m) (plan .n) (plan .s) centringValue ws (sums .nx) (sums .ny) (sums .g) (sums .mu)
+
+-- a claim about the call of the block's lanes, by any settings that the run works by
+abbrev pub ForLanes : (Call → Type 0) → Plan → Block → ℕ → List ℕ → List ℕ → List Float → List Float → List Float → List Float → Type 0
+ForLanes Claim plan block width off cols vals b c tol =
+    (H : Settings) → Runs (problemIn plan off cols vals) H → Claim (callIn H plan block width off cols vals b c tol)
+
 module _ (C : Call) where
-  -- M has in every lane the numbers that the machine's test k reads; those of a lost machine are free, but its lane shows that it is spoilt
+  -- each lane has the numbers that its machine's test k reads; those of a lost machine are free, but its lane shows that it is spoilt
   pub record Bears (k : ℕ) (M : Memory) : Type 0 where
     pub reads : Reads C k M
-    pub shown : (l : ℕ) → l < C .K → laneMachine C l k ≡ lost → status (C .problem) (C .settings) (laneData C l) (numbers C M l) ≡ spoilt
+    pub shown : (l : ℕ) → l < C .K → laneMachine C l k ≡ lost → status (C .problem) (C .settings) (laneData C l) (M l) ≡ spoilt
 
-  -- test k was made on M: what it said of each lane is what the machine's test yields, and what the lane's numbers yield
+  -- test k was made on M: what it said of a lane is what its machine's test yields, and what its numbers yield
   pub record Tested (k : ℕ) (M : Memory) (said : List Status) : Type 0 where
     pub made : AtTest C k M said
     pub says : Says C M said
 
-  -- all the tests were made, the last on M; where all the machines are done there, M has their x
-  pub record Run (N : ℕ) (M : Memory) (o : Outcome) : Type 0 where
-    pub ran : Ran C N M o
-    pub x : (k : ℕ) → o ≡ accepted k → M .x ≡ xAt C k
+-- what follows test k, of what it said of K lanes: an end at the lowest spoilt lane, with all lanes done or at the limit N, else a step
+unfoldable pub turnAfter : ℕ → List Status → ℕ → ℕ → Turn
+turnAfter K said N k =
+    let r = first K (λ l. isSpoilt (getD said l spoilt)) in
+    let u = first K (λ l. not (isDone (getD said l spoilt))) in
+    cond (ltb r K) (ends (noAt11 k r)) (cond (eqb u K) (ends (accepted k)) (cond (eqb k N) (ends (noAt12 k)) steps))

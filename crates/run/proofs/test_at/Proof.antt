@@ -1,4 +1,4 @@
-use Rattle.run.proofs.Runs.{tested-at, divided}
+use Rattle.run.proofs.Runs.{tested, divided}
 use borrow.Author.Needs.{needs}
 use Rattle.run.proofs.test_at.Statement.{statement}
 use Rattle.run.proofs.test_at.Tie as tie
@@ -15,7 +15,8 @@ test-requires c κs = search needs
 returns : tie.Need-returns
 returns c =
     let s = c .before .before .before .before .before .before .before .before .before .before .before .before .before in
-    λ H R. tested-at H (s .args .block) (s .args .width) (s .pre .1 .wide) (s .args .plan .m) (s .args .plan .n) (s .args .plan .s) (s .args .off .now) (s .args .cols .now) (s .args .vals .now) (s .args .b .now) (s .args .c .now) (s .args .tol .now) (s .args .k) (s .args .work .now) _ (s .pre .4 H R) (c .test .ensures H (rw (R .centring) (s .pre .3)) (divided (s .pre .1 .wide) R (s .pre .3) (c .before .before .one-more .ensures) (c .before .one-more2 .ensures)))
+    let p = s .pre .0 in
+    λ H R. tested H (s .args .plan) (s .args .block) (s .args .width) (p .lent .wide) (s .args .off .now) (s .args .cols .now) (s .args .vals .now) (s .args .b .now) (s .args .c .now) (s .args .tol .now) (s .args .k) (s .args .work .now) _ (s .pre .2 H R) (c .test .ensures H (rw (R .centring) (s .pre .1)) (divided (p .lent .wide) R (s .pre .1) (c .before .before .one-more .ensures) (c .before .one-more2 .ensures)))
 
 pub test-at-spec : {M : Type 1} → statement M
 test-at-spec = tie.close (tie.spec one-more-requires one-more-requires-2 test-requires returns)
