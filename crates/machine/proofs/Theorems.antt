@@ -8,7 +8,8 @@ use native.Mathlib.Omega.{arith}
 use lib.Dec.{T}
 use lib.Ieee.{nan}
 use Rattle.csr.specs.Pattern.{neighbours}
-use Rattle.csr.specs.Chain.{Chain, stored-diag}
+use Rattle.csr.specs.Chain.{Chain}
+use Rattle.csr.proofs.Rule.{stored-diag}
 use Rattle.csr.proofs.Chain.{factor-stored}
 use Rattle.machine.specs.Machine.{Problem, LaneData, Settings, State, Status, status, machine, next, yields, G, inFactor}
 use Rattle.machine.specs.Outcome.{Call}

@@ -10,7 +10,7 @@ use Rattle.lists.specs.Lists.{planWords}
 use Rattle.lists.proofs.Sizes.{plan-size}
 use Rattle.plan_laws.specs.Prepared.{Prepared}
 use Rattle.plan_laws.proofs.Cuts.{prepared-of}
-use Rattle.plan_laws.proofs.Few.{few-stored, few-shared, few-products}
+use Rattle.lists.proofs.Few.{few-stored, few-shared, few-products}
 use Rattle.plan_laws.proofs.Follows.{entries-for}
 use Rattle.layout.specs.declared.Plan.{Plan}
 use Rattle.layout.specs.Lists.{anormIndptrIn, anormIndptrIIn, anormIndptrJIn, anormIndicesIn, ldecompIndptrIn, ldecompIndptrIIn, ldecompIndptrJIn, lindptrIn, ldiagIndptrIn, lindicesIn, ltindptrIn, ltindicesIn, ltmapIn, atindptrIn, atindicesIn, atmapIn, wordsAt, Indexed}

@@ -1,7 +1,9 @@
 -- `ipm_common::plan_few` meets its contract. Assumes nothing.
+use Prim.Native.Nat.{suc}
 use native.Mathlib.Omega.{arith}
 use borrow.Author.Needs.{needs}
-use Rattle.pair_lists.proofs.Lists.{tri-le, tri-16}
+use Rattle.base.proofs.Sums.{sum-more}
+use Rattle.lists.proofs.Few.{pairs-16}
 use Rattle.ipm_common.proofs.plan_few.Statement.{statement}
 use Rattle.ipm_common.proofs.plan_few.Tie as tie
 
@@ -27,7 +29,7 @@ plan-in-requires c κs =
     let n = s .pre .2 in (
       s .pre .0,
       omega (arith, m),
-      omega (arith, tri-le (s .args .m) 16 m, tri-16),
+      omega (arith, sum-more (s .args .m) 16 suc m, pairs-16),
       omega arith,
       omega (arith, n),
       record { rows = omega (arith, m); columns = omega (arith, n) },

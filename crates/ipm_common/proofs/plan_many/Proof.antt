@@ -1,7 +1,9 @@
 -- `ipm_common::plan_many` meets its contract. Assumes nothing.
+use Prim.Native.Nat.{suc}
 use native.Mathlib.Omega.{arith}
 use borrow.Author.Needs.{needs}
-use Rattle.pair_lists.proofs.Lists.{tri-le, tri-256}
+use Rattle.base.proofs.Sums.{sum-more}
+use Rattle.lists.proofs.Few.{pairs-256}
 use Rattle.ipm_common.proofs.plan_many.Statement.{statement}
 use Rattle.ipm_common.proofs.plan_many.Tie as tie
 
@@ -27,7 +29,7 @@ plan-in-requires c κs =
     let n = s .pre .wide in (
       s .pre,
       omega (arith, m),
-      omega (arith, tri-le (s .args .m) 256 m, tri-256),
+      omega (arith, sum-more (s .args .m) 256 suc m, pairs-256),
       omega arith,
       omega (arith, n),
       record { rows = omega (arith, m); columns = omega (arith, n) },
