@@ -1,3 +1,4 @@
 pub mod Bools
+pub mod Numbers
 pub mod Sums
 pub mod Write

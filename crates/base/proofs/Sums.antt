@@ -1,10 +1,14 @@
 -- Laws of sums. Assumes nothing.
 use mathlib.Core.Path.{_≡_, refl, sym, ap, ap₂, _∙_}
-use Prim.Native.Nat.{ℕ, zero, suc, _+_, _-_, _<_, _≤_}
+use mathlib.Core.Bool.{Bool, true, false}
+use Prim.Native.Nat.{ℕ, zero, suc, _+_, _-_, _*_, _<_, _≤_}
 use native.Mathlib.Omega.{arith}
-use native.Mathlib.Nat.{add-zero, add-suc}
+use native.Mathlib.Decide.{ℕ-discrete}
+use native.Mathlib.Nat.{add-zero, add-suc, suc-mul}
 use native.Mathlib.Numerals.{add-one}
-use Rattle.base.specs.Sums.{sum}
+use lib.Dec.{eqb}
+use borrow.Author.Tests.{eq-eqb, ne-eqb}
+use Rattle.base.specs.Sums.{sum, one}
 
 pub sum-ext : (n : ℕ) (f g : ℕ → ℕ) → ((k : ℕ) → k < n → f k ≡ g k) → sum n f ≡ sum n g
 unfolding sum
@@ -43,3 +47,55 @@ sum-cut n m f g h same tail =
     ∙ sum-add m (n - m) f
     ∙ ap₂ _+_ (sum-ext m f g same) (sum-zero (n - m) (λ k. f (m + k)) (λ k l. tail (m + k) (omega arith) (omega arith)))
     ∙ add-zero (sum m g)
+
+-- rows before columns, or columns before rows
+pub sum-swap : (n m : ℕ) (f : ℕ → ℕ → ℕ) → sum n (λ e. sum m (λ i. f i e)) ≡ sum m (λ i. sum n (λ e. f i e))
+unfolding sum
+sum-swap zero m f = sym (sum-zero m (λ i. 0) (λ k l. refl))
+sum-swap (suc n) m f = ap (λ (x : ℕ). x + sum m (λ i. f i n)) (sum-swap n m f) ∙ sym (sum-plus m (λ i. sum n (λ e. f i e)) (λ i. f i n))
+
+-- ---- how large a sum is
+
+pub sum-le : (n : ℕ) (f g : ℕ → ℕ) → ((k : ℕ) → k < n → f k ≤ g k) → sum n f ≤ sum n g
+unfolding sum
+sum-le zero f g h = omega arith
+sum-le (suc n) f g h = omega (arith, sum-le n f g (λ k b. h k (omega arith)), h n (omega arith))
+
+-- n numbers up to c
+pub sum-times : (n c : ℕ) (f : ℕ → ℕ) → ((k : ℕ) → k < n → f k ≤ c) → sum n f ≤ n * c
+unfolding sum
+sum-times zero c f h = omega arith
+sum-times (suc n) c f h = omega (arith, sum-times n c f (λ k b. h k (omega arith)), h n (omega arith), suc-mul n c)
+
+pub sum-more : (a b : ℕ) (f : ℕ → ℕ) → a ≤ b → sum a f ≤ sum b f
+sum-more a b f h =
+    let z : a + (b - a) ≡ b = omega arith in
+    omega (arith, sum-add a (b - a) f, ap (λ (k : ℕ). sum k f) z)
+
+-- number i and all before it
+pub sum-room : (n i : ℕ) (f : ℕ → ℕ) → i < n → sum i f + f i ≤ sum n f
+sum-room n i f h = omega (arith, sum-next i f, sum-more (i + 1) n f (omega arith))
+
+-- ---- tests counted
+
+pub one-le : (t : Bool) → one t ≤ 1
+one-le true = omega arith
+one-le false = omega arith
+
+pub sum-ones : (n : ℕ) → sum n (λ k. 1) ≡ n
+unfolding sum
+sum-ones zero = refl
+sum-ones (suc n) = omega (arith, sum-ones n)
+
+pub count-le : (n : ℕ) (p : ℕ → Bool) → sum n (λ k. one (p k)) ≤ n
+count-le n p = omega (arith, sum-le n (λ k. one (p k)) (λ k. 1) (λ k l. one-le (p k)), sum-ones n)
+
+-- one of n numbers is x
+pub sum-once : (n x : ℕ) → x < n → sum n (λ e. one (eqb e x)) ≡ 1
+unfolding sum
+sum-once zero x h = absurd (omega arith)
+sum-once (suc n) x h = go (ℕ-discrete n x) (sum-once n x)
+  where
+    go : Dec (n ≡ x) → (x < n → sum n (λ e. one (eqb e x)) ≡ 1) → sum n (λ e. one (eqb e x)) + one (eqb n x) ≡ 1
+    go (yes q) ih = omega (arith, sum-zero n (λ e. one (eqb e x)) (λ k l. ap one (ne-eqb k x (λ r. omega arith))), ap one (eq-eqb n x q))
+    go (no q) ih = omega (arith, ih (omega arith), ap one (ne-eqb n x q))

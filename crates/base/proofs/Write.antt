@@ -2,7 +2,7 @@
 use mathlib.Core.Path.{_≡_, refl, sym, ap, ap₂, _∙_, subst}
 use mathlib.Core.Bool.{Bool, true, false}
 use mathlib.Core.List.{List, [], _∷_, _++_, append-assoc, append-nil}
-use Prim.Native.Nat.{ℕ, zero, suc, _+_, _≤_, _<_}
+use Prim.Native.Nat.{ℕ, zero, suc, _+_, _-_, _≤_, _<_}
 use native.Mathlib.Omega.{arith}
 use native.Mathlib.Numerals.{add-one}
 use native.Mathlib.Decide.{ℕ-discrete}
@@ -57,10 +57,25 @@ cat-add a (suc b) f =
     ∙ ap (λ (l : List ℕ). l ++ f (a + b)) (cat-add a b f)
     ∙ append-assoc (cat a f) (cat b (λ k. f (a + k))) (f (a + b))
 
+-- one of joined lists, with those before it and those behind it
+pub cat-split : (n i : ℕ) (f : ℕ → List ℕ) → i < n → cat n f ≡ cat i f ++ (f i ++ cat (n - suc i) (λ k. f (suc i + k)))
+unfolding cat
+cat-split n i f h =
+    let e : n ≡ suc i + (n - suc i) = omega arith in
+    ap (λ (k : ℕ). cat k f) e
+    ∙ cat-add (suc i) (n - suc i) f
+    ∙ append-assoc (cat i f) (f i) (cat (n - suc i) (λ k. f (suc i + k)))
+
 pub length-cat : (n : ℕ) (f : ℕ → List ℕ) → length (cat n f) ≡ sum n (λ k. length (f k))
 unfolding cat sum
 length-cat zero f = refl
 length-cat (suc n) f = length-append (cat n f) (f n) ∙ ap (λ (k : ℕ). k + length (f n)) (length-cat n f)
+
+-- lists of one number each
+pub singles-length : (n : ℕ) (f : ℕ → ℕ) → length (cat n (λ k. f k ∷ [])) ≡ n
+unfolding cat
+singles-length zero f = refl
+singles-length (suc n) f = length-append (cat n (λ k. f k ∷ [])) (f n ∷ []) ∙ omega (arith, singles-length n f)
 
 pub cat-room : (m i : ℕ) (f : ℕ → List ℕ) → i < m → length (cat i f) + length (f i) ≤ length (cat m f)
 unfolding cat

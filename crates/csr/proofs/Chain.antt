@@ -9,7 +9,8 @@ use native.Mathlib.Decide.{ℕ-discrete}
 use borrow.Author.Tests.{ne-eqb, eq-eqb}
 use lib.Dec.{eqb}
 use Rattle.csr.specs.Pattern.{neighbours, stored}
-use Rattle.csr.specs.Chain.{Chain, stored-diag, off-diag}
+use Rattle.csr.specs.Chain.{Chain}
+use Rattle.csr.proofs.Rule.{stored-diag, off-diag}
 use Rattle.csr.specs.Walks.{fill→walk, walk→fill, neighbours-sym}
 use Rattle.csr.specs.Factor.{chain?, said, factorHas}
 

@@ -1,6 +1,6 @@
 -- A loop that looks for the first number below m at which p holds: what one turn, a find and the end show. Assumes nothing.
 use mathlib.Core.Path.{_≡_, refl, sym, _∙_, ap}
-use mathlib.Core.Bool.{Bool, true, false, cond}
+use mathlib.Core.Bool.{Bool, true, false, cond, true≢false}
 use Prim.Native.Nat.{ℕ, zero, suc, _+_, _-_, _≤_, _<_}
 use native.Mathlib.Numerals.{add-one}
 use native.Mathlib.Omega.{arith}
@@ -66,3 +66,20 @@ all-false p (suc f) i k h l u = at-one p f i k (all-false p f) (p i) refl h (dec
 pub none-below : (p : ℕ → Bool) (m k : ℕ) → ltb (firstFrom p 0 m) m ≡ false → k < m → p k ≡ false
 unfolding AllFalse
 none-below p m k h l = all-false p m 0 k (omega (arith, ltb-false (firstFrom p 0 m) m h)) (omega arith) (omega arith)
+
+first-end : (p : ℕ → Bool) (i f : ℕ) → ((k : ℕ) → i ≤ k → k < i + f → p k ≡ false) → firstFrom p i f ≡ i + f
+unfolding firstFrom
+first-end p i zero h = omega arith
+first-end p i (suc f) h = rw (h i (omega arith) (omega arith)) (first-end p (suc i) f (λ k a b. h k (omega arith) (omega arith)) ∙ omega arith)
+
+-- p holds at no number below m
+pub first-none : (p : ℕ → Bool) (m : ℕ) → ((k : ℕ) → k < m → p k ≡ false) → ltb (firstFrom p 0 m) m ≡ false
+first-none p m h = le-ltb (firstFrom p 0 m) m (omega (arith, first-end p 0 m (λ k a b. h k (omega arith))))
+
+-- p holds at one
+pub first-some : (p : ℕ → Bool) (m i : ℕ) → i < m → p i ≡ true → ltb (firstFrom p 0 m) m ≡ true
+first-some p m i l e = go (ltb (firstFrom p 0 m) m) refl
+  where
+    go : (t : Bool) → ltb (firstFrom p 0 m) m ≡ t → ltb (firstFrom p 0 m) m ≡ true
+    go true q = q
+    go false q = absurd (true≢false (sym e ∙ none-below p m i q l))

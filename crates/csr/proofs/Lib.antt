@@ -1,5 +1,7 @@
 pub mod Chain
 pub mod Examples
 pub mod First
+pub mod Has
 pub mod Right
+pub mod Rule
 pub mod Yes

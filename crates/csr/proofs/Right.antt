@@ -1,7 +1,7 @@
 -- What a yes at question 3 says of the offsets. Assumes nothing.
-use mathlib.Core.Path.{_≡_, refl, ap}
+use mathlib.Core.Path.{_≡_, ap}
 use mathlib.Core.List.{List}
-use mathlib.Core.Bool.{Bool, true, false, not, _&&_}
+use mathlib.Core.Bool.{true, not, _&&_}
 use Prim.Native.Nat.{ℕ, zero, suc, _+_, _-_, _≤_}
 use native.Mathlib.Omega.{arith}
 use borrow.Author.Tests.{eqb-true, ltb-false, not-true}
@@ -10,17 +10,7 @@ use lib.ListN.{length, getD}
 use Rattle.csr.specs.Questions.{firstFrom, falls, offsetsRight}
 use Rattle.csr.specs.Csr.{Offsets}
 use Rattle.csr.proofs.First.{none-below}
-
-pub and-left : (a b : Bool) → (a && b) ≡ true → a ≡ true
-and-left true b h = refl
-and-left false b h = h
-
-pub and-right : (a b : Bool) → (a && b) ≡ true → b ≡ true
-and-right true b h = h
-and-right false b h = absurd-false h
-  where
-    absurd-false : false ≡ true → b ≡ true
-    absurd-false q = cc
+use Rattle.base.proofs.Bools.{and-left, and-right}
 
 pub right : (m : ℕ) (offsets : List ℕ) (t values : ℕ) → offsetsRight m offsets t values ≡ true → Offsets m offsets t
 unfolding offsetsRight

@@ -1,36 +1,40 @@
 -- A yes to questions 1 to 5 is an accepted matrix. Assumes nothing.
 use mathlib.Core.Path.{_≡_, refl}
 use mathlib.Core.List.{List, [], _∷_}
-use mathlib.Core.Bool.{Bool, true, false, not, _&&_, _||_}
+use mathlib.Core.Bool.{Bool, true, false, not, _&&_}
 use Prim.Native.Nat.{ℕ, suc, _+_, _-_, _≤_, _<_}
 use native.Mathlib.Omega.{arith}
-use borrow.Author.Tests.{eqb-false, leb-true, leb-false, lt-ltb, not-true}
-use lib.Dec.{leb, ltb}
+use borrow.Author.Tests.{eqb-true, eqb-false, leb-true, leb-false, lt-ltb, not-true}
+use lib.Dec.{eqb, leb, ltb}
 use lib.ListN.{length, getD}
 use Rattle.csr.specs.Pattern.{row}
 use Rattle.base.specs.Numbers.{Below, Under, Rising}
 use Rattle.csr.specs.Csr.{Csr, Offsets, Accepted}
 use Rattle.csr.specs.Verdict.{Verdict, passed, refused, ask}
-use Rattle.csr.specs.Questions.{firstFrom, empty, badAt, badRow, offsetsRight, firstNo}
+use Rattle.csr.specs.Questions.{maxEntries, firstFrom, falls, empty, badAt, badRow, offsetsRight, firstNo}
 use Rattle.csr.proofs.First.{none-below}
-use Rattle.csr.proofs.Right.{right, within, and-left, and-right}
+use Rattle.csr.proofs.Right.{right, within}
+use Rattle.base.proofs.Bools.{and-left, and-right, or-none}
 
 -- a question before a pass got a yes
-asked : (t : Bool) (next : Verdict) (q p l : ℕ) → ask t next (refused q p l) ≡ passed → (t ≡ true) × (next ≡ passed)
+pub asked : (t : Bool) (next : Verdict) (q p l : ℕ) → ask t next (refused q p l) ≡ passed → (t ≡ true) × (next ≡ passed)
 asked true next q p l e = (refl, e)
 asked false next q p l e = let z : _≡_ {A = ℕ} 0 1 = cc in absurd (omega arith)
-
-or-first : (a b : Bool) → a || b ≡ false → a ≡ false
-or-first true b e = e
-or-first false b e = refl
-
-or-second : (a b : Bool) → a || b ≡ false → b ≡ false
-or-second true b e = let z : true ≡ false = e in cc
-or-second false b e = e
 
 and-second : (a b : Bool) → a ≡ true → a && b ≡ false → b ≡ false
 and-second true b h e = e
 and-second false b h e = let z : false ≡ true = h in cc
+
+-- question 3 asks for as many values as there are columns listed
+pub values-of : (m n : ℕ) (off cols : List ℕ) (values : ℕ) → firstNo m n off cols values ≡ passed → values ≡ length cols
+unfolding firstNo offsetsRight
+values-of m n off cols values h =
+    let h1 = asked (leb 1 m && leb m 256) _ 1 0 0 h in
+    let h2 = asked (leb 1 n && leb n 1024) _ 2 0 0 (h1 .1) in
+    let h3 = asked (offsetsRight m off (length cols) values) _ 3 0 0 (h2 .1) in
+    let others =
+    eqb (length off) (m + 1) && eqb (getD off 0 0) 0 && not (ltb (firstFrom (falls off) 0 m) m) && eqb (getD off m 0) (length cols) && not (ltb maxEntries (length cols)) in
+    eqb-true values (length cols) (and-right others (eqb values (length cols)) (h3 .0))
 
 -- each number of a list is below n
 Small : ℕ → List ℕ → Type 0
@@ -71,7 +75,7 @@ fine-at n r h k l = none-below (badAt n r) (length r) k h l
 
 small : (n : ℕ) (r : List ℕ) → badRow n r ≡ false → Small n r
 unfolding Small
-small n r h k l = leb-false n (getD r k 0) (or-first (leb n (getD r k 0)) _ (fine-at n r h k l))
+small n r h k l = leb-false n (getD r k 0) (or-none (leb n (getD r k 0)) _ (fine-at n r h k l) .0)
 
 steps : (n : ℕ) (r : List ℕ) → badRow n r ≡ false → Steps r
 unfolding Steps
@@ -79,7 +83,7 @@ steps n r h k l =
     let back : suc k - 1 ≡ k = omega arith in
     let up = leb (getD r (suc k) 0) (getD r (suc k - 1) 0) in
     rw back at (leb-false (getD r (suc k) 0) (getD r (suc k - 1) 0)
-    (and-second (ltb 0 (suc k)) up (lt-ltb 0 (suc k) (omega arith)) (or-second (leb n (getD r (suc k) 0)) (ltb 0 (suc k) && up) (fine-at n r h (suc k) l))))
+    (and-second (ltb 0 (suc k)) up (lt-ltb 0 (suc k) (omega arith)) (or-none (leb n (getD r (suc k) 0)) (ltb 0 (suc k) && up) (fine-at n r h (suc k) l) .1)))
 
 module _ (m n : ℕ) (off cols : List ℕ) where
   -- no row is empty, none is bad
@@ -135,8 +139,6 @@ module _ (m n : ℕ) (off cols : List ℕ) where
         last = r .offsets .last;
         wide = r .columns .1;
         within = λ i l. below n (row off cols i) (small n (row off cols i) (r .good i l));
-        rows = r .rows .0;
-        columns = r .columns .0;
         filled = λ i l.
             let up = r .offsets .rises i l in
             let ne = eqb-false (getD off (i + 1) 0) (getD off i 0) (r .filled i l) in

@@ -29,6 +29,4 @@ pub record Accepted (off cols : List ℕ) (m n : ℕ) : Type 0 where
   pub last : getD off m 0 ≡ length cols
   pub wide : n ≤ 1024
   pub within : (i : ℕ) → i < m → Below n (row off cols i)
-  pub rows : 1 ≤ m
-  pub columns : 1 ≤ n
   pub filled : (i : ℕ) → i < m → getD off i 0 < getD off (i + 1) 0

@@ -11,16 +11,15 @@ use borrow.Author.Tests.{ne-eqb}
 use lib.Dec.{eqb}
 use Rattle.base.proofs.Bools.{or-left, or-right, or-out, and-in, and-out, and-comm}
 use Rattle.csr.specs.Pattern.{fill, has, shares, row, neighbours}
-use Rattle.csr.specs.Chain.{Linked, Walk, fill-nb}
+use Rattle.csr.specs.Chain.{Linked, Walk}
 use Rattle.base.specs.Numbers.{Below}
+use Rattle.base.proofs.Numbers.{below-join, below-more}
 
-below-weaken : (b : ℕ) (ks : List ℕ) → Below b ks → Below (suc b) ks
-below-weaken b [] h = tt
-below-weaken b (k ∷ ks) h = (omega arith, below-weaken b ks (h .1))
-
-below-join : (b : ℕ) (ks : List ℕ) (k : ℕ) (ls : List ℕ) → Below b ks → k < b → Below b ls → Below b (ks ++ (k ∷ ls))
-below-join b [] k ls h l g = (l, g)
-below-join b (x ∷ ks) k ls h l g = (h .0, below-join b ks k ls (h .1) l g)
+-- neighbours are filled
+pub fill-nb : (nb : ℕ → ℕ → Bool) (b i j : ℕ) → nb i j ≡ true → fill nb b i j ≡ true
+unfolding fill
+fill-nb nb zero i j e = e
+fill-nb nb (suc b) i j e = or-left (fill nb b i j) (fill nb b i b && fill nb b j b) (fill-nb nb b i j e)
 
 module _ (nb : ℕ → ℕ → Bool) (nb-sym : (i j : ℕ) → nb i j ≡ nb j i) where
   fill-sym : (b i j : ℕ) → fill nb b i j ≡ fill nb b j i
@@ -36,11 +35,11 @@ module _ (nb : ℕ → ℕ → Bool) (nb-sym : (i j : ℕ) → nb i j ≡ nb j i
   join b i j p q = record {
     between = p .between ++ (b ∷ q .between);
     linked = linked-join i (p .between) b (q .between) j (p .linked) (q .linked);
-    below = below-join (suc b) (p .between) b (q .between) (below-weaken b (p .between) (p .below)) (omega arith) (below-weaken b (q .between) (q .below));
+    below = below-join (suc b) (p .between) (b ∷ q .between) (below-more b (suc b) (p .between) (omega arith) (p .below)) (omega arith, below-more b (suc b) (q .between) (omega arith) (q .below));
   }
 
   weaken : (b i j : ℕ) → Walk nb b i j → Walk nb (suc b) i j
-  weaken b i j p = record { between = p .between; linked = p .linked; below = below-weaken b (p .between) (p .below) }
+  weaken b i j p = record { between = p .between; linked = p .linked; below = below-more b (suc b) (p .between) (omega arith) (p .below) }
 
   -- what is filled is walked
   pub fill→walk : (b i j : ℕ) → fill nb b i j ≡ true → Walk nb b i j

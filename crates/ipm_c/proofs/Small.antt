@@ -1,19 +1,18 @@
 -- Every answer fits one number: places are below 2 ^ 32, lanes below 2 ^ 8. Assumes nothing.
 use mathlib.Core.Path.{_≡_, refl, _∙_, ap}
 use mathlib.Core.Bool.{Bool, true, false, not, cond, _&&_, _||_}
-use mathlib.Core.List.{List, [], _∷_}
+use mathlib.Core.List.{List}
 use Prim.Native.Nat.{ℕ, zero, suc, _+_, _-_, _*_, _^_, _≤_, _<_}
 use native.Mathlib.Omega.{arith}
 use lib.Dec.{eqb, leb, ltb}
 use borrow.Author.Tests.{leb-true}
-use lib.ListN.{length, getD, drop, length-take, length-drop}
-use Rattle.base.specs.Sums.{one, sum}
-use Rattle.csr.specs.Counts.{common, isStored, countE, countS, countD, sizeW}
-use Rattle.csr.specs.Pattern.{has, row}
+use lib.ListN.{length}
+use Rattle.csr.specs.Counts.{countE, sizeW}
+use Rattle.csr.specs.Pattern.{row}
 use Rattle.csr.specs.Verdict.{Verdict, passed, planned, accepted, refused, ask, andThen}
 use Rattle.csr.specs.Questions.{firstFrom, empty, badRow, offsetsRight, firstNo}
 use Rattle.csr.specs.Csr.{Accepted}
-use Rattle.csr.proofs.Right.{and-right}
+use Rattle.base.proofs.Bools.{and-right}
 use Rattle.csr.proofs.Yes.{accepted-of}
 use Rattle.lanes.specs.Lists.{first}
 use Rattle.lanes.proofs.Lists.{first-le}
@@ -27,6 +26,7 @@ use Rattle.ipm_simd.specs.declared.SolveAnswer.{SolveAnswer}
 use Rattle.ipm_simd.specs.Solve.{Given, call, toldSolve, Solved, outcomeVerdict, lengthsRight, sizesVerdict, memoryVerdict, begun, solveVerdict}
 use Rattle.ipm_simd.proofs.Questions.{sizes-of}
 use Rattle.ipm_c.specs.Packed.{packed, SolvedInOne}
+use Rattle.lists.proofs.Few.{few-stored, few-shared, few-products}
 
 -- what packing asks of an answer
 abbrev pub Small : Verdict → Type 0
@@ -45,52 +45,11 @@ small-then (planned k) w h g = h
 small-then (accepted k) w h g = h
 small-then (refused q p l) w h g = h
 
--- a sum of n numbers up to c
-sum-most : (n c : ℕ) (f : ℕ → ℕ) → ((i : ℕ) → i < n → f i ≤ c) → sum n f ≤ n * c
-unfolding sum
-sum-most zero c f h = omega arith
-sum-most (suc n) c f h = omega (arith, sum-most n c f (λ i l. h i (omega arith)), h n (omega arith))
-
-one-most : (b : Bool) → one b ≤ 1
-one-most true = omega arith
-one-most false = omega arith
-
-common-most : (xs ys : List ℕ) → common xs ys ≤ length xs
-unfolding common
-common-most [] ys = omega arith
-common-most (x ∷ xs) ys = omega (arith, one-most (has ys x), common-most xs ys)
-
-row-most : (off cols : List ℕ) (i : ℕ) → length (row off cols i) ≤ length cols
-unfolding row
-row-most off cols i =
-    let d = drop (getD off i 0) cols in
-    omega (arith, length-take (getD off (i + 1) 0 - getD off i 0) d, length-drop (getD off i 0) cols)
-
-module _ (off cols : List ℕ) (m : ℕ) (few : m ≤ 256) where
-  stored-most : countE off cols m ≤ m * 256
-  unfolding countE isStored
-  stored-most = sum-most m 256 _ (λ i l. omega (arith, sum-most (suc i) 1 (λ j. one (isStored off cols i j)) (λ j _. one-most (isStored off cols i j))))
-
-  shared-most : length cols ≤ 16384 → countS off cols m ≤ m * 4194304
-  unfolding countS
-  shared-most few-entries =
-      sum-most m 4194304 _ (λ i l.
-      omega (arith, sum-most (suc i) 16384 (λ j. common (row off cols i) (row off cols j)) (λ j _. omega (arith, common-most (row off cols i) (row off cols j), row-most off cols i))))
-
-  products-most : countD off cols m ≤ m * 65536
-  unfolding countD isStored
-  products-most =
-      sum-most m 65536 _ (λ i l.
-      omega (arith, sum-most (suc i) 256 (λ j. sum j (λ k. one (isStored off cols i k && isStored off cols j k))) (λ j l′. omega (arith, sum-most j 1 (λ k. one (isStored off cols i k && isStored off cols j k)) (λ k _. one-most (isStored off cols i k && isStored off cols j k))))))
-
 -- W is below 2 ^ 32
 pub words-small : (off cols : List ℕ) (m n : ℕ) → Accepted off cols m n → sizeW off cols m n < 2 ^ 32
 unfolding sizeW
 words-small off cols m n ok =
-    let few = ok .csr .few in
-    let nnz = ok .csr .nnz in
-    let wide = ok .wide in
-    omega (arith, stored-most off cols m few, shared-most off cols m few nnz, products-most off cols m few)
+    omega (arith, ok .csr .few, ok .csr .nnz, ok .wide, few-stored off cols m (ok .csr), few-shared off cols m (ok .csr), few-products off cols m (ok .csr))
 
 first-one : (b : Bool) (i x f : ℕ) → x ≤ suc i + f → cond b i x ≤ i + suc f
 first-one true i x f h = omega arith

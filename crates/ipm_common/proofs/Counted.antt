@@ -2,13 +2,13 @@
 use mathlib.Core.Path.{_≡_, refl, sym, ap, ap₂, _∙_}
 use mathlib.Core.Bool.{Bool, true, false, _&&_}
 use mathlib.Core.List.{List, [], _∷_, _++_}
-use Prim.Native.Nat.{ℕ, zero, suc, _+_, _<_, _≤_}
+use Prim.Native.Nat.{ℕ, zero, suc, _+_, _<_}
 use native.Mathlib.Omega.{arith}
 use native.Mathlib.Decide.{decLt}
 use borrow.Author.Tests.{lt-leb}
 use Rattle.csr.specs.Pattern.{has, row, stored, neighbours}
 use Rattle.base.specs.Sums.{sum, one}
-use Rattle.csr.specs.Counts.{common, isStored, countE, countS, countD}
+use Rattle.csr.specs.Counts.{common, countE, countS, countD}
 use Rattle.pattern.specs.Word.{bit}
 use Rattle.base.proofs.Sums.{sum-ext, sum-cut}
 use Rattle.pattern.proofs.Whole.{count-D}
@@ -31,25 +31,6 @@ common-kept : (h : ℕ → Bool) (n : ℕ) (zs : List ℕ) → common (kept h n)
 unfolding kept cat sum common
 common-kept h zero zs = refl
 common-kept h (suc n) zs = common-join (kept h n) (pick (h n) n) zs ∙ ap₂ _+_ (common-kept h n zs) (common-pick (h n) n zs)
-
-pub and-false : (t : Bool) → t && false ≡ false
-and-false true = refl
-and-false false = refl
-
-one-few : (t : Bool) → one t ≤ 1
-one-few true = omega arith
-one-few false = omega arith
-
-ones-few : (n : ℕ) (h : ℕ → Bool) → sum n (λ j. one (h j)) ≤ n
-unfolding sum
-ones-few zero h = omega arith
-ones-few (suc n) h = omega (arith, ones-few n h, one-few (h n))
-
--- at most one entry for each pair of rows
-pub stored-few : (off cols : List ℕ) (m : ℕ) → countE off cols m ≤ sum m suc
-unfolding countE sum
-stored-few off cols zero = omega arith
-stored-few off cols (suc m) = omega (arith, stored-few off cols m, ones-few (suc m) (isStored off cols m))
 
 module _ (off cols : List ℕ) (m : ℕ) (p lp li : List ℕ) (ready : Ready off cols m p) (v : Rows (bit p) lp li m) where
   -- past its diagonal a row holds nothing

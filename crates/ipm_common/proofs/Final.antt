@@ -12,26 +12,14 @@ use Rattle.ipm_common.specs.Plan.{Tallied, written}
 use Rattle.pattern.specs.Word.{bit}
 use Rattle.base.specs.Cat.{Wrote}
 use Rattle.lists.specs.Lists.{shape, tenOf, sideOf, planOf, planWords, plan-parts}
-use Rattle.lists.specs.Ready.{Ready, Accepted}
+use Rattle.lists.specs.Ready.{Ready}
 use Rattle.lists.specs.declared.Side.the-variants.{Factor, Matrix}
 use Rattle.base.proofs.Write.{wrote-as}
 use Rattle.lists.proofs.Whole.{three, three-length}
-use Rattle.transpose.specs.Bins.{Grid, sideIn}
+use Rattle.transpose.specs.Bins.{sideIn}
 use Rattle.pair_lists.specs.Kept.{Rows}
 use Rattle.pair_lists.proofs.Factor.{side-same}
-use Rattle.ipm_common.proofs.Counted.{and-false}
-
-pub accepted-grid : (off cols : List ℕ) (m n : ℕ) → Accepted off cols m n → Grid off cols m n
-accepted-grid off cols m n a = record {
-  offsets = omega (arith, a .csr .offsets);
-  few = a .csr .few;
-  order = a .csr .order;
-  ends = a .csr .ends;
-  rising = a .csr .rising;
-  nnz = omega (arith, a .csr .nnz);
-  wide = a .wide;
-  within = a .within;
-}
+use Rattle.base.proofs.Bools.{and-false}
 
 module _ (off cols : List ℕ) (m n : ℕ) (p lp li : List ℕ) (ready : Ready off cols m p) (v : Rows (bit p) lp li m) where
   pub plan-long : length (planOf (shape off cols) m n) ≡ length (tenOf (shape off cols) m 10) + length (sideIn lp li m m) + length (sideIn off cols m n)

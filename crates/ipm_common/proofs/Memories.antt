@@ -5,7 +5,7 @@ use Prim.Native.Nat.{ℕ, suc, _+_, _≤_}
 use native.Mathlib.Omega.{arith}
 use lib.ListN.{length}
 use Rattle.base.specs.Sums.{sum}
-use Rattle.pair_lists.proofs.Lists.{tri-le}
+use Rattle.base.proofs.Sums.{sum-more}
 use Rattle.ipm_common.specs.Plan.{Memories}
 
 -- memories for so many rows and columns do for fewer
@@ -14,7 +14,7 @@ pub memories-for : (rows columns entries : ℕ) → sum rows suc ≡ entries →
     → Memories m n lp li mark next again
 memories-for rows columns entries e f g m n hm hn lp li mark next again a b c d h = record {
   starts = omega arith;
-  columns = omega (arith, tri-le m rows hm);
+  columns = omega (arith, sum-more m rows suc hm);
   short = omega arith;
   marks = omega arith;
   counts = record { rows = omega arith; columns = omega arith };

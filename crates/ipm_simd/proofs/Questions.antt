@@ -1,37 +1,19 @@
 -- What a yes at each of the questions says. Assumes nothing.
-use mathlib.Core.Path.{_≡_, refl, sym, _∙_}
-use mathlib.Core.Bool.{Bool, true, false, not, _&&_}
-use mathlib.Core.List.{List}
+use mathlib.Core.Path.{_≡_, refl, sym}
+use mathlib.Core.Bool.{true, false, _&&_}
 use Prim.Native.Nat.{ℕ, _+_, _-_, _*_, _/_, _≤_, _<_}
 use native.Mathlib.Omega.{arith}
 use borrow.Author.Tests.{eqb-true, leb-true, le-leb, eq-eqb}
-use lib.Dec.{eqb, leb, ltb}
-use lib.ListN.{length, getD}
-use Rattle.csr.specs.Verdict.{Verdict, passed, refused, ask}
-use Rattle.csr.specs.Questions.{maxEntries, firstFrom, falls, firstNo, offsetsRight}
-use Rattle.csr.proofs.Right.{and-left, and-right}
+use lib.Dec.{eqb, leb}
+use Rattle.csr.specs.Verdict.{passed, refused}
+use Rattle.base.proofs.Bools.{and-left, and-right}
 use Rattle.machine.specs.Outcome.{largestLimit}
 use Rattle.ipm_simd.specs.Solve.{lengthsRight, roomFor, sizesVerdict}
 use Rattle.ipm_simd.specs.Parts.{EntriesBelow}
+use Rattle.csr.proofs.Yes.{asked}
 
 pub not-passed : (q p l : ℕ) → refused q p l ≡ passed → ⊥
 not-passed q p l h = let z : _≡_ {A = ℕ} 0 1 = cc in omega arith
-
--- a question whose no is not the answer got a yes
-asked : (t : Bool) (next : Verdict) (q p l : ℕ) → ask t next (refused q p l) ≡ passed → (t ≡ true) × (next ≡ passed)
-asked true next q p l h = (refl, h)
-asked false next q p l h = let z : _≡_ {A = ℕ} 0 1 = cc in absurd (omega arith)
-
--- question 3 asks for as many values as there are columns listed
-pub values-of : (m n : ℕ) (off cols : List ℕ) (values : ℕ) → firstNo m n off cols values ≡ passed → values ≡ length cols
-unfolding firstNo offsetsRight
-values-of m n off cols values h =
-    let h1 = asked (leb 1 m && leb m 256) _ 1 0 0 h in
-    let h2 = asked (leb 1 n && leb n 1024) _ 2 0 0 (h1 .1) in
-    let h3 = asked (offsetsRight m off (length cols) values) _ 3 0 0 (h2 .1) in
-    let others =
-    eqb (length off) (m + 1) && eqb (getD off 0 0) 0 && not (ltb (firstFrom (falls off) 0 m) m) && eqb (getD off m 0) (length cols) && not (ltb maxEntries (length cols)) in
-    eqb-true values (length cols) (and-right others (eqb values (length cols)) (h3 .0))
 
 -- question 8, of three lengths that are right and a fourth
 pub lengths-last : (m n b c tolerances output : ℕ) → b ≡ 4 * m → c ≡ 4 * n → tolerances ≡ 12 → eqb output (4 * n) ≡ lengthsRight m n b c tolerances output

@@ -11,6 +11,7 @@ use lib.Ieee.{Float, nan, inf, fin, binary64, fits, lt, eq, neg, ofBits, up, dow
 use lib.Ieee.Fits.{up-pos}
 use borrow.Author.Tests.{eq-eqb, eqb-true, ltb-true, ltb-false}
 use Rattle.lanes.specs.Arithmetic.{magnitude}
+use Rattle.base.proofs.Bools.{and-left}
 
 zero64 : Float
 zero64 = fin false 0 (pos 0)
@@ -37,10 +38,6 @@ unit : (e : ℤ) → up e * down e ≡ 1 → e ≡ pos 0
 unit (pos zero) h = refl
 unit (pos (suc k)) h = let l : 2 ^ 0 < 2 ^ suc k = pow-lt (zero-lt-suc k) in absurd (omega arith)
 unit (negsuc k) h = let l : 2 ^ 0 < 2 ^ suc k = pow-lt (zero-lt-suc k) in absurd (omega arith)
-
-and-left : (a b : Bool) → a && b ≡ true → a ≡ true
-and-left true b h = refl
-and-left false b h = absurd (false≢true h)
 
 zero-size : (x : Float) → T (fits binary64 x) → eq x (fin false 0 (pos 0)) ≡ true → fin false 0 (pos 0) ≡ magnitude x
 unfolding eq magnitude fits

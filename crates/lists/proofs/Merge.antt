@@ -12,20 +12,13 @@ use Rattle.base.specs.Sums.{one}
 use Rattle.base.specs.Numbers.{Under, Rising}
 use Rattle.base.specs.Cat.{pick}
 use Rattle.lists.specs.Lists.{both, find, zeroIf}
-
-absent : (x : ℕ) (zs : List ℕ) → Under x zs → has zs x ≡ false
-unfolding has
-absent x [] h = refl
-absent x (z ∷ zs) h = rw (ne-eqb x z (λ e. omega (arith, h .0))) (absent x zs (h .1))
+use Rattle.base.proofs.Numbers.{under-at, under-trans}
+use Rattle.csr.proofs.Has.{absent}
 
 skip : (y : ℕ) (zs ys : List ℕ) → Under y zs → both zs (y ∷ ys) ≡ both zs ys
 unfolding both has
 skip y [] ys h = refl
 skip y (z ∷ zs) ys h = rw (ne-eqb z y (λ e. omega (arith, h .0))) (ap (λ (l : List ℕ). pick (has ys z) z ++ l) (skip y zs ys (h .1)))
-
-under-trans : (x y : ℕ) (ys : List ℕ) → x < y → Under y ys → Under x ys
-under-trans x y [] l h = tt
-under-trans x y (z ∷ ys) l h = (omega (arith, h .0), under-trans x y ys l (h .1))
 
 pub both-eq : (x : ℕ) (xs ys : List ℕ) → Under x xs → both (x ∷ xs) (x ∷ ys) ≡ x ∷ both xs ys
 unfolding both has
@@ -51,11 +44,6 @@ length-both (x ∷ xs) ys = go (has ys x) (length-both xs ys)
     go : (t : Bool) → length (both xs ys) ≡ common xs ys → length (pick t x ++ both xs ys) ≡ one t + common xs ys
     go true ih = omega (arith, ih)
     go false ih = omega (arith, ih)
-
-under-at : (x : ℕ) (xs : List ℕ) (i : ℕ) → Under x xs → i < length xs → x < getD xs i 0
-under-at x [] i h l = absurd (omega arith)
-under-at x (y ∷ xs) zero h l = h .0
-under-at x (y ∷ xs) (suc i) h l = under-at x xs i (h .1) (omega arith)
 
 pub find-at : (a : List ℕ) (i : ℕ) → Rising a → i < length a → find (getD a i 0) a ≡ i
 unfolding find

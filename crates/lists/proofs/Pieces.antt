@@ -14,6 +14,7 @@ use Rattle.lists.specs.declared.Which.the-variants.{AnormIndptr, AnormIn
 use Rattle.lists.specs.declared.Take.the-variants.{Left, Right, Column}
 use Rattle.base.proofs.Write.{cat-ext}
 use Rattle.lists.proofs.Counts.{bit-held, lplace-from}
+use Rattle.base.proofs.Bools.{and-comm}
 
 pub map-join : (h : ℕ → ℕ) (xs ys : List ℕ) → map h (xs ++ ys) ≡ map h xs ++ map h ys
 map-join h [] ys = refl
@@ -31,12 +32,6 @@ pub map-cat : (h : ℕ → ℕ) (n : ℕ) (f : ℕ → List ℕ) → map h (cat 
 unfolding cat
 map-cat h zero f = refl
 map-cat h (suc n) f = map-join h (cat n f) (f n) ∙ ap (λ (l : List ℕ). l ++ map h (f n)) (map-cat h n f)
-
-and-comm : (a b : Bool) → a && b ≡ b && a
-and-comm true true = refl
-and-comm true false = refl
-and-comm false true = refl
-and-comm false false = refl
 
 module _ (off cols : List ℕ) (m : ℕ) (p : List ℕ) (ready : Ready off cols m p) where
   -- the places in row r of the k that two rows hold

@@ -1,6 +1,6 @@
 -- T-07: with rows appended, each of the ten lists of pairs is the first part of the new one. Assumes nothing.
 use mathlib.Core.Path.{_≡_, refl, sym, ap, ap₂, _∙_}
-use mathlib.Core.Bool.{Bool, true, false, _&&_, _||_}
+use mathlib.Core.Bool.{Bool, _&&_, _||_}
 use mathlib.Core.List.{List, [], _∷_, _++_, map, append-assoc}
 use Prim.Native.Nat.{ℕ, zero, suc, _+_, _-_, _<_, _≤_}
 use native.Mathlib.Omega.{arith}
@@ -17,7 +17,7 @@ use Rattle.lists.specs.Lists.{Shape, shape, weight, lplace, place, befor
 use Rattle.lists.specs.declared.Which.{Which}
 use Rattle.lists.specs.declared.Which.the-variants.{AnormIndptr, AnormIndptrI, AnormIndptrJ, AnormIndices, LdecompIndptr, LdecompIndptrI, LdecompIndptrJ, Lindptr, LdiagIndptr, Lindices}
 use Rattle.base.proofs.Write.{cat-ext, cat-add}
-use Rattle.lists.proofs.Pieces.{map-cat}
+use Rattle.lists.proofs.Pieces.{map-cat, map-pick}
 
 before-ext : (v w : ℕ → ℕ → ℕ) (i j : ℕ) → ((a b : ℕ) → a ≤ i → b ≤ a → v a b ≡ w a b) → j ≤ suc i → before v i j ≡ before w i j
 unfolding before
@@ -74,10 +74,6 @@ module _ (g h : Shape) (m : ℕ) (same : Agree g h m) where
   map-ext : (f f′ : ℕ → ℕ) (xs : List ℕ) → ((x : ℕ) → f x ≡ f′ x) → map f xs ≡ map f′ xs
   map-ext f f′ [] e = refl
   map-ext f f′ (x ∷ xs) e = ap₂ _∷_ (e x) (map-ext f f′ xs e)
-
-  map-pick : (f : ℕ → ℕ) (t : Bool) (x : ℕ) → map f (pick t x) ≡ pick t (f x)
-  map-pick f true x = refl
-  map-pick f false x = refl
 
   -- the products' places, in row r, which is i or j
   same-products : (r i j : ℕ) → r < m → j ≤ r → i < m → j ≤ i → map (lplace g r) (products g i j) ≡ map (lplace h r) (products h i j)

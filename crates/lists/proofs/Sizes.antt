@@ -1,6 +1,6 @@
 -- How long the sixteen lists are: W words in all. Assumes nothing.
 use mathlib.Core.Path.{_≡_, refl, sym, ap, ap₂, _∙_}
-use mathlib.Core.Bool.{Bool, true, false, _&&_, _||_}
+use mathlib.Core.Bool.{Bool, true, _&&_, _||_}
 use mathlib.Core.List.{List, [], _∷_, map}
 use Prim.Native.Nat.{ℕ, zero, suc, _+_, _-_, _*_, _<_, _≤_}
 use native.Mathlib.Omega.{arith}
@@ -10,10 +10,10 @@ use lib.Dec.{eqb, leb}
 use lib.ListN.{length, getD, length-map}
 use borrow.Author.Tests.{eq-eqb, ne-eqb, lt-leb}
 use Rattle.csr.specs.Pattern.{has, row}
-use Rattle.base.specs.Numbers.{Below, Under, Rising}
+use Rattle.base.specs.Numbers.{Below, Rising}
 use Rattle.base.specs.Sums.{sum, one}
 use Rattle.csr.specs.Counts.{common, isStored, countE, countS, countD, sizeW}
-use Rattle.base.proofs.Sums.{sum-ext, sum-add}
+use Rattle.base.proofs.Sums.{sum-ext, sum-add, sum-zero, sum-plus, sum-swap, sum-ones, sum-once}
 use Rattle.pattern.proofs.Seed.{row-is}
 use Rattle.base.specs.Cat.{cat, pick, pairs}
 use Rattle.lists.specs.Ready.{Accepted}
@@ -22,45 +22,14 @@ use Rattle.lists.specs.declared.Which.{Which}
 use Rattle.lists.specs.declared.Which.the-variants.{AnormIndptr, AnormIndptrI, AnormIndptrJ, AnormIndices, LdecompIndptr, LdecompIndptrI, LdecompIndptrJ, Lindptr, LdiagIndptr, Lindices}
 use Rattle.lists.specs.declared.Side.{Side}
 use Rattle.lists.specs.declared.Side.the-variants.{Factor, Matrix}
-use Rattle.lists.specs.declared.What.{What}
 use Rattle.lists.specs.declared.What.the-variants.{Numbers, Places}
 use Rattle.base.proofs.Write.{length-cat, length-pick}
 use Rattle.lists.proofs.Merge.{length-both}
 use Rattle.lists.proofs.Spans.{span}
 use Rattle.lists.proofs.Whole.{three-length, side-is}
+use Rattle.csr.proofs.Has.{absent}
 
 -- ---- sums
-
-sum-plus : (n : ℕ) (f g : ℕ → ℕ) → sum n (λ k. f k + g k) ≡ sum n f + sum n g
-unfolding sum
-sum-plus zero f g = refl
-sum-plus (suc n) f g = omega (arith, sum-plus n f g)
-
-sum-none : (n : ℕ) (f : ℕ → ℕ) → ((k : ℕ) → k < n → f k ≡ 0) → sum n f ≡ 0
-unfolding sum
-sum-none zero f h = refl
-sum-none (suc n) f h = omega (arith, sum-none n f (λ k l. h k (omega arith)), h n (omega arith))
-
-sum-ones : (n : ℕ) → sum n (λ k. 1) ≡ n
-unfolding sum
-sum-ones zero = refl
-sum-ones (suc n) = omega (arith, sum-ones n)
-
--- rows before columns, or columns before rows
-sum-swap : (n m : ℕ) (f : ℕ → ℕ → ℕ) → sum n (λ e. sum m (λ i. f i e)) ≡ sum m (λ i. sum n (λ e. f i e))
-unfolding sum
-sum-swap zero m f = sym (sum-none m (λ i. 0) (λ k l. refl))
-sum-swap (suc n) m f = ap (λ (x : ℕ). x + sum m (λ i. f i n)) (sum-swap n m f) ∙ sym (sum-plus m (λ i. sum n (λ e. f i e)) (λ i. f i n))
-
--- one of n numbers is x
-sum-once : (n x : ℕ) → x < n → sum n (λ e. one (eqb e x)) ≡ 1
-unfolding sum
-sum-once zero x h = absurd (omega arith)
-sum-once (suc n) x h = go (ℕ-discrete n x) (sum-once n x)
-  where
-    go : Dec (n ≡ x) → (x < n → sum n (λ e. one (eqb e x)) ≡ 1) → sum n (λ e. one (eqb e x)) + one (eqb n x) ≡ 1
-    go (yes q) ih = omega (arith, sum-none n (λ e. one (eqb e x)) (λ k l. ap one (ne-eqb k x (λ r. omega arith))), ap one (eq-eqb n x q))
-    go (no q) ih = omega (arith, ih (omega arith), ap one (ne-eqb n x q))
 
 -- ---- pairs
 
@@ -126,10 +95,6 @@ sizeOf Lindptr m e s d = m + 1
 sizeOf LdiagIndptr m e s d = m
 sizeOf Lindices m e s d = e
 
-map-self : (xs : List ℕ) → map (λ e. e) xs ≡ xs
-map-self [] = refl
-map-self (x ∷ xs) = ap (λ (l : List ℕ). x ∷ l) (map-self xs)
-
 module _ (off cols : List ℕ) (m : ℕ) where
   pub size-list : (w : Which) → length (listOf (shape off cols) w m) ≡ sizeOf w m (countE off cols m) (countS off cols m) (countD off cols m)
   unfolding listOf piece
@@ -164,15 +129,10 @@ unfolding columnEnds
 length-ends mem m n =
     omega (arith, length-cat n (λ e. sum (suc e) (inColumn mem m) ∷ []), sum-ext n (λ e. length (sum (suc e) (inColumn mem m) ∷ [])) (λ e. 1) (λ k l. refl), sum-ones n)
 
-absent : (x : ℕ) (zs : List ℕ) → Under x zs → has zs x ≡ false
-unfolding has
-absent x [] h = refl
-absent x (z ∷ zs) h = rw (ne-eqb x z (λ e. omega (arith, h .0))) (absent x zs (h .1))
-
 -- a rising row below n has each of its columns once
 row-ones : (n : ℕ) (xs : List ℕ) → Rising xs → Below n xs → sum n (λ e. one (has xs e)) ≡ length xs
 unfolding has
-row-ones n [] h b = sum-none n (λ e. 0) (λ k l. refl)
+row-ones n [] h b = sum-zero n (λ e. 0) (λ k l. refl)
 row-ones n (x ∷ xs) h b =
     sum-ext n (λ e. one (eqb e x || has xs e)) (λ e. one (eqb e x) + one (has xs e)) (λ e l. apart e (ℕ-discrete e x))
     ∙ sum-plus n (λ e. one (eqb e x)) (λ e. one (has xs e))
@@ -208,7 +168,7 @@ module _ (off cols : List ℕ) (m n : ℕ) (ok : Accepted off cols m n) where
           ∙ sum-add (suc i) (m - suc i) (λ e. one ((shape off cols) .held i e))
           ∙ ap₂ _+_
           (sum-ext (suc i) (λ e. one ((shape off cols) .held i e)) (λ j. one (isStored off cols i j)) (λ j k. held-one off cols m i j (omega arith)))
-          (sum-none (m - suc i) (λ k. one ((shape off cols) .held i (suc i + k))) (λ k h. ap (λ (t : Bool). one (t && isStored off cols i (suc i + k))) (lt-leb (suc i + k) i (omega arith))))
+          (sum-zero (m - suc i) (λ k. one ((shape off cols) .held i (suc i + k))) (λ k h. ap (λ (t : Bool). one (t && isStored off cols i (suc i + k))) (lt-leb (suc i + k) i (omega arith))))
           ∙ omega arith
 
   size-side : (s : Side) (c t : ℕ) → sum m (λ i. sum c (λ e. one (holds (shape off cols) s i e))) ≡ t → length (sideOf (shape off cols) s m c) ≡ c + 1 + t + t

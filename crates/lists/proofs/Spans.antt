@@ -5,7 +5,7 @@ use mathlib.Core.List.{List}
 use native.Mathlib.Omega.{arith}
 use lib.ListN.{length, drop, take, getD, length-take, length-drop}
 use Rattle.csr.specs.Csr.{Csr}
-use Rattle.pattern.proofs.Seed.{part-le}
+use Rattle.base.proofs.Numbers.{part-le}
 
 -- a row's two offsets, in order and within the columns
 pub record Span (cols : List ℕ) (f t : ℕ) : Type 0 where

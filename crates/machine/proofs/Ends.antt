@@ -12,6 +12,7 @@ use Rattle.machine.specs.Machine.{Status, spoilt, done, steps}
 use Rattle.machine.specs.Outcome.{Outcome, accepted, noAt11, noAt12, isSpoilt, isDone, lowestSpoilt, lowestUndone, someSpoilt, allDone, outcome, testsMade}
 use Rattle.machine.specs.Ends.{AllDone, SpoiltAt, Finished, Ruined, Ends}
 use Rattle.lanes.proofs.Lists.{first-le, first-none, first-hit, first-under, first-larger}
+use Rattle.base.proofs.Bools.{or-none}
 
 is-spoilt : (t : Status) → isSpoilt t ≡ true → t ≡ spoilt
 is-spoilt spoilt e = refl
@@ -25,10 +26,6 @@ is-done (steps v) e = absurd (true≢false e)
 
 pub both : (t : Status) → t ≡ done → t ≡ spoilt → ⊥
 both t d s = let z : _≡_ {A = ℕ} 0 1 = cc in omega arith
-
-or-false : (a b : Bool) → a || b ≡ false → (a ≡ false) × (b ≡ false)
-or-false true b e = absurd (true≢false e)
-or-false false b e = (refl, e)
 
 or-true : (a b : Bool) → a || b ≡ true → a ≡ false → b ≡ true
 or-true true b e f = absurd (true≢false f)
@@ -91,7 +88,7 @@ module _ (K : ℕ) (says : ℕ → ℕ → Status) where
   quiet N zero h l = absurd (omega arith)
   quiet N (suc i) h l =
       let e : stops i ≡ false = first-none stops N i (omega arith) in
-      let s = or-false (someSpoilt K says (i + 1)) (allDone K says (i + 1)) e in
+      let s = or-none (someSpoilt K says (i + 1)) (allDone K says (i + 1)) e in
       let z : i + 1 ≡ suc i = omega arith in
       (some-no (suc i) (subst (λ (k : ℕ). someSpoilt K says k ≡ false) z (s .0)), all-no (suc i) (subst (λ (k : ℕ). allDone K says k ≡ false) z (s .1)))
 

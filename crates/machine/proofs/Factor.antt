@@ -1,7 +1,7 @@
 -- The factor's and the substitutions' own equations: for a program that keeps them in lists of its own. Assumes nothing.
 use mathlib.Core.Path.{_≡_, refl, sym, ap, _∙_, subst}
 use mathlib.Core.Logic.{_⊎_, inl, inr}
-use mathlib.Core.Bool.{Bool, true, false, cond, _&&_, true≢false, false≢true}
+use mathlib.Core.Bool.{Bool, true, false, cond, _&&_, true≢false}
 use mathlib.Core.List.{List, [], _∷_, _++_}
 use Prim.Native.Nat.{ℕ, zero, suc, _+_, _-_, _≤_, _<_}
 use native.Mathlib.Nat.{eq-or-lt-of-le}
@@ -16,6 +16,7 @@ use Rattle.lanes.specs.Lists.{at, grow, fold, each}
 use Rattle.machine.specs.Machine.{Problem, State, cell, holds, entry, inFactor, reduced, factorEntry, factor, forward}
 use Rattle.lanes.specs.Arithmetic.{null, √, magnitude}
 use Rattle.lanes.proofs.Lists.{grow-length, grow-at}
+use Rattle.base.proofs.Bools.{and-out}
 
 -- ---- folds that do the same
 
@@ -32,10 +33,6 @@ each-same n p f g v h = fold-same n (λ k r. cond (p k) (f k r) r) (λ k r. cond
     go : (k : ℕ) (r : Float) (t : Bool) → (t ≡ true → (r : Float) → f k r ≡ g k r) → cond t (f k r) r ≡ cond t (g k r) r
     go k r true e = e refl r
     go k r false e = refl
-
-and-both : (a b : Bool) → a && b ≡ true → (a ≡ true) × (b ≡ true)
-and-both true b e = (refl, e)
-and-both false b e = absurd (false≢true e)
 
 module _ (A : Problem) (q : State) where
   -- (a, b) stands before (i, j)
@@ -60,7 +57,7 @@ module _ (A : Problem) (q : State) where
         (λ c r. add binary64 r (div binary64 (mul binary64 (mul binary64 (entry A i c) (entry A j c)) (at (q .x) c)) (at (q .z) c)))
         (cond (eqb i j && ltb i (A .s)) (div binary64 (at (q .w) i) (at (q .y) i)) null))
         (λ k b t r.
-        let s = and-both (inFactor A i k) (inFactor A j k) t in
+        let s = and-out (inFactor A i k) (inFactor A j k) t in
         let x : l i k ≡ l' i k = e i k (omega arith) (s .0) (inr (refl, b)) in
         let y : l j k ≡ l' j k = e j k (omega arith) (s .1) (before-row k b (eq-or-lt-of-le h)) in
         ap (λ (z : Float). sub binary64 r (mul binary64 z (l j k))) x ∙ ap (λ (z : Float). sub binary64 r (mul binary64 (l' i k) z)) y)

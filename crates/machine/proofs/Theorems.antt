@@ -7,7 +7,8 @@ use native.Mathlib.Decide.{ℕ-discrete}
 use native.Mathlib.Omega.{arith}
 use lib.Dec.{T}
 use Rattle.csr.specs.Pattern.{neighbours}
-use Rattle.csr.specs.Chain.{Chain, stored-diag}
+use Rattle.csr.specs.Chain.{Chain}
+use Rattle.csr.proofs.Rule.{stored-diag}
 use Rattle.csr.proofs.Chain.{factor-stored}
 use Rattle.machine.specs.Machine.{Problem, LaneData, Settings, Status, status, machine, next, yields, inFactor}
 use Rattle.machine.specs.Outcome.{Call}

@@ -2,7 +2,7 @@
 -- of which the next test's G is a NaN. Assumes nothing.
 use mathlib.Core.Path.{_≡_, refl, sym, ap, _∙_, subst}
 use mathlib.Core.Logic.{_⊎_, inl, inr, ⊎-elim, _≢_}
-use mathlib.Core.Bool.{Bool, true, false, not, cond, _&&_, true≢false, false≢true}
+use mathlib.Core.Bool.{Bool, true, false, not, cond, _&&_, true≢false}
 use mathlib.Core.List.{List}
 use Prim.Native.Nat.{ℕ, zero, suc, _-_, _<_}
 use native.Mathlib.Nat.{eq-or-lt-of-le}
@@ -22,6 +22,7 @@ use Rattle.machine.specs.Work.{stepOf, stepBy}
 use Rattle.machine.specs.Theorems.{Sound, SoundList, SoundState}
 use Rattle.lanes.proofs.Lists.{vec-length, vec-at}
 use Rattle.machine.proofs.Floats.{moved-sound, unmoved, unmoved-nan, add-nan}
+use Rattle.base.proofs.Bools.{and-out}
 
 -- ---- a NaN goes through
 
@@ -81,10 +82,6 @@ start-list n = record { size = vec-length n (λ _. startValue); each = λ k b. s
 
 -- ---- finite lists
 
-and-true : (a b : Bool) → a && b ≡ true → (a ≡ true) × (b ≡ true)
-and-true true b e = (refl, e)
-and-true false b e = absurd (false≢true e)
-
 and-false : (a b : Bool) → a && b ≡ false → (a ≡ false) ⊎ (b ≡ false)
 and-false true b e = inr e
 and-false false b e = inl refl
@@ -92,7 +89,7 @@ and-false false b e = inl refl
 finite-at : (n : ℕ) (v : List Float) → finiteTo n v ≡ true → (k : ℕ) → k < n → finite (at v k) ≡ true
 unfolding finiteTo
 finite-at zero v e k h = absurd (omega arith)
-finite-at (suc n) v e k h = go (λ (p : finiteTo n v ≡ true). finite-at n v p k) (and-true (finiteTo n v) (finite (at v n)) e) (eq-or-lt-of-le h)
+finite-at (suc n) v e k h = go (λ (p : finiteTo n v ≡ true). finite-at n v p k) (and-out (finiteTo n v) (finite (at v n)) e) (eq-or-lt-of-le h)
   where
     go : (finiteTo n v ≡ true → k < n → finite (at v k) ≡ true) → (finiteTo n v ≡ true) × (finite (at v n) ≡ true) → (suc k ≡ suc n) ⊎ (suc k < suc n) → finite (at v k) ≡ true
     go ih p (inl z) = let s : k ≡ n = omega arith in ap (λ (j : ℕ). finite (at v j)) s ∙ p .1
@@ -203,9 +200,9 @@ module _ (A : Problem) (H : Settings) (d : LaneData) where
   pub waited-keeps : (q : State) (r : Direction) → SoundState A q → allFinite A r ≡ true → waited q r ≡ q
   unfolding allFinite
   waited-keeps q r s e =
-      let a = and-true (finiteTo (A .n) (r .dx) && finiteTo (A .n) (r .dz) && finiteTo (A .m) (r .dy)) (finiteTo (A .s) (r .dw)) e in
-      let b = and-true (finiteTo (A .n) (r .dx) && finiteTo (A .n) (r .dz)) (finiteTo (A .m) (r .dy)) (a .0) in
-      let c = and-true (finiteTo (A .n) (r .dx)) (finiteTo (A .n) (r .dz)) (b .0) in
+      let a = and-out (finiteTo (A .n) (r .dx) && finiteTo (A .n) (r .dz) && finiteTo (A .m) (r .dy)) (finiteTo (A .s) (r .dw)) e in
+      let b = and-out (finiteTo (A .n) (r .dx) && finiteTo (A .n) (r .dz)) (finiteTo (A .m) (r .dy)) (a .0) in
+      let c = and-out (finiteTo (A .n) (r .dx)) (finiteTo (A .n) (r .dz)) (b .0) in
       λ i. record {
         x = unmoved-list (A .n) (q .x) (r .dx) (s .x) (c .0) i;
         z = unmoved-list (A .n) (q .z) (r .dz) (s .z) (c .1) i;

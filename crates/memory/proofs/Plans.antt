@@ -12,7 +12,7 @@ use Rattle.lanes.specs.Lanes.{Width, room}
 use Rattle.plan_laws.specs.Prepared.{Prepared}
 use Rattle.plan_laws.specs.Factoring.{Given}
 use Rattle.plan_laws.proofs.Cuts.{prepared-of}
-use Rattle.plan_laws.proofs.Few.{few-stored, few-shared, few-products}
+use Rattle.lists.proofs.Few.{few-stored, few-shared, few-products}
 use Rattle.layout.specs.declared.Plan.{Plan}
 use Rattle.layout.specs.Lists.{Indexed}
 use Rattle.memory.specs.Planned.{Planned, topIn}

@@ -64,7 +64,7 @@ module _ (off cols : List ℕ) (m : ℕ) (p : List ℕ) (ready : Ready off cols 
     unfolding inColumn
     in-same e b = sum-ext m (λ i. one (has (row lp li i) e)) (λ i. one ((shape off cols) .held i e)) (λ i l. ap one (has-held i e l b))
 
-    ends-same : endsOf (shape lp li) Matrix m m ≡ endsOf (shape off cols) Factor m m
+    pub ends-same : endsOf (shape lp li) Matrix m m ≡ endsOf (shape off cols) Factor m m
     unfolding endsOf columnEnds
     ends-same =
         ap (λ (l : List ℕ). 0 ∷ l)
@@ -79,7 +79,7 @@ module _ (off cols : List ℕ) (m : ℕ) (p : List ℕ) (ready : Ready off cols 
     entry-same Numbers i e l b q = refl
     entry-same Places i e l b q = place-held i e l b q
 
-    columns-same : (w : What) → columnsOf (shape lp li) Matrix w m m ≡ columnsOf (shape off cols) Factor w m m
+    pub columns-same : (w : What) → columnsOf (shape lp li) Matrix w m m ≡ columnsOf (shape off cols) Factor w m m
     unfolding columnsOf columns column
     columns-same w =
         cat-ext m (λ e. cat m (λ i. pick (has (row lp li i) e) (entry (shape lp li) Matrix w i e))) (λ e. cat m (λ i. pick ((shape off cols) .held i e) (entry (shape off cols) Factor w i e)))

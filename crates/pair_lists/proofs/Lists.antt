@@ -6,18 +6,22 @@ use Prim.Native.Nat.{ℕ, zero, suc, _+_, _-_, _<_, _≤_}
 use native.Mathlib.Omega.{arith}
 use native.Mathlib.Decide.{ℕ-discrete}
 use lib.Dec.{eqb}
-use borrow.Author.Tests.{eq-eqb, ne-eqb}
+use borrow.Author.Tests.{eq-eqb}
 use lib.ListN.{length, getD, set, take, drop, length-append}
-use lib.Seq.{sets, sets-eq, take-at, drop-at, getD-set-same, getD-set-other}
+use lib.Seq.{sets, sets-eq, getD-set-same, getD-set-other}
 use Rattle.csr.specs.Pattern.{has, row}
-use Rattle.base.specs.Numbers.{Below, Under, Rising}
+use Rattle.base.specs.Numbers.{Below, Rising, cut}
 use Rattle.base.specs.Sums.{sum, one}
-use Rattle.base.proofs.Sums.{sum-ext}
+use Rattle.base.proofs.Sums.{sum-ext, sum-more, sum-room}
 use Rattle.base.specs.Cat.{cat, pick, Wrote}
 use Rattle.lists.specs.Lists.{find, zeroIf}
-use Rattle.base.proofs.Write.{length-cat, cat-next, length-pick, wrote-join, wrote-as}
+use Rattle.base.proofs.Write.{length-cat, cat-next, length-pick, wrote-join, wrote-as, cat-split}
 use Rattle.transpose.specs.Bins.{Grid}
 use Rattle.pair_lists.specs.Kept.{kept, keptRows, Rows}
+use Rattle.base.proofs.Bools.{or-nil}
+use Rattle.base.proofs.Numbers.{below-more, below-join, below-pick, rising-snoc, cut-part}
+use Rattle.csr.proofs.Has.{has-append, has-self, has-other}
+use Rattle.lists.proofs.Few.{pairs-256}
 
 -- ---- one row
 module _ (h : ℕ → Bool) where
@@ -38,33 +42,10 @@ module _ (h : ℕ → Bool) where
       go true = omega arith
       go false = omega arith
 
-  has-join : (xs ys : List ℕ) (e : ℕ) → has (xs ++ ys) e ≡ has xs e || has ys e
-  unfolding has
-  has-join [] ys e = refl
-  has-join (x ∷ xs) ys e = ap (λ (t : Bool). eqb e x || t) (has-join xs ys e) ∙ or-assoc (eqb e x) (has xs e) (has ys e)
-    where
-      or-assoc : (a b d : Bool) → a || (b || d) ≡ a || b || d
-      or-assoc true b d = refl
-      or-assoc false b d = refl
-
-  or-false : (t : Bool) → t || false ≡ t
-  or-false true = refl
-  or-false false = refl
-
-  has-pick : (t : Bool) (x e : ℕ) → (e ≡ x → ⊥) → has (pick t x) e ≡ false
-  unfolding has
-  has-pick true x e n = rw (ne-eqb e x n)
-  has-pick false x e n = refl
-
-  has-self : (t : Bool) (x : ℕ) → has (pick t x) x ≡ t
-  unfolding has
-  has-self true x = rw (eq-eqb x x refl)
-  has-self false x = refl
-
   pub kept-none : (n e : ℕ) → n ≤ e → has (kept h n) e ≡ false
   unfolding kept cat has
   kept-none zero e l = refl
-  kept-none (suc n) e l = has-join (kept h n) (pick (h n) n) e ∙ ap₂ _||_ (kept-none n e (omega arith)) (has-pick (h n) n e (λ q. omega arith))
+  kept-none (suc n) e l = has-append (kept h n) (pick (h n) n) e ∙ ap₂ _||_ (kept-none n e (omega arith)) (has-other (h n) n e (λ q. omega arith))
 
   pub kept-has : (n e : ℕ) → e < n → has (kept h n) e ≡ h e
   unfolding kept cat
@@ -72,8 +53,8 @@ module _ (h : ℕ → Bool) where
   kept-has (suc n) e l = go (ℕ-discrete e n) (kept-has n e)
     where
       go : Dec (e ≡ n) → (e < n → has (kept h n) e ≡ h e) → has (kept h n ++ pick (h n) n) e ≡ h e
-      go (yes q) ih = rw q (has-join (kept h n) (pick (h n) n) n ∙ ap₂ _||_ (kept-none n n (omega arith)) (has-self (h n) n))
-      go (no q) ih = has-join (kept h n) (pick (h n) n) e ∙ ap₂ _||_ (ih (omega arith)) (has-pick (h n) n e q) ∙ or-false (h e)
+      go (yes q) ih = rw q (has-append (kept h n) (pick (h n) n) n ∙ ap₂ _||_ (kept-none n n (omega arith)) (has-self (h n) n))
+      go (no q) ih = has-append (kept h n) (pick (h n) n) e ∙ ap₂ _||_ (ih (omega arith)) (has-other (h n) n e q) ∙ or-nil (h e)
 
   find-in : (xs ys : List ℕ) (e : ℕ) → has xs e ≡ true → find e (xs ++ ys) ≡ find e xs
   unfolding has find
@@ -108,18 +89,6 @@ module _ (h : ℕ → Bool) where
       go (yes r) ih = rw r (find-out (kept h n) (pick (h n) n) n (kept-none n n (omega arith)) ∙ omega (arith, find-one (h n) n (ap h (sym r) ∙ q), kept-long n))
       go (no r) ih = find-in (kept h n) (pick (h n) n) e (kept-has n e (omega arith) ∙ q) ∙ ih (omega arith) q
 
-  below-join : (b : ℕ) (xs ys : List ℕ) → Below b xs → Below b ys → Below b (xs ++ ys)
-  below-join b [] ys p q = q
-  below-join b (x ∷ xs) ys p q = (p .0, below-join b xs ys (p .1) q)
-
-  below-more : (b d : ℕ) (xs : List ℕ) → b ≤ d → Below b xs → Below d xs
-  below-more b d [] l p = tt
-  below-more b d (x ∷ xs) l p = (omega (arith, p .0), below-more b d xs l (p .1))
-
-  below-pick : (t : Bool) (x : ℕ) → Below (suc x) (pick t x)
-  below-pick true x = (omega arith, tt)
-  below-pick false x = tt
-
   pub kept-below : (n : ℕ) → Below n (kept h n)
   unfolding kept cat
   kept-below zero = tt
@@ -127,14 +96,6 @@ module _ (h : ℕ → Bool) where
 
   pub kept-in : (n b : ℕ) → n ≤ b → Below b (kept h n)
   kept-in n b l = below-more n b (kept h n) l (kept-below n)
-
-  under-snoc : (x : ℕ) (xs : List ℕ) (y : ℕ) → Under x xs → x < y → Under x (xs ++ (y ∷ []))
-  under-snoc x [] y u l = (l, tt)
-  under-snoc x (z ∷ xs) y u l = (u .0, under-snoc x xs y (u .1) l)
-
-  rising-snoc : (xs : List ℕ) (y : ℕ) → Rising xs → Below y xs → Rising (xs ++ (y ∷ []))
-  rising-snoc [] y r b = (tt, tt)
-  rising-snoc (x ∷ xs) y r b = (under-snoc x xs y (r .0) (b .0), rising-snoc xs y (r .1) (b .1))
 
   pub kept-rising : (n : ℕ) → Rising (kept h n)
   unfolding kept cat
@@ -163,45 +124,6 @@ module _ (h : ℕ → Bool) where
       go false = omega arith
 
 -- ---- all rows
-pub tri-le : (i n : ℕ) → i ≤ n → sum i suc ≤ sum n suc
-unfolding sum
-tri-le i zero l = let e : i ≡ 0 = omega arith in omega (arith, ap (λ (k : ℕ). sum k suc) e)
-tri-le i (suc n) l = go (ℕ-discrete i (suc n)) (tri-le i n)
-  where
-    go : Dec (i ≡ suc n) → (i ≤ n → sum i suc ≤ sum n suc) → sum i suc ≤ sum n suc + suc n
-    go (yes e) ih = omega (arith, ap (λ (k : ℕ). sum k suc) e)
-    go (no q) ih = omega (arith, ih (omega arith))
-
-pub tri-16 : sum 16 suc ≡ 136
-unfolding sum
-tri-16 = refl
-
-pub tri-64 : sum 64 suc ≡ 2080
-unfolding sum
-tri-64 = refl
-
-pub tri-256 : sum 256 suc ≡ 32896
-unfolding sum
-tri-256 = refl
-
-tri-next : (i : ℕ) → sum (suc i) suc ≡ sum i suc + suc i
-unfolding sum
-tri-next i = refl
-
-cat-split : (m i : ℕ) (f : ℕ → List ℕ) → i < m → (rest : List ℕ) × (cat m f ≡ cat i f ++ (f i ++ rest))
-unfolding cat
-cat-split zero i f l = absurd (omega arith)
-cat-split (suc m) i f l = go (ℕ-discrete i m) (cat-split m i f)
-  where
-    go : Dec (i ≡ m) → (i < m → (rest : List ℕ) × (cat m f ≡ cat i f ++ (f i ++ rest))) → (rest : List ℕ) × (cat m f ++ f m ≡ cat i f ++ (f i ++ rest))
-    go (yes e) ih = ([], ap (λ (k : ℕ). cat k f ++ f k) (sym e) ∙ ap (λ (l′ : List ℕ). cat i f ++ l′) (sym (append-nil (f i))))
-    go (no n) ih =
-        let r = ih (omega arith) in
-        (r .0 ++ f m, ap (λ (l′ : List ℕ). l′ ++ f m) (r .1) ∙ append-assoc (cat i f) (f i ++ r .0) (f m) ∙ ap (λ (l′ : List ℕ). cat i f ++ l′) (append-assoc (f i) (r .0) (f m)))
-
-part-is : (xs ys zs : List ℕ) → take (length ys) (drop (length xs) (xs ++ (ys ++ zs))) ≡ ys
-part-is xs ys zs = ap (take (length ys)) (drop-at xs (ys ++ zs) (length xs) refl) ∙ take-at ys zs (length ys) refl
-
 module _ (h : ℕ → ℕ → Bool) where
   pub all-next : (i : ℕ) → keptRows h (i + 1) ≡ keptRows h i ++ kept (h i) (i + 1)
   unfolding keptRows
@@ -226,10 +148,10 @@ module _ (h : ℕ → ℕ → Bool) where
 
   module _ (li₀ li lp : List ℕ) (at i : ℕ) (v : Listing li₀ li lp at i) where
     pub listing-room : (l m : ℕ) → i < m → sum m suc ≤ l → at + i + 1 ≤ l
-    listing-room l m b r = omega (arith, v .wrote .next, all-short i, tri-le (suc i) m (omega arith), tri-next i)
+    listing-room l m b r = omega (arith, v .wrote .next, all-short i, sum-room m i suc b)
 
     pub listing-small : i ≤ 256 → at ≤ 32896
-    listing-small b = omega (arith, v .wrote .next, all-short i, tri-le i 256 b, tri-256)
+    listing-small b = omega (arith, v .wrote .next, all-short i, sum-more i 256 suc b, pairs-256)
 
     pub listing-next : (li′ lp′ : List ℕ) (r x : ℕ) → i + 1 < length lp → Wrote li li′ at (kept (h i) (i + 1)) r → x ≡ r → lp′ ≡ set lp (i + 1) x → Listing li₀ li′ lp′ r (i + 1)
     listing-next li′ lp′ r x l w q e = record { wrote = u; starts = λ k b. ap (λ (y : List ℕ). getD y k 0) e ∙ go k b (ℕ-discrete k (i + 1)) }
@@ -259,13 +181,12 @@ module _ (h : ℕ → ℕ → Bool) where
 
         rows : (k : ℕ) → k < m → row lp li k ≡ kept (h k) (k + 1)
         rows k q =
-            let s = cat-split m k (λ a. kept (h a) (a + 1)) q in
+            let after = cat (m - suc k) (λ a. kept (h (suc k + a)) (suc k + a + 1)) in
             let tail : List ℕ = drop (0 + length (keptRows h m)) li₀ in
-            let z : length (keptRows h (k + 1)) - length (keptRows h k) ≡ length (kept (h k) (k + 1)) = omega (arith, ap length (all-next k), length-append (keptRows h k) (kept (h k) (k + 1))) in
             ap₂ (λ (x y : ℕ). take (x - y) (drop y li)) (v .starts (k + 1) (omega arith)) (v .starts k (omega arith))
-            ∙ ap₂ (λ (x : ℕ) (y : List ℕ). take x (drop (length (keptRows h k)) y)) z
-            (whole ∙ ap (λ (x : List ℕ). x ++ tail) (s .1) ∙ append-assoc (keptRows h k) (kept (h k) (k + 1) ++ s .0) tail ∙ ap (λ (x : List ℕ). keptRows h k ++ x) (append-assoc (kept (h k) (k + 1)) (s .0) tail))
-            ∙ part-is (keptRows h k) (kept (h k) (k + 1)) (s .0 ++ tail)
+            ∙ ap (cut (length (keptRows h k)) (length (keptRows h (k + 1))))
+            (whole ∙ ap (λ (x : List ℕ). x ++ tail) (cat-split m k (λ a. kept (h a) (a + 1)) q) ∙ append-assoc (keptRows h k) (kept (h k) (k + 1) ++ after) tail ∙ ap (λ (x : List ℕ). keptRows h k ++ x) (append-assoc (kept (h k) (k + 1)) after tail))
+            ∙ cut-part (keptRows h k) (kept (h k) (k + 1)) (after ++ tail) (length (keptRows h k)) (length (keptRows h (k + 1))) refl (ap length (all-next k) ∙ length-append (keptRows h k) (kept (h k) (k + 1)))
 
 -- ---- the lists are a grid
 module _ (h : ℕ → ℕ → Bool) (lp li : List ℕ) (m : ℕ) (v : Rows h lp li m) where

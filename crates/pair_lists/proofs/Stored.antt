@@ -11,7 +11,7 @@ use borrow.Author.Tests.{ne-eqb}
 use lib.ListN.{length, getD, length-append, length-take}
 use lib.Seq.{getD-append-seam}
 use Rattle.csr.specs.Pattern.{neighbours}
-use Rattle.csr.specs.Chain.{stored-diag}
+use Rattle.csr.proofs.Rule.{stored-diag}
 use Rattle.base.specs.Sums.{one}
 use Rattle.pattern.specs.Word.{bit}
 use Rattle.base.proofs.Sums.{sum-ext}

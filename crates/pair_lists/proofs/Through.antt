@@ -9,10 +9,10 @@ use native.Mathlib.Decide.{decLt}
 use native.Mathlib.Numerals.{add-one}
 use lib.Dec.{eqb}
 use borrow.Author.Tests.{ne-eqb}
-use lib.ListN.{length, getD, take, drop, length-append, length-take, List·getD-append}
+use lib.ListN.{length, getD, take, drop, length-append, length-take, List·getD-append, take-append-drop}
 use lib.Seq.{take-append-le, take-at, take-suc, getD-append-seam, getD-take, getD-drop}
 use Rattle.csr.specs.Pattern.{has, row, shares, stored, neighbours}
-use Rattle.csr.specs.Chain.{stored-rule, stored-diag}
+use Rattle.csr.proofs.Rule.{stored-rule, stored-diag}
 use Rattle.base.specs.Sums.{sum, one}
 use Rattle.pattern.specs.Word.{bit}
 use Rattle.base.specs.Cat.{cat, pick, Wrote}
@@ -24,6 +24,8 @@ use Rattle.lists.proofs.Counts.{held-stored}
 use Rattle.pair_lists.specs.Kept.{kept, Rows, placesOf}
 use Rattle.base.specs.Numbers.{Below}
 use Rattle.pair_lists.proofs.Lists.{kept-long, kept-in, rows-up, rows-fit}
+use Rattle.base.proofs.Sums.{sum-zero}
+use Rattle.base.proofs.Numbers.{length-takes}
 
 -- ---- over a list
 unfoldable pub over : List ℕ → (ℕ → List ℕ) → List ℕ
@@ -156,9 +158,6 @@ module _ (h : ℕ → Bool) where
   unfolding placesOf
   places-one x base = append-nil (pick (h x) base)
 
-  length-takes : (q : ℕ) (l : List ℕ) → q ≤ length l → length (take q l) ≡ q
-  length-takes q l b = length-take q l ∙ omega arith
-
   pub places-next : (l : List ℕ) (q base : ℕ) → q < length l → placesOf h base (take (q + 1) l) ≡ placesOf h base (take q l) ++ pick (h (getD l q 0)) (base + q)
   places-next l q base b =
       ap (λ (k : ℕ). placesOf h base (take k l)) (add-one q) ∙ ap (placesOf h base) (take-suc l q 0 b)
@@ -166,14 +165,8 @@ module _ (h : ℕ → Bool) where
       ∙ ap (λ (x : List ℕ). placesOf h base (take q l) ++ x) (places-one (getD l q 0) (base + length (take q l)) ∙ ap (λ (k : ℕ). pick (h (getD l q 0)) (base + k)) (length-takes q l (omega arith)))
 
   pub places-room : (l : List ℕ) (base q : ℕ) → q ≤ length l → length (placesOf h base (take q l)) ≤ length (placesOf h base l)
-  places-room l base q b = go (take q l) (drop q l) (split l q)
+  places-room l base q b = go (take q l) (drop q l) (sym (take-append-drop q l))
     where
-      split : (k : List ℕ) (n : ℕ) → k ≡ take n k ++ drop n k
-      split [] zero = refl
-      split [] (suc n) = refl
-      split (x ∷ k) zero = refl
-      split (x ∷ k) (suc n) = ap (λ (y : List ℕ). x ∷ y) (split k n)
-
       go : (xs ys : List ℕ) → l ≡ xs ++ ys → length (placesOf h base xs) ≤ length (placesOf h base l)
       go xs ys e = omega (arith, ap (λ (k : List ℕ). length (placesOf h base k)) e, ap length (places-join xs ys base), length-append (placesOf h base xs) (placesOf h (base + length xs) ys))
 
@@ -207,11 +200,6 @@ cat-none : (n : ℕ) (f : ℕ → List ℕ) → ((k : ℕ) → k < n → f k ≡
 unfolding cat
 cat-none zero f e = refl
 cat-none (suc n) f e = ap₂ _++_ (cat-none n f (λ k l. e k (omega arith))) (e n (omega arith))
-
-sum-none : (n : ℕ) (f : ℕ → ℕ) → ((k : ℕ) → k < n → f k ≡ 0) → sum n f ≡ 0
-unfolding sum
-sum-none zero f e = refl
-sum-none (suc n) f e = omega (arith, sum-none n f (λ k l. e k (omega arith)), e n (omega arith))
 
 module _ (off cols : List ℕ) (i j : ℕ) (hj : j ≤ i) (no : (shape off cols) .held i j ≡ false) where
   clash : {A : Type 0} → stored (neighbours off cols) i j ≡ true → A
@@ -260,7 +248,7 @@ module _ (off cols : List ℕ) (i j : ℕ) (hj : j ≤ i) (no : (shape off cols)
   pub weightless : (w : Which) → weight (shape off cols) w i j ≡ 0
   unfolding weight shared
   weightless AnormIndptr = sym (length-both (row off cols i) (row off cols j)) ∙ ap length nothing-shared
-  weightless LdecompIndptr = sum-none j (λ k. one ((shape off cols) .held i k && (shape off cols) .held j k)) (λ k l. ap one (no-meet k l))
+  weightless LdecompIndptr = sum-zero j (λ k. one ((shape off cols) .held i k && (shape off cols) .held j k)) (λ k l. ap one (no-meet k l))
   weightless AnormIndptrI = refl
   weightless AnormIndptrJ = refl
   weightless AnormIndices = refl

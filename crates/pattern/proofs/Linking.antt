@@ -12,30 +12,13 @@ use lib.ListN.{length, getD, set, take, replicate}
 use lib.Seq.{take-suc, take-length, getD-set-same, getD-set-other}
 use borrow.Author.Tests.{ne-eqb, eq-eqb, lt-ltb, le-ltb, lt-leb}
 use Rattle.csr.specs.Pattern.{has, row, neighbours, stored}
-use Rattle.base.specs.Numbers.{Below}
-use Rattle.csr.specs.Chain.{stored-diag}
+use Rattle.csr.proofs.Rule.{stored-diag}
 use Rattle.pattern.specs.Word.{bit, Put, Done, Seeded, OtherRows, Linked, Clear}
 use Rattle.pattern.specs.Links.{orElse, linked, firstOf, links, Firsts}
 use Rattle.pattern.proofs.Links.{first-has, links-stored}
-
-pub below-at : (n : ℕ) (l : List ℕ) (q : ℕ) → Below n l → q < length l → getD l q 0 < n
-below-at n [] q h g = absurd (omega arith)
-below-at n (x ∷ l) zero h g = h .0
-below-at n (x ∷ l) (suc q) h g = below-at n l q (h .1) (omega arith)
-
-or-nil : (a : Bool) → a || false ≡ a
-or-nil true = refl
-or-nil false = refl
-
-or-assoc : (a b c : Bool) → a || b || c ≡ a || (b || c)
-or-assoc true b c = refl
-or-assoc false b c = refl
-
-or-comm : (a b : Bool) → a || b ≡ b || a
-or-comm true true = refl
-or-comm true false = refl
-or-comm false true = refl
-or-comm false false = refl
+use Rattle.base.proofs.Bools.{or-nil, or-assoc, or-comm}
+use Rattle.csr.proofs.Has.{has-last}
+use Rattle.pattern.proofs.Whole.{zeros}
 
 -- one more column
 linked-last : (F : ℕ → ℕ) (xs : List ℕ) (e j : ℕ) → linked F (xs ++ (e ∷ [])) j ≡ linked F xs j || eqb (F e) (suc j)
@@ -43,11 +26,6 @@ unfolding linked
 linked-last F [] e j = or-nil (eqb (F e) (suc j))
 linked-last F (x ∷ xs) e j =
     ap (λ (t : Bool). eqb (F x) (suc j) || t) (linked-last F xs e j) ∙ sym (or-assoc (eqb (F x) (suc j)) (linked F xs j) (eqb (F e) (suc j)))
-
-has-last : (xs : List ℕ) (e x : ℕ) → has (xs ++ (e ∷ [])) x ≡ has xs x || eqb x e
-unfolding has
-has-last [] e x = or-nil (eqb x e)
-has-last (y ∷ xs) e x = ap (λ (t : Bool). eqb x y || t) (has-last xs e x) ∙ sym (or-assoc (eqb x y) (has xs x) (eqb x e))
 
 -- ---- `link`
 
@@ -204,11 +182,6 @@ module _ (off cols : List ℕ) (i : ℕ) where
         ∙ sym (ap (λ (k : ℕ). firstOf off cols k e) (add-one i))
 
 -- ---- all rows
-
-zeros : (n k : ℕ) → _≡_ {A = ℕ} (getD (replicate n 0) k 0) 0
-zeros zero k = refl
-zeros (suc n) zero = refl
-zeros (suc n) (suc k) = zeros n k
 
 pub firsts-start : (off cols : List ℕ) → Firsts (replicate 1024 0) (firstOf off cols 0)
 unfolding firstOf

@@ -8,41 +8,15 @@ use native.Mathlib.Omega.{arith}
 use native.Mathlib.Decide.{ℕ-discrete, decLt}
 use borrow.Author.Tests.{eq-eqb, eqb-true}
 use lib.Dec.{eqb}
-use Rattle.base.proofs.Bools.{or-out, or-left, or-right}
-use Rattle.csr.specs.Pattern.{has, shares, row, neighbours, stored}
-use Rattle.base.specs.Numbers.{Below}
-use Rattle.csr.specs.Chain.{Meets, stored-rule}
+use Rattle.base.proofs.Bools.{or-out, or-left, or-right, same-if}
+use Rattle.csr.specs.Pattern.{has, row, neighbours, stored}
+use Rattle.csr.proofs.Rule.{by-rule, meets, grows}
 use Rattle.csr.specs.Csr.{Accepted}
 use Rattle.pattern.specs.Links.{orElse, linked, firstOf, links, Inside}
+use Rattle.base.proofs.Numbers.{below-more}
+use Rattle.csr.proofs.Has.{has-here, has-more, shares-out, shares-in}
 
 -- ---- a number of a list
-
-pub has-here : (y : ℕ) (ys : List ℕ) → has (y ∷ ys) y ≡ true
-unfolding has
-has-here y ys = or-left (eqb y y) (has ys y) (eq-eqb y y refl)
-
-has-more : (y : ℕ) (ys : List ℕ) (x : ℕ) → has ys x ≡ true → has (y ∷ ys) x ≡ true
-unfolding has
-has-more y ys x e = or-right (eqb x y) (has ys x) e
-
-shares-out : (xs ys : List ℕ) → shares xs ys ≡ true → (e : ℕ) × (has xs e ≡ true) × (has ys e ≡ true)
-unfolding shares
-shares-out [] ys h = absurd (false≢true h)
-shares-out (x ∷ xs) ys h = go (or-out (has ys x) (shares xs ys) h) (shares-out xs ys)
-  where
-    go : (has ys x ≡ true) ⊎ (shares xs ys ≡ true) → (shares xs ys ≡ true → (e : ℕ) × (has xs e ≡ true) × (has ys e ≡ true))
-        → (e : ℕ) × (has (x ∷ xs) e ≡ true) × (has ys e ≡ true)
-    go (inl t) ih = (x, has-here x xs, t)
-    go (inr t) ih = let r = ih t in (r .0, has-more x xs (r .0) (r .1), r .2)
-
-shares-in : (xs ys : List ℕ) (e : ℕ) → has xs e ≡ true → has ys e ≡ true → shares xs ys ≡ true
-unfolding shares has
-shares-in [] ys e h g = absurd (false≢true h)
-shares-in (x ∷ xs) ys e h g = go (or-out (eqb e x) (has xs e) h) (shares-in xs ys e)
-  where
-    go : (eqb e x ≡ true) ⊎ (has xs e ≡ true) → (has xs e ≡ true → has ys e ≡ true → shares xs ys ≡ true) → has ys x || shares xs ys ≡ true
-    go (inl t) ih = or-left (has ys x) (shares xs ys) (sym (ap (has ys) (eqb-true e x t)) ∙ g)
-    go (inr t) ih = or-right (has ys x) (shares xs ys) (ih t g)
 
 linked-out : (F : ℕ → ℕ) (xs : List ℕ) (j : ℕ) → linked F xs j ≡ true → (e : ℕ) × (has xs e ≡ true) × (F e ≡ suc j)
 unfolding linked
@@ -62,31 +36,6 @@ linked-in F (x ∷ xs) e j h g = go (or-out (eqb e x) (has xs e) h) (linked-in F
     go : (eqb e x ≡ true) ⊎ (has xs e ≡ true) → (has xs e ≡ true → F e ≡ suc j → linked F xs j ≡ true) → eqb (F x) (suc j) || linked F xs j ≡ true
     go (inl t) ih = or-left (eqb (F x) (suc j)) (linked F xs j) (eq-eqb (F x) (suc j) (sym (ap F (eqb-true e x t)) ∙ g))
     go (inr t) ih = or-right (eqb (F x) (suc j)) (linked F xs j) (ih t g)
-
--- ---- the rule of `stored`
-
-by-rule : (nb : ℕ → ℕ → Bool) (i j : ℕ) → j < i → nb i j ≡ true → stored nb i j ≡ true
-by-rule nb i j l h = stored-rule nb i j (omega arith) .1 (inr (inl h))
-
-meets : (nb : ℕ → ℕ → Bool) (i j k : ℕ) → j ≤ i → k < j → stored nb i k ≡ true → stored nb j k ≡ true → stored nb i j ≡ true
-meets nb i j k l d p q = stored-rule nb i j l .1 (inr (inr (k, d, p, q)))
-
--- what holds the neighbours of another pattern holds all that it stores
-grows : (nb nb′ : ℕ → ℕ → Bool) → ((i j : ℕ) → j < i → nb i j ≡ true → stored nb′ i j ≡ true)
-    → (n i j : ℕ) → j < n → j < i → stored nb i j ≡ true → stored nb′ i j ≡ true
-grows nb nb′ near zero i j b l h = absurd (omega arith)
-grows nb nb′ near (suc n) i j b l h = go (stored-rule nb i j (omega arith) .0 h) (grows nb nb′ near n)
-  where
-    go : (i ≡ j) ⊎ ((nb i j ≡ true) ⊎ Meets nb j i j) → ((a c : ℕ) → c < n → c < a → stored nb a c ≡ true → stored nb′ a c ≡ true) → stored nb′ i j ≡ true
-    go (inl e) ih = absurd (omega arith)
-    go (inr (inl t)) ih = near i j l t
-    go (inr (inr t)) ih =
-        meets nb′ i j (t .0) (omega arith) (t .1) (ih i (t .0) (omega (arith, t .1)) (omega (arith, t .1)) (t .2)) (ih j (t .0) (omega (arith, t .1)) (t .1) (t .3))
-
-same-if : (s t : Bool) → (s ≡ true → t ≡ true) → (t ≡ true → s ≡ true) → s ≡ t
-same-if true t f g = sym (f refl)
-same-if false true f g = g refl
-same-if false false f g = refl
 
 module _ (off cols : List ℕ) where
   -- the first row of a column holds it
@@ -189,10 +138,6 @@ module _ (off cols : List ℕ) where
       (grows (neighbours off cols) (links off cols) near-stored (suc j) i j (omega arith) l)
 
 -- ---- an accepted matrix has its columns below 1,024
-
-below-more : (n k : ℕ) (l : List ℕ) → n ≤ k → Below n l → Below k l
-below-more n k [] h b = tt
-below-more n k (x ∷ l) h b = (omega (arith, b .0), below-more n k l h (b .1))
 
 pub inside : (off cols : List ℕ) (m n : ℕ) → Accepted off cols m n → Inside off cols m 1024
 inside off cols m n ok i l = below-more n 1024 (row off cols i) (ok .wide) (ok .within i l)

@@ -12,9 +12,11 @@ use lib.Count.{ones}
 use lib.ListN.{length, getD, set}
 use lib.Seq.{getD-set-same, getD-set-other}
 use borrow.Author.Tests.{ne-eqb, eq-eqb, eqb-true, eqb-false, not-true, not-false, le-leb, lt-leb, lt-ltb, le-ltb, leb-true}
-use Rattle.base.proofs.Bools.{and-out}
+use Rattle.base.proofs.Bools.{and-out, or-comm, same-if}
 use Rattle.csr.specs.Pattern.{stored, fill}
-use Rattle.csr.specs.Chain.{Meets, stored-diag, fill-out, fill-in, fill-nb, off-diag}
+use Rattle.csr.specs.Chain.{Meets}
+use Rattle.csr.proofs.Rule.{stored-diag, fill-out, fill-in, off-diag}
+use Rattle.csr.specs.Walks.{fill-nb}
 use Rattle.base.specs.Sums.{sum, one}
 use Rattle.pattern.specs.Word.{digit, bit, Put, Done, Seeded, OtherRows, rowOnes}
 use Rattle.pattern.proofs.Digits.{digit-and, digit-or, digit-zero, digit-pow, shl-one, set-digit, ones-sum}
@@ -25,12 +27,6 @@ use Rattle.base.proofs.Sums.{sum-ext, sum-add}
 bit-is : (p : List ℕ) (i j : ℕ) → bit p i j ≡ digit (getD p (i * 4 + j / 64) 0) (j % 64)
 unfolding bit
 bit-is p i j = refl
-
-or-comm : (a b : Bool) → a || b ≡ b || a
-or-comm true true = refl
-or-comm true false = refl
-or-comm false true = refl
-or-comm false false = refl
 
 -- the store of `put`
 pub put-law : (p : List ℕ) (i j : ℕ) → length p ≡ 1024 → i < 256 → j < 256
@@ -244,11 +240,6 @@ Part nb p i j = (b : ℕ) → b < 256 → (b < j → bit p i b ≡ stored nb i b
 
 pub part-start : (nb : ℕ → ℕ → Bool) (p : List ℕ) (i : ℕ) → Seeded nb p i → Part nb p i 0
 part-start nb p i s b h = (λ l. absurd (omega arith), λ l. s b h)
-
-same-if : (s t : Bool) → (s ≡ true → t ≡ true) → (t ≡ true → s ≡ true) → s ≡ t
-same-if true t f g = sym (f refl)
-same-if false true f g = g refl
-same-if false false f g = refl
 
 module _ (nb : ℕ → ℕ → Bool) (p : List ℕ) (i j : ℕ) (hi : i < 256) (hj : j < i)
     (rows : (a : ℕ) → a < i → Done nb p a) (part : Part nb p i j) where

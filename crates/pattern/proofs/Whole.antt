@@ -1,21 +1,20 @@
 -- Laws of the whole pattern and of its counts. Assumes nothing.
 use mathlib.Core.Path.{_≡_, refl, sym, ap, ap₂, _∙_, subst}
-use mathlib.Core.Bool.{Bool, true, false, _&&_}
+use mathlib.Core.Bool.{Bool, false, _&&_}
 use mathlib.Core.List.{List}
 use Prim.Native.Nat.{ℕ, zero, suc, _+_, _-_, _*_, _/_, _%_, _<_, _≤_}
 use native.Mathlib.Omega.{arith}
 use native.Mathlib.Decide.{ℕ-discrete}
-use native.Mathlib.Nat.{add-zero}
-use native.Mathlib.Numerals.{add-one}
 use lib.ListN.{getD, replicate}
 use borrow.Author.Tests.{le-leb, lt-leb}
 use Rattle.csr.specs.Pattern.{stored, neighbours}
-use Rattle.csr.specs.Chain.{stored-diag}
+use Rattle.csr.proofs.Rule.{stored-diag}
 use Rattle.base.specs.Sums.{sum, one}
 use Rattle.csr.specs.Counts.{isStored, countE, countD}
 use Rattle.pattern.specs.Word.{bit, digit, Done, OtherRows, rowOnes, Clear}
-use Rattle.base.proofs.Sums.{sum-ext, sum-add, sum-plus, sum-cut}
+use Rattle.base.proofs.Sums.{sum-ext, sum-plus, sum-cut}
 use Rattle.pattern.proofs.Digits.{digit-zero}
+use Rattle.base.proofs.Bools.{and-false, and-true}
 
 -- ---- one more row
 
@@ -29,14 +28,6 @@ module _ (nb : ℕ → ℕ → Bool) (p q r : List ℕ) (i : ℕ) (hi : i < 256)
 
   pub clear-less : ((a : ℕ) → i ≤ a → a < 256 → Clear p a) → (a : ℕ) → i + 1 ≤ a → a < 256 → Clear r a
   clear-less f a l h b g = o′ a b h g (λ e. omega arith) ∙ o a b h g (λ e. omega arith) ∙ f a (omega arith) h b g
-
-and-right : (t : Bool) → t && false ≡ false
-and-right true = refl
-and-right false = refl
-
-and-true : (t : Bool) → t && true ≡ t
-and-true true = refl
-and-true false = refl
 
 module _ (nb : ℕ → ℕ → Bool) (p : List ℕ) where
   in-row : (i k : ℕ) → Done nb p i → k ≤ i → i < 256 → bit p i k ≡ stored nb i k
@@ -58,7 +49,7 @@ module _ (nb : ℕ → ℕ → Bool) (p : List ℕ) where
   both-count i j h l d e =
       sum-cut 256 (suc j) (λ k. one (bit p i k && bit p j k)) (λ k. one (stored nb i k && stored nb j k)) (omega arith)
       (λ k m. ap one (ap₂ _&&_ (in-row i k d (omega arith) h) (in-row j k e (omega arith) (omega arith))))
-      (λ k m n. ap one (ap (λ (t : Bool). bit p i k && t) (past-row j k e (omega arith) n) ∙ and-right (bit p i k)))
+      (λ k m n. ap one (ap (λ (t : Bool). bit p i k && t) (past-row j k e (omega arith) n) ∙ and-false (bit p i k)))
       ∙ ap (λ (t : Bool). sum j (λ k. one (stored nb i k && stored nb j k)) + one (stored nb i j && t)) (stored-diag nb j j refl)
       ∙ ap (λ (t : Bool). sum j (λ k. one (stored nb i k && stored nb j k)) + one t) (and-true (stored nb i j))
 

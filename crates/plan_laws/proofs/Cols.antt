@@ -1,22 +1,22 @@
 -- The lists written column by column, cut at their ends; and the transposed lists are the matrix's columns. Assumes nothing.
 use mathlib.Core.Path.{_≡_, refl, sym, ap, _∙_, subst}
 use mathlib.Core.Bool.{Bool, true}
-use mathlib.Core.List.{List, [], _∷_, _++_}
+use mathlib.Core.List.{List}
 use Prim.Native.Nat.{ℕ, zero, suc, _+_, _-_, _<_, _≤_}
 use native.Mathlib.Omega.{arith}
 use native.Mathlib.Numerals.{add-one}
 use lib.ListN.{length, getD}
 use lib.Ieee.{Float}
 use Rattle.csr.specs.Pattern.{has, row}
-use Rattle.base.specs.Sums.{sum, one}
-use Rattle.base.proofs.Sums.{sum-ext}
-use Rattle.base.specs.Cat.{cat, pick}
+use Rattle.base.specs.Sums.{sum}
+use Rattle.base.proofs.Sums.{sum-ext, sum-more}
+use Rattle.base.specs.Cat.{cat}
 use Rattle.lists.specs.Lists.{Shape, shape, place, inColumn, column, columnEnds, columns, endsOf, columnsOf}
 use Rattle.lists.specs.Ready.{Accepted}
 use Rattle.lists.specs.declared.Side.the-variants.{Matrix}
 use Rattle.lists.specs.declared.What.the-variants.{Numbers, Places}
-use Rattle.base.proofs.Write.{length-cat}
-use Rattle.lists.proofs.Sizes.{length-ends, length-columns}
+use Rattle.base.proofs.Write.{length-cat, cat-split}
+use Rattle.lists.proofs.Sizes.{length-ends}
 use Rattle.lanes.specs.Lists.{at, Between}
 use Rattle.machine.specs.Machine.{Problem, holds, entry}
 use Rattle.machine.specs.Work.{problemOf}
@@ -25,7 +25,8 @@ use Rattle.base.specs.Numbers.{cut}
 use Rattle.sparse.specs.Sparse.{Csr}
 use Rattle.sparse.specs.Parts.{span}
 use Rattle.plan_laws.specs.Meaning.{ColsOf}
-use Rattle.plan_laws.proofs.Parts.{cut-part, cat-split, cat-all, singles-at, sum-more}
+use Rattle.plan_laws.proofs.Parts.{cat-all, singles-at}
+use Rattle.base.proofs.Numbers.{cut-part}
 use Rattle.plan_laws.proofs.Picked.{picked, named, named-length, named-same, named-at, picked-rise, picked-has}
 use Rattle.plan_laws.proofs.Rows.{row-length}
 

@@ -21,10 +21,11 @@ use Rattle.machine.specs.Machine.{Problem, State, inFactor, factorEntry, factor
 use Rattle.machine.specs.Work.{problemOf}
 use Rattle.plan_laws.specs.Factoring.{Given, Stands, Factored, stateIn, entries}
 use Rattle.plan_laws.proofs.Ranks.{lplace-lt, lplace-down, lplace-start}
-use Rattle.plan_laws.proofs.Picks.{held-factor, held-stored}
+use Rattle.plan_laws.proofs.Picks.{held-factor}
 use Rattle.layout.specs.declared.Plan.{Plan}
 use Rattle.layout.specs.Layout.{yAt, wAt, lAt}
 use Rattle.layout.specs.Lists.{lindptrIn, lindicesIn}
+use Rattle.lists.proofs.Counts.{held-stored}
 use Rattle.plan_laws.proofs.Turn.{entry-room}
 use Rattle.plan_laws.proofs.Entry.{stored-is}
 use Rattle.plan_laws.proofs.Loop.{turn, same-pair, stands, stands-in, row-start, row-end, row-end-in}

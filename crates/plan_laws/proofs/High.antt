@@ -1,10 +1,9 @@
 -- The lists ltindptr, ltindices and ltmap are the factor's columns. Assumes nothing.
 use mathlib.Core.Path.{_≡_, refl, sym, ap, _∙_, subst}
-use mathlib.Core.Bool.{Bool, true, false, _&&_, false≢true}
+use mathlib.Core.Bool.{Bool, true, _&&_, false≢true}
 use mathlib.Core.List.{List, [], _∷_, _++_, append-assoc}
-use Prim.Native.Nat.{ℕ, zero, suc, _+_, _-_, _<_, _≤_}
+use Prim.Native.Nat.{ℕ, suc, _+_, _-_, _<_, _≤_}
 use native.Mathlib.Omega.{arith}
-use native.Mathlib.Numerals.{add-one}
 use native.Mathlib.Decide.{decLt}
 use borrow.Author.Tests.{le-ltb, lt-leb, ltb-true}
 use lib.Dec.{ltb, leb}
@@ -12,33 +11,26 @@ use lib.ListN.{length, getD, length-append}
 use lib.Ieee.{Float}
 use Rattle.csr.specs.Pattern.{has}
 use Rattle.csr.specs.Factor.{factorHas}
-use Rattle.base.specs.Sums.{sum}
 use Rattle.csr.specs.Counts.{isStored}
-use Rattle.base.specs.Cat.{cat, pick}
+use Rattle.base.specs.Cat.{cat}
 use Rattle.lists.specs.Lists.{Shape, shape, lplace, listOf, piece, inColumn, column, columnEnds, columns, endsOf, columnsOf}
 use Rattle.lists.specs.declared.Which.the-variants.{Lindptr, Lindices}
 use Rattle.lists.specs.declared.Side.the-variants.{Factor}
 use Rattle.lists.specs.declared.What.the-variants.{Numbers, Places}
 use Rattle.lanes.specs.Lists.{Between}
-use Rattle.machine.specs.Machine.{Problem, inFactor}
+use Rattle.machine.specs.Machine.{inFactor}
 use Rattle.machine.specs.Work.{problemOf}
-use Rattle.plan_laws.proofs.Ranks.{ranked-in, lplace-along, lplace-lt-row, lplace-row}
+use Rattle.plan_laws.proofs.Ranks.{ranked-in, lplace-along, lplace-lt-row}
 use Rattle.plan_laws.proofs.Picks.{picks-all, held-factor, held-diag}
 use Rattle.base.specs.Numbers.{cut}
 use Rattle.sparse.specs.Sparse.{High}
 use Rattle.plan_laws.specs.Meaning.{HighOf}
-use Rattle.plan_laws.proofs.Parts.{cut-part, cat-split}
-use Rattle.plan_laws.proofs.Picked.{picked, named, named-at, named-same, picked-rise, picked-has, first-named}
+use Rattle.plan_laws.proofs.Picked.{picked, named, named-at, picked-rise, picked-has, first-named}
+use Rattle.base.proofs.Numbers.{cut-part}
+use Rattle.base.proofs.Write.{cat-split}
 use Rattle.plan_laws.proofs.Cols.{ends-at, ends-next, before-length, column-length, columns-length, columns-all, columns-csr}
 use Rattle.plan_laws.proofs.Low.{ptr-at, ptr-next, ind-at}
-
-and-left : (a b : Bool) → a && b ≡ true → a ≡ true
-and-left true b e = refl
-and-left false b e = absurd (false≢true e)
-
-and-right : (a b : Bool) → a && b ≡ true → b ≡ true
-and-right true b e = e
-and-right false b e = absurd (false≢true e)
+use Rattle.base.proofs.Bools.{and-left, and-right}
 
 module _ (off cols : List ℕ) (m : ℕ) where
   abbrev g : Shape

@@ -13,4 +13,3 @@ pub mod Low
 pub mod High
 pub mod Cuts
 pub mod Follows
-pub mod Few

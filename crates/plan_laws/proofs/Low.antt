@@ -12,14 +12,13 @@ use Rattle.csr.specs.Pattern.{has, neighbours, stored}
 use Rattle.csr.specs.Chain.{Chain}
 use Rattle.csr.specs.Walks.{neighbours-sym}
 use Rattle.csr.proofs.Chain.{stored↔chain}
-use Rattle.base.specs.Sums.{sum, one}
 use Rattle.base.specs.Cat.{cat, pick, pairs}
 use Rattle.lists.specs.Lists.{Shape, shape, lplace, listOf, piece}
 use Rattle.lists.specs.declared.Which.the-variants.{Lindptr, Lindices}
 use Rattle.lists.proofs.Counts.{lplace-from, held-stored}
 use Rattle.lists.proofs.Sizes.{size-list}
 use Rattle.lanes.specs.Lists.{at, Between}
-use Rattle.machine.specs.Machine.{Problem, inFactor}
+use Rattle.machine.specs.Machine.{inFactor}
 use Rattle.machine.specs.Work.{problemOf}
 use Rattle.plan_laws.proofs.Ranks.{ranked, lplace-start, lplace-next, lplace-row, lplace-along, lplace-down, by-entry-length, by-row-at, entry-of}
 use Rattle.plan_laws.proofs.Picks.{picks-all, held-factor, held-diag}
@@ -27,7 +26,8 @@ use Rattle.base.specs.Numbers.{cut}
 use Rattle.sparse.specs.Parts.{span}
 use Rattle.sparse.proofs.Spans.{cut-at}
 use Rattle.plan_laws.specs.Meaning.{LowOf, Holds}
-use Rattle.plan_laws.proofs.Parts.{cut-part, cat-split}
+use Rattle.base.proofs.Numbers.{cut-part}
+use Rattle.base.proofs.Write.{cat-split}
 use Rattle.plan_laws.proofs.Picked.{picked, named-length, picked-rise, picked-has}
 
 module _ (off cols : List ℕ) (m : ℕ) where

@@ -27,7 +27,8 @@ use Rattle.machine.proofs.Entries.{each-pick}
 use Rattle.machine.specs.Work.{problemOf}
 use Rattle.plan_laws.specs.Factoring.{normalStep, productStep}
 use Rattle.plan_laws.proofs.Ranks.{pairs-at, pairs-long, lplace-lt}
-use Rattle.plan_laws.proofs.Picks.{picks, picks-all, both-each, between, find-place, find-lt, both-all, below-has, held-factor}
+use Rattle.plan_laws.proofs.Picks.{picks, picks-all, both-each, between, find-place, find-lt, both-all, held-factor}
+use Rattle.csr.proofs.Has.{below-has}
 
 map-at : (f : ℕ → ℕ) (l : List ℕ) (k : ℕ) → k < length l → getD (map f l) k 0 ≡ f (getD l k 0)
 map-at f [] k h = absurd (omega arith)

@@ -5,8 +5,8 @@ use mathlib.Core.List.{List, [], _∷_, _++_, append-nil}
 use Prim.Native.Nat.{ℕ, zero, suc, _+_, _-_, _<_, _≤_}
 use native.Mathlib.Omega.{arith}
 use native.Mathlib.Decide.{decLt, ℕ-discrete}
-use borrow.Author.Tests.{lt-ltb, le-ltb, eq-eqb, ne-eqb}
-use lib.Dec.{eqb, ltb}
+use borrow.Author.Tests.{lt-ltb, le-ltb}
+use lib.Dec.{ltb}
 use lib.ListN.{length, getD, length-append, List·getD-append}
 use lib.Seq.{getD-at}
 use Rattle.csr.specs.Pattern.{has}
@@ -15,6 +15,8 @@ use Rattle.base.proofs.Sums.{sum-ext}
 use Rattle.base.specs.Cat.{cat, pick}
 use Rattle.base.proofs.Write.{length-cat, length-pick}
 use Rattle.lanes.specs.Lists.{Between}
+use Rattle.base.proofs.Bools.{or-nil}
+use Rattle.csr.proofs.Has.{has-append, has-self, has-other}
 
 -- the k below n that pass
 abbrev pub picked : (ℕ → Bool) → ℕ → List ℕ
@@ -51,29 +53,6 @@ picked-rise p (suc n) = go (p n) (picked-rise p n)
 
 -- ---- which they are
 
-has-append : (xs ys : List ℕ) (x : ℕ) → has (xs ++ ys) x ≡ has xs x || has ys x
-unfolding has
-has-append [] ys x = refl
-has-append (y ∷ xs) ys x = go (eqb x y) (has-append xs ys x)
-  where
-    go : (t : Bool) → has (xs ++ ys) x ≡ has xs x || has ys x → t || has (xs ++ ys) x ≡ t || has xs x || has ys x
-    go true ih = refl
-    go false ih = ih
-
-has-other : (t : Bool) (n j : ℕ) → (j ≡ n → ⊥) → has (pick t n) j ≡ false
-unfolding has
-has-other true n j h = rw (ne-eqb j n h) refl
-has-other false n j h = refl
-
-has-self : (t : Bool) (n : ℕ) → has (pick t n) n ≡ t
-unfolding has
-has-self true n = rw (eq-eqb n n refl) refl
-has-self false n = refl
-
-or-false : (t : Bool) → t || false ≡ t
-or-false true = refl
-or-false false = refl
-
 picked-above : (p : ℕ → Bool) (n j : ℕ) → n ≤ j → has (picked p n) j ≡ false
 unfolding cat
 picked-above p zero j h = unfold has in refl
@@ -86,7 +65,7 @@ picked-has p (suc n) j h = has-append (picked p n) (pick (p n) n) j ∙ go (ℕ-
   where
     go : Dec (j ≡ n) → (j < n → has (picked p n) j ≡ p j) → has (picked p n) j || has (pick (p n) n) j ≡ p j
     go (yes e) ih = ap₂ _||_ (picked-above p n j (omega arith)) (ap (has (pick (p n) n)) e ∙ has-self (p n) n ∙ ap p (sym e))
-    go (no e) ih = ap₂ _||_ (ih (omega arith)) (has-other (p n) n j e) ∙ or-false (p j)
+    go (no e) ih = ap₂ _||_ (ih (omega arith)) (has-other (p n) n j e) ∙ or-nil (p j)
 
 -- ---- one of them, and the first
 

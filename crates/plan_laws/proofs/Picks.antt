@@ -1,23 +1,22 @@
 -- The machine goes through all indices and picks; the plan lists what is picked. Assumes nothing.
 use mathlib.Core.Path.{_≡_, refl, sym, ap, _∙_, subst}
 use mathlib.Core.Logic.{inl, inr}
-use mathlib.Core.Bool.{Bool, true, false, cond, _&&_, _||_, true≢false, false≢true}
+use mathlib.Core.Bool.{Bool, true, false, cond, _&&_, _||_, false≢true}
 use mathlib.Core.List.{List, [], _∷_, _++_, append-nil}
 use Prim.Native.Nat.{ℕ, zero, suc, _+_, _<_, _≤_}
 use native.Mathlib.Omega.{arith}
-use native.Mathlib.Decide.{ℕ-discrete, decLt}
+use native.Mathlib.Decide.{decLt}
 use lib.Dec.{eqb}
 use lib.ListN.{length, getD, length-append, List·getD-append}
 use lib.Seq.{getD-at}
-use borrow.Author.Tests.{eq-eqb, ne-eqb}
+use borrow.Author.Tests.{eq-eqb}
 use lib.Ieee.{Float}
-use Rattle.csr.specs.Pattern.{has, row, shares, neighbours, stored}
+use Rattle.csr.specs.Pattern.{has, row, neighbours}
 use Rattle.base.specs.Numbers.{Below, Under, Rising}
-use Rattle.csr.specs.Chain.{stored-rule, stored-diag}
+use Rattle.csr.proofs.Rule.{stored-rule, stored-diag}
 use Rattle.csr.specs.Factor.{factorHas}
 use Rattle.csr.proofs.Chain.{factor-stored}
-use Rattle.base.specs.Sums.{sum, one}
-use Rattle.csr.specs.Counts.{common, isStored}
+use Rattle.base.specs.Sums.{one}
 use Rattle.base.specs.Cat.{cat, pick}
 use Rattle.lists.specs.Lists.{Shape, shape, both, find, zeroIf, weight}
 use Rattle.lists.specs.declared.Which.the-variants.{AnormIndptr, LdecompIndptr}
@@ -26,6 +25,9 @@ use Rattle.machine.specs.Machine.{place}
 use Rattle.machine.proofs.Walks.{walk, walk-more, each-walk}
 use Rattle.machine.proofs.Entries.{walk-fold}
 use Rattle.machine.proofs.Factor.{fold-same}
+use Rattle.base.proofs.Sums.{sum-zero}
+use Rattle.csr.proofs.Has.{common-none}
+use Rattle.lists.proofs.Counts.{held-stored}
 
 -- ---- through the numbers below n that pass, as a list
 module _ (p : ℕ → Bool) (f : ℕ → Float → Float) (v : Float) where
@@ -126,60 +128,33 @@ find-lt e (x ∷ xs) h = go (eqb e x) h (find-lt e xs)
     go true h ih = omega arith
     go false h ih = omega (arith, ih h)
 
-pub below-has : (n e : ℕ) (xs : List ℕ) → Below n xs → has xs e ≡ true → e < n
-unfolding has
-below-has n e [] b h = absurd (false≢true h)
-below-has n e (x ∷ xs) b h = go (ℕ-discrete e x) (below-has n e xs (b .1))
-  where
-    go : Dec (e ≡ x) → (has xs e ≡ true → e < n) → e < n
-    go (yes q) ih = omega (arith, b .0)
-    go (no q) ih = ih (sym (ap (λ (t : Bool). t || has xs e) (ne-eqb e x q)) ∙ h)
-
 -- ---- a pair that is not stored counts nothing
-
-shares-none : (xs ys : List ℕ) → shares xs ys ≡ false → common xs ys ≡ 0
-unfolding shares common
-shares-none [] ys e = refl
-shares-none (x ∷ xs) ys e = go (has ys x) e (shares-none xs ys)
-  where
-    go : (t : Bool) → t || shares xs ys ≡ false → (shares xs ys ≡ false → common xs ys ≡ 0) → one t + common xs ys ≡ 0
-    go true e ih = absurd (true≢false e)
-    go false e ih = omega (arith, ih e)
-
-sum-none : (n : ℕ) (f : ℕ → ℕ) → ((k : ℕ) → k < n → f k ≡ 0) → sum n f ≡ 0
-unfolding sum
-sum-none zero f h = refl
-sum-none (suc n) f h = omega (arith, sum-none n f (λ k b. h k (omega arith)), h n (omega arith))
 
 module _ (off cols : List ℕ) where
   abbrev g : Shape
   g = shape off cols
 
-  pub held-stored : (i j : ℕ) → j ≤ i → g .held i j ≡ stored (neighbours off cols) i j
-  unfolding isStored
-  held-stored i j h = ap (λ (t : Bool). t && stored (neighbours off cols) i j) (borrow.Author.Tests.le-leb j i h)
-
   pub held-factor : (i j : ℕ) → j ≤ i → factorHas off cols i j ≡ g .held i j
-  held-factor i j h = factor-stored off cols i j h ∙ sym (held-stored i j h)
+  held-factor i j h = factor-stored off cols i j h ∙ sym (held-stored off cols i j h)
 
   pub held-diag : (i : ℕ) → g .held i i ≡ true
-  held-diag i = held-stored i i (omega arith) ∙ stored-diag (neighbours off cols) i i refl
+  held-diag i = held-stored off cols i i (omega arith) ∙ stored-diag (neighbours off cols) i i refl
 
   not-nb : (i j : ℕ) → j ≤ i → g .held i j ≡ false → (t : Bool) → neighbours off cols i j ≡ t → t ≡ false
-  not-nb i j h e true q = absurd (false≢true (sym (sym (held-stored i j h) ∙ e) ∙ stored-rule (neighbours off cols) i j h .1 (inr (inl q))))
+  not-nb i j h e true q = absurd (false≢true (sym (sym (held-stored off cols i j h) ∙ e) ∙ stored-rule (neighbours off cols) i j h .1 (inr (inl q))))
   not-nb i j h e false q = refl
 
   pub anorm-none : (i j : ℕ) → j ≤ i → g .held i j ≡ false → weight g AnormIndptr i j ≡ 0
   unfolding weight neighbours
-  anorm-none i j h e = shares-none (row off cols i) (row off cols j) (not-nb i j h e (neighbours off cols i j) refl)
+  anorm-none i j h e = common-none (row off cols i) (row off cols j) (not-nb i j h e (neighbours off cols i j) refl)
 
   pub ldecomp-none : (i j : ℕ) → j ≤ i → g .held i j ≡ false → weight g LdecompIndptr i j ≡ 0
   unfolding weight
-  ldecomp-none i j h e = sum-none j (λ k. one (g .held i k && g .held j k)) (λ k b. go k b (g .held i k) refl (g .held j k) refl)
+  ldecomp-none i j h e = sum-zero j (λ k. one (g .held i k && g .held j k)) (λ k b. go k b (g .held i k) refl (g .held j k) refl)
     where
       go : (k : ℕ) → k < j → (s : Bool) → g .held i k ≡ s → (t : Bool) → g .held j k ≡ t → one (s && t) ≡ 0
       go k b true p true q =
-          absurd (false≢true (sym (sym (held-stored i j h) ∙ e)
-          ∙ stored-rule (neighbours off cols) i j h .1 (inr (inr (k, b, sym (held-stored i k (omega arith)) ∙ p, sym (held-stored j k (omega arith)) ∙ q)))))
+          absurd (false≢true (sym (sym (held-stored off cols i j h) ∙ e)
+          ∙ stored-rule (neighbours off cols) i j h .1 (inr (inr (k, b, sym (held-stored off cols i k (omega arith)) ∙ p, sym (held-stored off cols j k (omega arith)) ∙ q)))))
       go k b true p false q = refl
       go k b false p t q = refl

@@ -10,7 +10,7 @@ use lib.ListN.{length, getD, List·getD-append}
 use lib.Seq.{getD-append-add}
 use borrow.Author.Tests.{eq-eqb, ne-eqb}
 use Rattle.base.specs.Sums.{sum, one}
-use Rattle.base.proofs.Sums.{sum-ext, sum-add}
+use Rattle.base.proofs.Sums.{sum-ext, sum-more, sum-ones}
 use Rattle.base.specs.Cat.{cat, pick, pairs}
 use Rattle.lists.specs.Lists.{Shape, lplace, before}
 use Rattle.base.proofs.Write.{length-cat, length-pick, cat-room, pairs-room}
@@ -155,11 +155,6 @@ entry-of g i e h l =
 
 -- ---- the order of the entries
 
-sum-more : (a b : ℕ) (f : ℕ → ℕ) → a ≤ b → sum a f ≤ sum b f
-sum-more a b f h =
-    let z : a + (b - a) ≡ b = omega arith in
-    omega (arith, sum-add a (b - a) f, ap (λ (k : ℕ). sum k f) z)
-
 module _ (g : Shape) where
   pub lplace-along : (i b j : ℕ) → b ≤ j → lplace g i b ≤ lplace g i j
   unfolding lplace before
@@ -193,11 +188,6 @@ off-diag (suc n) a h = omega (arith, off-diag n a (omega arith), ap one (ne-eqb 
 on-diag : (a : ℕ) → sum (suc a) (λ b. one (eqb b a)) ≡ 1
 unfolding sum
 on-diag a = omega (arith, off-diag a a (omega arith), ap one (eq-eqb a a refl))
-
-sum-ones : (n : ℕ) → sum n (λ _. 1) ≡ n
-unfolding sum
-sum-ones zero = refl
-sum-ones (suc n) = omega (arith, sum-ones n)
 
 diag-before : (i : ℕ) → before (λ a b. one (eqb b a)) i i ≡ i
 unfolding before

@@ -1,6 +1,6 @@
 -- The matrix's own lists are its rows. Assumes nothing.
-use mathlib.Core.Path.{_≡_, refl, sym, ap, _∙_, subst}
-use mathlib.Core.List.{List, [], _∷_}
+use mathlib.Core.Path.{_≡_, refl, ap, _∙_, subst}
+use mathlib.Core.List.{List}
 use Prim.Native.Nat.{ℕ, zero, suc, _+_, _-_, _<_, _≤_}
 use native.Mathlib.Omega.{arith}
 use native.Mathlib.Numerals.{add-one}
@@ -9,17 +9,12 @@ use lib.ListN.{length, getD, drop}
 use lib.Seq.{getD-take, getD-drop}
 use lib.Ieee.{Float}
 use Rattle.csr.specs.Pattern.{row}
-use Rattle.base.specs.Numbers.{Below}
 use Rattle.lists.specs.Ready.{Accepted}
 use Rattle.lists.proofs.Spans.{span}
 use Rattle.machine.specs.Work.{problemOf}
 use Rattle.plan_laws.proofs.Picks.{between}
 use Rattle.plan_laws.specs.Meaning.{RowsOf}
-
-below-at : (n : ℕ) (xs : List ℕ) (k : ℕ) → Below n xs → k < length xs → getD xs k 0 < n
-below-at n [] k b h = absurd (omega arith)
-below-at n (x ∷ xs) zero b h = b .0
-below-at n (x ∷ xs) (suc k) b h = below-at n xs k (b .1) (omega arith)
+use Rattle.base.proofs.Numbers.{below-at}
 
 module _ (off cols : List ℕ) (m n : ℕ) (ok : Accepted off cols m n) where
   pub row-length : (i : ℕ) → i < m → length (row off cols i) ≡ getD off (i + 1) 0 - getD off i 0

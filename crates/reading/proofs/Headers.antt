@@ -1,6 +1,6 @@
 -- What a header that matches says, and what is printed for it. Assumes nothing.
 use mathlib.Core.Path.{_≡_, refl, sym, subst}
-use mathlib.Core.Bool.{Bool, true, false, cond, _&&_, true≢false}
+use mathlib.Core.Bool.{Bool, true, false, cond}
 use mathlib.Core.List.{List}
 use Prim.Native.Nat.{ℕ, _+_, _≤_}
 use native.Mathlib.Omega.{arith}
@@ -13,14 +13,7 @@ use Rattle.record.specs.Record.{mostRows, mostColumns, mostEntries, lengthOf, k
 use Rattle.answer_text.specs.Text.{inputText}
 use Rattle.reading.specs.Parts.{Whole}
 use Rattle.reading.specs.Answer.{solveText, givenOf, lentFor, answerText}
-
-and-left : (a b : Bool) → a && b ≡ true → a ≡ true
-and-left true b h = refl
-and-left false b h = h
-
-and-right : (a b : Bool) → a && b ≡ true → b ≡ true
-and-right true b h = h
-and-right false b h = absurd (true≢false (sym h))
+use Rattle.base.proofs.Bools.{and-left, and-right}
 
 module _ (s : List ℕ) where
   own-whole : wellFormed s ≡ true → Whole s (sizesOf s)

@@ -1,6 +1,6 @@
 -- When a record's bytes match, and when not. Assumes nothing.
-use mathlib.Core.Path.{_≡_, refl, sym, ap, _∙_}
-use mathlib.Core.Bool.{Bool, true, false, _&&_}
+use mathlib.Core.Path.{_≡_, sym, ap, _∙_}
+use mathlib.Core.Bool.{Bool, true, false}
 use mathlib.Core.List.{List}
 use Prim.Native.Nat.{ℕ, _+_, _<_}
 use native.Mathlib.Omega.{arith}
@@ -8,10 +8,7 @@ use borrow.Author.Tests.{eq-eqb, ne-eqb}
 use lib.ListN.{length}
 use Rattle.record.specs.declared.Header.the-variants.{Mismatch, Matches}
 use Rattle.record.specs.Record.{lengthOf, kindOf, mOf, nOf, sOf, limitOf, tOf, endAt, within, wellFormed, sizesOf, headerOf}
-
-and-false : (a : Bool) → a && false ≡ false
-and-false true = refl
-and-false false = refl
+use Rattle.base.proofs.Bools.{and-false}
 
 module _ (s : List ℕ) where
   mismatch : wellFormed s ≡ false → Mismatch ≡ headerOf s

@@ -8,7 +8,7 @@ use native.Mathlib.Decide.{ℕ-discrete, decLt}
 use native.Mathlib.Numerals.{add-one}
 use lib.Dec.{eqb, ltb}
 use borrow.Author.Tests.{eq-eqb, ne-eqb, lt-ltb, le-ltb}
-use lib.ListN.{length, getD, set, take, drop, length-append, length-take}
+use lib.ListN.{length, getD, set, take, drop, length-append, length-take, take-append-drop}
 use lib.Seq.{take-suc, take-all, getD-set-same, getD-set-other}
 use Rattle.csr.specs.Pattern.{has, row}
 use Rattle.base.specs.Numbers.{Under, Rising, Below}
@@ -18,8 +18,10 @@ use Rattle.transpose.specs.Bins.{Grid}
 use Rattle.lists.specs.declared.Take.{Take}
 use Rattle.lists.proofs.Merge.{both-eq, both-lt, both-gt, both-nil, find-at}
 use Rattle.lists.proofs.Pieces.{map-join, map-pick}
-use Rattle.transpose.proofs.Fill.{below-at, has-snoc}
+use Rattle.base.proofs.Numbers.{below-at, length-takes, below-more}
+use Rattle.csr.proofs.Has.{has-last}
 use Rattle.shared_columns.specs.Marked.{alongOf, Marked, hit}
+use Rattle.base.proofs.Bools.{or-nil, or-true}
 
 -- ---- along a list
 module _ (f : ℕ → ℕ → List ℕ) where
@@ -35,26 +37,17 @@ module _ (f : ℕ → ℕ → List ℕ) where
   unfolding alongOf
   along-one x base = append-nil (f base x)
 
-  length-takes : (q : ℕ) (l : List ℕ) → q ≤ length l → length (take q l) ≡ q
-  length-takes q l b = length-take q l ∙ omega arith
-
   pub along-next : (l : List ℕ) (q base : ℕ) → q < length l → alongOf f base (take (q + 1) l) ≡ alongOf f base (take q l) ++ f (base + q) (getD l q 0)
   along-next l q base b =
       ap (λ (k : ℕ). alongOf f base (take k l)) (add-one q) ∙ ap (alongOf f base) (take-suc l q 0 b)
       ∙ along-join (take q l) (getD l q 0 ∷ []) base
       ∙ ap (λ (x : List ℕ). alongOf f base (take q l) ++ x) (along-one (getD l q 0) (base + length (take q l)) ∙ ap (λ (k : ℕ). f (base + k) (getD l q 0)) (length-takes q l (omega arith)))
 
-  split : (k : List ℕ) (n : ℕ) → k ≡ take n k ++ drop n k
-  split [] zero = refl
-  split [] (suc n) = refl
-  split (x ∷ k) zero = refl
-  split (x ∷ k) (suc n) = ap (λ (y : List ℕ). x ∷ y) (split k n)
-
   pub along-room : (l : List ℕ) (base q : ℕ) → length (alongOf f base (take q l)) ≤ length (alongOf f base l)
   along-room l base q =
       omega (
         arith,
-        ap (λ (k : List ℕ). length (alongOf f base k)) (split l q),
+        ap (λ (k : List ℕ). length (alongOf f base k)) (sym (take-append-drop q l)),
         ap length (along-join (take q l) (drop q l) base),
         length-append (alongOf f base (take q l)) (alongOf f (base + length (take q l)) (drop q l)),
       )
@@ -147,18 +140,10 @@ marking-next mark lo xs n q e x up l he hx long k = record {
     more : (c : ℕ) → has (take (q + 1) xs) c ≡ has (take q xs) c || eqb c e
     more c =
         ap (λ (i : ℕ). has (take i xs) c) (add-one q) ∙ ap (λ (i : List ℕ). has i c) (take-suc xs q 0 l)
-        ∙ has-snoc (take q xs) (getD xs q 0) c ∙ ap (λ (i : ℕ). has (take q xs) c || eqb c i) (sym he)
-
-    or-false : (b : Bool) → b || false ≡ b
-    or-false true = refl
-    or-false false = refl
-
-    or-true : (b : Bool) → b || true ≡ true
-    or-true true = refl
-    or-true false = refl
+        ∙ has-last (take q xs) (getD xs q 0) c ∙ ap (λ (i : ℕ). has (take q xs) c || eqb c i) (sym he)
 
     other : (c : ℕ) → (c ≡ e → ⊥) → has (take (q + 1) xs) c ≡ has (take q xs) c
-    other c d = more c ∙ ap (λ (b : Bool). has (take q xs) c || b) (ne-eqb c e d) ∙ or-false (has (take q xs) c)
+    other c d = more c ∙ ap (λ (b : Bool). has (take q xs) c || b) (ne-eqb c e d) ∙ or-nil (has (take q xs) c)
 
     same : (c : ℕ) → c ≡ e → getD (set mark e x) c 0 ≡ lo + q + 1
     same c d = ap (λ (i : ℕ). getD (set mark e x) i 0) d ∙ getD-set-same mark e x 0 long ∙ hx
@@ -189,10 +174,6 @@ pub hit-no : (t : Take) (mark : List ℕ) (lo y v : ℕ) → getD mark v 0 ≤ l
 unfolding hit
 hit-no t mark lo y v l = ap (λ (b : Bool). pick b (chosen t (getD mark v 0 - 1) y v)) (le-ltb lo (getD mark v 0) l)
 
-pub below-wider : (n d : ℕ) (l : List ℕ) → n ≤ d → Below n l → Below d l
-below-wider n d [] b p = tt
-below-wider n d (x ∷ l) b p = (omega (arith, p .0), below-wider n d l b (p .1))
-
 -- rows i and j of a grid, row i marked
 module _ (t : Take) (off cols : List ℕ) (m n : ℕ) (g : Grid off cols m n) (mark : List ℕ) (i j : ℕ) (hi : i < m) (hj : j < m) (long : n ≤ length mark)
     (k : Marked mark (getD off i 0) (row off cols i) n) (a b : ℕ) (ea : a ≡ getD off j 0) (eb : b ≡ getD off (j + 1) 0) where
@@ -204,7 +185,7 @@ module _ (t : Take) (off cols : List ℕ) (m n : ℕ) (g : Grid off cols m n) (m
   cut = ap₂ (λ (x y : ℕ). take (x - y) (drop y cols)) eb ea
 
   pub span-below : Below (length mark) (take (b - a) (drop a cols))
-  span-below = subst (Below (length mark)) (sym cut) (below-wider n (length mark) (row off cols j) long (g .within j hj))
+  span-below = subst (Below (length mark)) (sym cut) (below-more n (length mark) (row off cols j) long (g .within j hj))
 
   pub span-short : a + length (take (b - a) (drop a cols)) ≤ 65536
   span-short = omega (arith, length-take (b - a) (drop a cols), span-order .0, span-order .1, span-order .2)

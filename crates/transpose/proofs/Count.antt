@@ -1,8 +1,8 @@
 -- Counting by column, and where the columns start. Assumes nothing.
 use mathlib.Core.Path.{_≡_, refl, sym, ap, _∙_, subst}
-use mathlib.Core.Bool.{Bool, true, false}
+use mathlib.Core.Bool.{Bool}
 use mathlib.Core.List.{List, [], _∷_, _++_}
-use Prim.Native.Nat.{ℕ, zero, suc, _+_, _-_, _*_, _<_, _≤_}
+use Prim.Native.Nat.{ℕ, suc, _+_, _-_, _*_, _<_, _≤_}
 use native.Mathlib.Omega.{arith}
 use native.Mathlib.Decide.{ℕ-discrete}
 use native.Mathlib.Numerals.{add-one}
@@ -11,13 +11,13 @@ use borrow.Author.Tests.{eq-eqb, ne-eqb}
 use lib.ListN.{length, getD, set, length-append}
 use lib.Seq.{sets, getD-set-same, getD-set-other}
 use Rattle.base.specs.Sums.{sum, one}
-use Rattle.base.proofs.Sums.{sum-ext, sum-next}
+use Rattle.base.proofs.Sums.{sum-ext, sum-next, sum-times, count-le}
 use Rattle.base.specs.Cat.{cat, pick, Wrote}
 use Rattle.lists.specs.Lists.{shape, holds, entry, column, columns, inColumn, columnEnds, endsOf, columnsOf}
 use Rattle.lists.specs.declared.What.{What}
 use Rattle.lists.specs.declared.What.the-variants.{Numbers, Places}
 use Rattle.lists.specs.declared.Side.the-variants.{Matrix}
-use Rattle.base.proofs.Write.{length-cat, cat-ext, cat-next, length-pick, wrote-join, wrote-as}
+use Rattle.base.proofs.Write.{length-cat, cat-ext, cat-next, length-pick, wrote-join, wrote-as, singles-length}
 use Rattle.lists.proofs.Whole.{side-is, three, three-length}
 use Rattle.transpose.specs.Bins.{Bins, onto, putIn, rowsOf, roomOf, inRow, Outside, Grid, Tally, Starts, seen, endsFrom, sideIn}
 use Rattle.transpose.proofs.Fill.{in-step, in-room, in-start, in-end, bins-whole}
@@ -37,26 +37,12 @@ tally-put next n held e x he hn b = record { count = λ c hc. go c hc (ℕ-discr
 tally-ext : (next : List ℕ) (n : ℕ) (f g : ℕ → List ℕ) → ((c : ℕ) → f c ≡ g c) → Tally next n f → Tally next n g
 tally-ext next n f g e b = record { count = λ c h. b .count c h ∙ ap length (e c) }
 
-sum-ones : (m : ℕ) (f : ℕ → Bool) → sum m (λ i. one (f i)) ≤ m
-unfolding sum
-sum-ones zero f = omega arith
-sum-ones (suc m) f = omega (arith, sum-ones m f, go (f m))
-  where
-    go : (t : Bool) → one t ≤ 1
-    go true = omega arith
-    go false = omega arith
-
 pub room-few : (off cols : List ℕ) (m c : ℕ) → roomOf off cols m c ≤ m
 unfolding inColumn
-room-few off cols m c = sum-ones m (λ i. holds (shape off cols) Matrix i c)
-
-sum-below : (n b : ℕ) (f : ℕ → ℕ) → ((c : ℕ) → f c ≤ b) → sum n f ≤ b * n
-unfolding sum
-sum-below zero b f h = omega arith
-sum-below (suc n) b f h = let z : b * suc n ≡ b * n + b = omega arith in omega (arith, sum-below n b f h, h n)
+room-few off cols m c = count-le m (λ i. holds (shape off cols) Matrix i c)
 
 pub room-sum : (off cols : List ℕ) (m n : ℕ) → m ≤ 256 → n ≤ 1024 → sum n (roomOf off cols m) ≤ 262144
-room-sum off cols m n hm hn = omega (arith, sum-below n 256 (roomOf off cols m) (λ c. omega (arith, room-few off cols m c)))
+room-sum off cols m n hm hn = omega (arith, sum-times n 256 (roomOf off cols m) (λ c l. omega (arith, room-few off cols m c)))
 
 pub seen-start : (off cols : List ℕ) (n : ℕ) (next : List ℕ) → ((c : ℕ) → c < n → getD next c 0 ≡ 0) → Tally next n (seen off cols 0)
 unfolding column cat
@@ -135,11 +121,6 @@ module _ (f : ℕ → ℕ) where
       go c u (yes r) = ap (λ (k : ℕ). getD (set l e t) k 0) r ∙ getD-set-same l e t 0 h ∙ q ∙ ap (λ (k : ℕ). sum k f) (sym r)
       go c u (no r) = getD-set-other l e c t 0 r ∙ b .first c (omega arith)
 
-  length-to : (n : ℕ) → length (endsTo n) ≡ n
-  unfolding endsTo cat
-  length-to zero = refl
-  length-to (suc n) = length-append (endsTo n) (sum (suc n) f ∷ []) ∙ omega (arith, length-to n)
-
   module _ (index₀ index next₀ next again : List ℕ) (start at t e n : ℕ) (v : Ending index₀ index next₀ next again start at t e n) (he : e < n) where
     pub ending-turn : (index′ : List ℕ) (r x : ℕ) → e < length next → e < length again → x ≡ getD next e 0 → x ≤ 256 → Wrote index index′ at ((t + x) ∷ []) r
         → Ending index₀ index′ next₀ (set next e t) (set again e t) start r (t + x) (e + 1) n
@@ -159,7 +140,8 @@ module _ (f : ℕ → ℕ) where
         tot = omega (arith, v .total, sum-next e f, v .rest e (omega arith) he)
 
     pub ending-room : (start₀ l : ℕ) → start ≡ start₀ + 1 → start₀ + n + 1 ≤ l → at < l
-    ending-room start₀ l q h = omega (arith, v .wrote .next, length-to e)
+    unfolding endsTo
+    ending-room start₀ l q h = omega (arith, v .wrote .next, singles-length e (λ k. sum (suc k) f))
 
     pub ending-few : ((c : ℕ) → c < n → f c ≤ 256) → getD next e 0 ≤ 256
     ending-few h = omega (arith, v .rest e (omega arith) he, h e he)
@@ -207,14 +189,9 @@ module _ (off cols : List ℕ) (m n : ℕ) where
   pub cols-long : (w : What) → length (cat n (rowsOf off cols w m)) ≡ sum n (roomOf off cols m)
   cols-long w = length-cat n (rowsOf off cols w m) ∙ sum-ext n (λ c. length (rowsOf off cols w m c)) (roomOf off cols m) (λ c h. column-long off cols w m c)
 
-  length-ends : (k : ℕ) → length (cat k (λ e. sum (suc e) (λ c. roomOf off cols m c) ∷ [])) ≡ k
-  unfolding cat
-  length-ends zero = refl
-  length-ends (suc k) = length-append (cat k (λ e. sum (suc e) (λ c. roomOf off cols m c) ∷ [])) (sum (suc k) (λ c. roomOf off cols m c) ∷ []) ∙ omega (arith, length-ends k)
-
   pub ends-long : length (endsOf (shape off cols) Matrix m n) ≡ n + 1
   unfolding endsOf columnEnds
-  ends-long = omega (arith, length-ends n)
+  ends-long = omega (arith, singles-length n (λ e. sum (suc e) (λ c. roomOf off cols m c)))
 
   pub side-long : length (sideIn off cols m n) ≡ n + 1 + sum n (roomOf off cols m) + sum n (roomOf off cols m)
   side-long =

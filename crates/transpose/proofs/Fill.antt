@@ -1,40 +1,28 @@
 -- Laws of bins. Assumes nothing.
 use mathlib.Core.Path.{_≡_, refl, sym, ap, ap₂, _∙_, subst}
 use mathlib.Core.Logic.{_≢_}
-use mathlib.Core.Bool.{Bool, true, false}
-use mathlib.Core.List.{List, [], _∷_, _++_}
+use mathlib.Core.Bool.{Bool, false, _||_}
+use mathlib.Core.List.{List, [], _∷_, _++_, append-nil}
 use Prim.Native.Nat.{ℕ, zero, suc, _+_, _-_, _<_, _≤_}
 use native.Mathlib.Omega.{arith}
 use native.Mathlib.Decide.{ℕ-discrete, decLt}
 use lib.Dec.{eqb}
-use lib.ListN.{length, getD, set, length-set, length-append, List·getD-append}
-use lib.Seq.{sets, length-sets, getD-set-same, getD-set-other, getD-append-add, getD-append-seam, ext-getD}
+use lib.ListN.{length, getD, set, length-set, length-append, List·getD-append, take}
+use lib.Seq.{sets, length-sets, getD-set-same, getD-set-other, getD-append-add, getD-append-seam, ext-getD, take-suc, take-all}
 use borrow.Author.Tests.{eq-eqb, ne-eqb}
 use native.Mathlib.Numerals.{add-one}
-use mathlib.Core.Bool.{_||_}
-use mathlib.Core.List.{append-nil}
-use lib.ListN.{take}
-use lib.Seq.{take-suc, take-all}
 use Rattle.csr.specs.Pattern.{has, row}
-use Rattle.base.specs.Numbers.{Below, Under, Rising}
+use Rattle.base.specs.Numbers.{Rising}
 use Rattle.base.specs.Cat.{pick, cat}
 use Rattle.lists.specs.Lists.{shape, holds, entry, column, inColumn}
 use Rattle.lists.specs.declared.What.{What}
 use Rattle.lists.specs.declared.Side.the-variants.{Matrix}
 use Rattle.base.specs.Sums.{sum, one}
-use Rattle.base.proofs.Sums.{sum-ext}
+use Rattle.base.proofs.Sums.{sum-ext, sum-room}
 use Rattle.base.proofs.Write.{length-cat, cat-room, cat-next, length-pick}
 use Rattle.transpose.specs.Bins.{Bins, onto, putIn, rowsOf, roomOf, inRow}
-
--- a bin and all before it end where the next begins, or before
-pub sum-mono : (size : ℕ → ℕ) (d c : ℕ) → c < d → sum c size + size c ≤ sum d size
-unfolding sum
-sum-mono size zero c h = absurd (omega arith)
-sum-mono size (suc d) c h = go (ℕ-discrete c d) (sum-mono size d c)
-  where
-    go : Dec (c ≡ d) → (c < d → sum c size + size c ≤ sum d size) → sum c size + size c ≤ sum d size + size d
-    go (yes e) ih = omega (arith, ap (λ (k : ℕ). sum k size + size k) e)
-    go (no e) ih = omega (arith, ih (omega arith))
+use Rattle.base.proofs.Bools.{or-nil}
+use Rattle.csr.proofs.Has.{has-at, has-last, not-before}
 
 module _ (index next : List ℕ) (start n : ℕ) (size : ℕ → ℕ) (held : ℕ → List ℕ) (b : Bins index next start n size held)
     (e x : ℕ) (he : e < n) (hn : e < length next) (room : length (held e) < size e) (long : start + sum n size ≤ length index) where
@@ -69,7 +57,7 @@ module _ (index next : List ℕ) (start n : ℕ) (size : ℕ → ℕ) (held : �
       inBin q (yes r) h =
           let w : start + sum c size + k ≡ at = omega (arith, cur, ap (λ (z : ℕ). sum z size + length (held z)) q) in
           ap (λ (z : ℕ). getD (set index at x) z 0) w
-          ∙ getD-set-same index at x 0 (omega (arith, cur, sum-mono size n e he))
+          ∙ getD-set-same index at x 0 (omega (arith, cur, sum-room n e size he))
           ∙ sym (ap (λ (z : ℕ). getD (held c ++ (x ∷ [])) z 0) r ∙ getD-append-seam (held c) x [] 0)
       inBin q (no r) h =
           let l : k < length (held c) = omega (arith, length-append (held c) (x ∷ [])) in
@@ -78,8 +66,8 @@ module _ (index next : List ℕ) (start n : ℕ) (size : ℕ → ℕ) (held : �
           ∙ sym (List·getD-append (held c) (x ∷ []) 0 k l)
 
       away : c ≢ e → k < length (held c) → Dec (c < e) → start + sum c size + k ≢ at
-      away q l (yes r) w = omega (arith, cur, sum-mono size e c r, b .fits c hc)
-      away q l (no r) w = omega (arith, cur, sum-mono size c e (omega arith))
+      away q l (yes r) w = omega (arith, cur, sum-room e c size r, b .fits c hc)
+      away q l (no r) w = omega (arith, cur, sum-room c e size (omega arith))
 
       go : Dec (c ≡ e) → getD (set index at x) (start + sum c size + k) 0 ≡ getD (onto (eqb c e) x (held c)) k 0
       go (yes q) =
@@ -160,48 +148,6 @@ bins-ext index next start n size f g e b = record {
   words = λ c k h l. b .words c k h (subst (λ (z : List ℕ). k < length z) (sym (e c h)) l) ∙ ap (λ (z : List ℕ). getD z k 0) (e c h);
 }
 
-pub has-snoc : (l : List ℕ) (y c : ℕ) → has (l ++ (y ∷ [])) c ≡ has l c || eqb c y
-unfolding has
-has-snoc [] y c = or-false (eqb c y)
-  where
-    or-false : (t : Bool) → t || false ≡ t
-    or-false true = refl
-    or-false false = refl
-has-snoc (z ∷ l) y c = ap (λ (t : Bool). eqb c z || t) (has-snoc l y c) ∙ or-assoc (eqb c z) (has l c) (eqb c y)
-  where
-    or-assoc : (a b d : Bool) → a || (b || d) ≡ a || b || d
-    or-assoc true b d = refl
-    or-assoc false b d = refl
-
-under-at : (x : ℕ) (xs : List ℕ) (i : ℕ) → Under x xs → i < length xs → x < getD xs i 0
-under-at x [] i h l = absurd (omega arith)
-under-at x (y ∷ xs) zero h l = h .0
-under-at x (y ∷ xs) (suc i) h l = under-at x xs i (h .1) (omega arith)
-
--- a rising list has its entry q not among those before it
-not-before : (l : List ℕ) (q : ℕ) → Rising l → q < length l → has (take q l) (getD l q 0) ≡ false
-unfolding has
-not-before [] q h b = absurd (omega arith)
-not-before (x ∷ l) zero h b = refl
-not-before (x ∷ l) (suc q) h b =
-    let u : x < getD l q 0 = under-at x l q (h .0) (omega arith) in
-    rw (ne-eqb (getD l q 0) x (λ e. omega arith)) (not-before l q (h .1) (omega arith))
-
-pub has-at : (l : List ℕ) (q : ℕ) → q < length l → has l (getD l q 0) ≡ true
-unfolding has
-has-at [] q b = absurd (omega arith)
-has-at (x ∷ l) zero b = rw (eq-eqb x x refl)
-has-at (x ∷ l) (suc q) b = or-right (eqb (getD l q 0) x) (has l (getD l q 0)) (has-at l q (omega arith))
-  where
-    or-right : (a c : Bool) → c ≡ true → a || c ≡ true
-    or-right true c e = refl
-    or-right false c e = e
-
-pub below-at : (n : ℕ) (l : List ℕ) (q : ℕ) → Below n l → q < length l → getD l q 0 < n
-below-at n [] q b h = absurd (omega arith)
-below-at n (x ∷ l) zero b h = b .0
-below-at n (x ∷ l) (suc q) b h = below-at n l q (b .1) (omega arith)
-
 module _ (off cols : List ℕ) (w : What) (i : ℕ) where
   pub in-start : (c : ℕ) → rowsOf off cols w i c ≡ inRow off cols w i 0 c
   unfolding inRow has
@@ -218,10 +164,10 @@ module _ (off cols : List ℕ) (w : What) (i : ℕ) where
     one-more c =
         ap (λ (k : ℕ). has (take k (row off cols i)) c) (add-one q)
         ∙ ap (λ (l : List ℕ). has l c) (take-suc (row off cols i) q 0 hq)
-        ∙ has-snoc (take q (row off cols i)) (getD (row off cols i) q 0) c
+        ∙ has-last (take q (row off cols i)) (getD (row off cols i) q 0) c
         ∙ ap (λ (z : ℕ). has (take q (row off cols i)) c || eqb c z) (sym he)
 
-    absent-e : has (take q (row off cols i)) e ≡ false
+    pub absent-e : has (take q (row off cols i)) e ≡ false
     absent-e = ap (has (take q (row off cols i))) he ∙ not-before (row off cols i) q up hq
 
     pub in-step : (c : ℕ) → putIn e x (inRow off cols w i q) c ≡ inRow off cols w i (q + 1) c
@@ -239,11 +185,7 @@ module _ (off cols : List ℕ) (w : What) (i : ℕ) where
             ∙ ap (λ (t : Bool). base ++ pick t (entry (shape off cols) Matrix w i c)) (sym (one-more c ∙ ap₂ _||_ z (eq-eqb c e r)))
         go (no r) =
             ap (λ (s : Bool). onto s x (base ++ pick (has (take q (row off cols i)) c) (entry (shape off cols) Matrix w i c))) (ne-eqb c e r)
-            ∙ ap (λ (t : Bool). base ++ pick t (entry (shape off cols) Matrix w i c)) (sym (one-more c ∙ ap (λ (t : Bool). has (take q (row off cols i)) c || t) (ne-eqb c e r) ∙ or-false (has (take q (row off cols i)) c)))
-          where
-            or-false : (t : Bool) → t || false ≡ t
-            or-false true = refl
-            or-false false = refl
+            ∙ ap (λ (t : Bool). base ++ pick t (entry (shape off cols) Matrix w i c)) (sym (one-more c ∙ ap (λ (t : Bool). has (take q (row off cols i)) c || t) (ne-eqb c e r) ∙ or-nil (has (take q (row off cols i)) c)))
 
     pub in-room : (m : ℕ) → i < m → length (inRow off cols w i q e) < roomOf off cols m e
     unfolding inRow column inColumn

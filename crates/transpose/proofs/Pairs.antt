@@ -1,8 +1,8 @@
 -- Counting the columns that pairs of rows share, by a count for each column. Assumes nothing.
 use mathlib.Core.Path.{_≡_, refl, sym, ap, ap₂, _∙_}
-use mathlib.Core.Bool.{Bool, true, false, _||_}
+use mathlib.Core.Bool.{Bool, true, _||_}
 use mathlib.Core.List.{List, [], _∷_, _++_}
-use Prim.Native.Nat.{ℕ, zero, suc, _+_, _-_, _<_, _≤_}
+use Prim.Native.Nat.{ℕ, suc, _+_, _-_, _<_, _≤_}
 use native.Mathlib.Omega.{arith}
 use native.Mathlib.Numerals.{add-one}
 use lib.ListN.{length, getD, take}
@@ -16,9 +16,11 @@ use Rattle.base.proofs.Write.{cat-next}
 use Rattle.lists.specs.Lists.{inColumn, column}
 use Rattle.lists.specs.declared.What.the-variants.{Numbers}
 use Rattle.transpose.specs.Bins.{inRow, Grid, Tally, seen}
-use Rattle.transpose.proofs.Fill.{has-at, has-snoc}
+use Rattle.csr.proofs.Has.{has-at, has-last}
 use Rattle.transpose.proofs.Row.{row-long, in-q, e-at, e-below}
 use Rattle.transpose.proofs.Count.{column-long}
+use Rattle.base.proofs.Sums.{sum-zero, sum-plus}
+use Rattle.base.proofs.Bools.{or-true}
 
 -- f of each number of a list, added up
 unfoldable pub over : (ℕ → ℕ) → List ℕ → ℕ
@@ -39,19 +41,9 @@ over-ext f g [] e = refl
 over-ext f g (x ∷ xs) e = ap₂ _+_ (e x) (over-ext f g xs e)
 
 -- ---- counted by row or by column
-sum-none : (n : ℕ) → sum n (λ j. 0) ≡ 0
-unfolding sum
-sum-none zero = refl
-sum-none (suc n) = omega (arith, sum-none n)
-
-sum-plus : (n : ℕ) (f g : ℕ → ℕ) → sum n (λ k. f k + g k) ≡ sum n f + sum n g
-unfolding sum
-sum-plus zero f g = refl
-sum-plus (suc n) f g = omega (arith, sum-plus n f g)
-
 by-column : (n : ℕ) (r : ℕ → List ℕ) (xs : List ℕ) → over (λ x. sum n (λ j. one (has (r j) x))) xs ≡ sum n (λ j. common xs (r j))
 unfolding over common
-by-column n r [] = sym (sum-none n)
+by-column n r [] = sym (sum-zero n (λ j. 0) (λ k l. refl))
 by-column n r (x ∷ xs) =
     ap (λ (k : ℕ). sum n (λ j. one (has (r j) x)) + k) (by-column n r xs)
     ∙ sym (sum-plus n (λ j. one (has (r j) x)) (λ j. common xs (r j)))
@@ -60,13 +52,9 @@ by-column n r (x ∷ xs) =
 has-to : (l : List ℕ) (q : ℕ) → q < length l → has (take (q + 1) l) (getD l q 0) ≡ true
 has-to l q h =
     ap (λ (k : ℕ). has (take k l) (getD l q 0)) (add-one q) ∙ ap (λ (k : List ℕ). has k (getD l q 0)) (take-suc l q 0 h)
-    ∙ has-snoc (take q l) (getD l q 0) (getD l q 0)
+    ∙ has-last (take q l) (getD l q 0) (getD l q 0)
     ∙ ap (λ (t : Bool). has (take q l) (getD l q 0) || t) (eq-eqb (getD l q 0) (getD l q 0) refl)
     ∙ or-true (has (take q l) (getD l q 0))
-  where
-    or-true : (b : Bool) → b || true ≡ true
-    or-true true = refl
-    or-true false = refl
 
 -- how many of the rows up to i hold column c
 abbrev pub upTo : List ℕ → List ℕ → ℕ → ℕ → ℕ

@@ -13,7 +13,9 @@ use Rattle.lists.specs.declared.What.the-variants.{Numbers, Places}
 use Rattle.lists.specs.declared.Side.the-variants.{Matrix}
 use Rattle.lists.proofs.Merge.{find-at}
 use Rattle.transpose.specs.Bins.{Bins, rowsOf, roomOf, inRow, Outside, Grid}
-use Rattle.transpose.proofs.Fill.{turn, in-room, below-at, sum-mono, in-start, in-end, bins-ext}
+use Rattle.transpose.proofs.Fill.{turn, in-room, in-start, in-end, bins-ext}
+use Rattle.base.proofs.Numbers.{below-at}
+use Rattle.base.proofs.Sums.{sum-room}
 
 place-of : (off cols : List ℕ) (i e k q : ℕ) → find e (row off cols i) ≡ q → k ≡ getD off i 0 + q → k ≡ place (shape off cols) i e
 unfolding place
@@ -43,7 +45,7 @@ module _ (off cols : List ℕ) (m n i : ℕ) (ok : Grid off cols m n) (hi : i < 
     pub e-below : e < n
     e-below = subst (λ (y : ℕ). y < n) (sym e-at) (below-at n (row off cols i) (k - getD off i 0) (ok .within i hi) in-q)
 
-    x-is : x ≡ entry (shape off cols) Matrix w i e
+    pub x-is : x ≡ entry (shape off cols) Matrix w i e
     x-is = hx ∙ go w
       where
         go : (v : What) → told v i k ≡ entry (shape off cols) Matrix v i e
@@ -59,7 +61,7 @@ module _ (off cols : List ℕ) (m n i : ℕ) (ok : Grid off cols m n) (hi : i < 
           (turn off cols w i (k - getD off i 0) e x (ok .rising i hi) in-q e-at x-is index next start n m hi e-below (omega (arith, e-below)) room b)
 
       spot-in : start + getD next e 0 < start + sum n (roomOf off cols m)
-      spot-in = omega (arith, b .cursor e e-below, in-room off cols w i (k - getD off i 0) e x (ok .rising i hi) in-q e-at x-is m hi, sum-mono (roomOf off cols m) n e e-below)
+      spot-in = omega (arith, b .cursor e e-below, in-room off cols w i (k - getD off i 0) e x (ok .rising i hi) in-q e-at x-is m hi, sum-room n e (roomOf off cols m) e-below)
 
       pub turn-asks : sum n (roomOf off cols m) ≤ 262144 → (e < length next) × (start + getD next e 0 < length index) × (getD next e 0 < 262144)
       turn-asks f = (omega (arith, e-below), omega (arith, spot-in), omega (arith, spot-in))

@@ -4,7 +4,8 @@ use lib.Dec.{leb}
 use borrow.Author.Needs.{needs}
 use borrow.Author.Tests.{lt-ltb, le-ltb, leb-true, not-true, not-false}
 use Rattle.csr.specs.Questions.{firstNo}
-use Rattle.csr.proofs.Right.{right, and-right}
+use Rattle.csr.proofs.Right.{right}
+use Rattle.base.proofs.Bools.{and-right}
 use Rattle.csr.proofs.ask.Statement.{statement}
 use Rattle.csr.proofs.ask.Tie as tie
 

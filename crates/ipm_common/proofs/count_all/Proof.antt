@@ -4,7 +4,7 @@ use native.Mathlib.Omega.{arith}
 use Rattle.pattern.specs.Word.{bit}
 use Rattle.pattern.proofs.Whole.{count-E}
 use Rattle.pair_lists.proofs.Lists.{rows-grid}
-use Rattle.ipm_common.proofs.Final.{accepted-grid}
+use Rattle.transpose.proofs.Grids.{accepted-grid}
 use Rattle.ipm_common.proofs.Counted.{factor-pairs}
 use Rattle.ipm_common.proofs.count_all.Statement.{statement}
 use Rattle.ipm_common.proofs.count_all.Tie as tie

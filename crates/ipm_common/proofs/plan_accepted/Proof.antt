@@ -1,14 +1,14 @@
 -- `ipm_common::plan_accepted` meets its contract. Assumes nothing.
 use mathlib.Core.Path.{_≡_, refl, _∙_}
-use Prim.Native.Nat.{_<_, _≤_}
+use Prim.Native.Nat.{suc, _<_, _≤_}
 use native.Mathlib.Omega.{arith}
 use lib.ListN.{length}
 use borrow.Author.Needs.{needs}
 use borrow.Author.Tests.{le-leb, lt-leb}
 use Rattle.csr.specs.Counts.{sizeW}
 use Rattle.ipm_common.specs.Plan.{roomVerdict}
-use Rattle.pair_lists.proofs.Lists.{tri-le, tri-256}
-use Rattle.ipm_common.proofs.Counted.{stored-few}
+use Rattle.base.proofs.Sums.{sum-more}
+use Rattle.lists.proofs.Few.{pairs-256, stored-few}
 use Rattle.ipm_common.proofs.Final as fin
 use Rattle.ipm_common.proofs.plan_accepted.Statement.{statement}
 use Rattle.ipm_common.proofs.plan_accepted.Tie as tie
@@ -47,7 +47,7 @@ returns-2 c =
     let fits : sizeW (a .offsets .now) (a .columns .now) (a .m) (a .n) ≤ length (a .index .now) = omega (arith, w, c .if1 .left, c .before .before .before .before .plan-below .kept .1 .1 .1 .1 .0) in
     record {
       says = rw (le-leb _ _ fits, w) refl;
-      words = c .before .before .before .before .plan-below .ensures .words ∙ fin.written-yes (a .m) (a .n) (a .offsets .now) (a .columns .now) (a .index .now) _ (omega (arith, stored-few (a .offsets .now) (a .columns .now) (a .m), tri-le (a .m) 256 (c .before .before .before .before .before .before .before .before .before .pre .csr .few), tri-256)) fits;
+      words = c .before .before .before .before .plan-below .ensures .words ∙ fin.written-yes (a .m) (a .n) (a .offsets .now) (a .columns .now) (a .index .now) _ (omega (arith, stored-few (a .offsets .now) (a .columns .now) (a .m), sum-more (a .m) 256 suc (c .before .before .before .before .before .before .before .before .before .pre .csr .few), pairs-256)) fits;
     }
 
 pub plan-accepted-spec : {M : Type 1} → statement M

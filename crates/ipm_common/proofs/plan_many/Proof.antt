@@ -1,9 +1,11 @@
 -- `ipm_common::plan_many` meets its contract. Assumes nothing.
 use mathlib.Core.Path.{refl}
+use Prim.Native.Nat.{suc}
 use native.Mathlib.Omega.{arith}
 use borrow.Author.Needs.{needs}
-use Rattle.pair_lists.proofs.Lists.{tri-256}
 use Rattle.ipm_common.proofs.Memories.{memories-for}
+use Rattle.base.proofs.Sums.{sum-more}
+use Rattle.lists.proofs.Few.{pairs-256}
 use Rattle.ipm_common.proofs.plan_many.Statement.{statement}
 use Rattle.ipm_common.proofs.plan_many.Tie as tie
 
@@ -25,7 +27,7 @@ slice-aggregate-plan-in-5 c = search needs
 plan-in-requires : tie.Need-plan-in-requires
 plan-in-requires c κs =
     let s = c .before .before .before .before .before .before .before .before .before in
-    (s .pre, memories-for 256 1024 32896 tri-256 (omega arith) (omega arith) (s .args .m) (s .args .n) (s .pre .csr .few) (s .pre .wide) _ _ _ _ _ refl refl refl refl refl)
+    (s .pre, memories-for 256 1024 32896 pairs-256 (omega arith) (omega arith) (s .args .m) (s .args .n) (s .pre .csr .few) (s .pre .wide) _ _ _ _ _ refl refl refl refl refl)
 
 same-length : tie.Need-same-length
 same-length c = search needs

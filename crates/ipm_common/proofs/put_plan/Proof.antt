@@ -8,12 +8,13 @@ use Rattle.ipm_common.proofs.Final as fin
 use borrow.Author.Needs.{needs}
 use Rattle.ipm_common.proofs.put_plan.Statement.{statement}
 use Rattle.ipm_common.proofs.put_plan.Tie as tie
+use Rattle.transpose.proofs.Grids.{accepted-grid}
 
 put-ten-requires : tie.Need-put-ten-requires
 put-ten-requires c κs =
     let s = c .before .before .before .before .before .before .before .before .before .before .before in
     let a = s .args in
-    (record { ready = s .pre .1; rows = s .pre .2; grid = fin.accepted-grid (a .off .now) (a .cols .now) (a .m) (a .n) (s .pre .0) }, omega (arith, s .pre .3, fin.plan-long (a .off .now) (a .cols .now) (a .m) (a .n) (a .p .now) (a .lp .now) (a .li .now) (s .pre .1) (s .pre .2)), s .pre .4)
+    (record { ready = s .pre .1; rows = s .pre .2; grid = accepted-grid (a .off .now) (a .cols .now) (a .m) (a .n) (s .pre .0) }, omega (arith, s .pre .3, fin.plan-long (a .off .now) (a .cols .now) (a .m) (a .n) (a .p .now) (a .lp .now) (a .li .now) (s .pre .1) (s .pre .2)), s .pre .4)
 
 transpose-requires : tie.Need-transpose-requires
 transpose-requires c κs =
@@ -28,7 +29,7 @@ transpose-requires-2 c κs =
     let a = s .args in
     let t = c .before .before .before .before .before .before .before .before .before .before .before .before .before .before .before .before .before .put-ten in
     let u = c .before .before .before .before .before .before .before .before .before .transpose in
-    (fin.accepted-grid (a .off .now) (a .cols .now) (a .m) (a .n) (s .pre .0), omega (arith, s .pre .3, fin.plan-long (a .off .now) (a .cols .now) (a .m) (a .n) (a .p .now) (a .lp .now) (a .li .now) (s .pre .1) (s .pre .2), t .kept .1 .1 .1 .1 .1 .1 .1 .1 .0, t .ensures .next, u .kept .1 .1 .1 .1 .1 .1 .1 .1 .0, u .ensures .next), omega (arith, s .pre .5 .columns, u .kept .1 .1 .1 .1 .1 .1 .0), omega (arith, s .pre .6 .columns, u .kept .1 .1 .1 .1 .1 .1 .1 .0))
+    (accepted-grid (a .off .now) (a .cols .now) (a .m) (a .n) (s .pre .0), omega (arith, s .pre .3, fin.plan-long (a .off .now) (a .cols .now) (a .m) (a .n) (a .p .now) (a .lp .now) (a .li .now) (s .pre .1) (s .pre .2), t .kept .1 .1 .1 .1 .1 .1 .1 .1 .0, t .ensures .next, u .kept .1 .1 .1 .1 .1 .1 .1 .1 .0, u .ensures .next), omega (arith, s .pre .5 .columns, u .kept .1 .1 .1 .1 .1 .1 .0), omega (arith, s .pre .6 .columns, u .kept .1 .1 .1 .1 .1 .1 .1 .0))
 
 same-length : tie.Need-same-length
 same-length c = search needs

@@ -2,9 +2,8 @@ use borrow.Author.Needs.{needs}
 use mathlib.Core.Path.{sym, ap, _∙_}
 use lib.ListN.{length}
 use Rattle.csr.specs.Verdict.{told}
-use Rattle.csr.proofs.Yes.{accepted-of}
+use Rattle.csr.proofs.Yes.{accepted-of, values-of}
 use Rattle.ipm_simd.specs.Solve.{given, lent}
-use Rattle.ipm_simd.proofs.Questions.{values-of}
 use Rattle.ipm_simd.proofs.Solves.{solved-on, solved-not}
 use Rattle.ipm_simd.proofs.solve.Statement.{statement}
 use Rattle.ipm_simd.proofs.solve.Tie as tie

@@ -3,7 +3,7 @@ use native.Mathlib.Omega.{arith}
 use mathlib.Core.Path.{sym, ap, _∙_, subst}
 use mathlib.Core.List.{List}
 use Rattle.csr.specs.Verdict.{told}
-use Rattle.plan_laws.proofs.Few.{few-stored}
+use Rattle.lists.proofs.Few.{few-stored}
 use Rattle.memory.specs.Planned.{Counted}
 use Rattle.ipm_simd.specs.declared.SolveAnswer.the-variants as answers
 use Rattle.ipm_simd.specs.Solve.{given, lent}

@@ -7,7 +7,8 @@ use lib.ListN.{length, getD}
 use Rattle.csr.specs.Pattern.{row}
 use Rattle.csr.specs.Csr.{Csr}
 use Rattle.pattern.specs.Links.{Inside}
-use Rattle.pattern.proofs.Linking.{Linking, below-at, first-most, linking-start, linking-turn, linking-row, linking-firsts}
+use Rattle.pattern.proofs.Linking.{Linking, first-most, linking-start, linking-turn, linking-row, linking-firsts}
+use Rattle.base.proofs.Numbers.{below-at}
 use Rattle.pattern.proofs.Rows.{other-put}
 use Rattle.pattern.proofs.seed_row.Statement.{statement}
 use Rattle.pattern.proofs.seed_row.Tie as tie

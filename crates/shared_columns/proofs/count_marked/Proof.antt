@@ -5,7 +5,7 @@ use mathlib.Core.Logic.{⊎-elim}
 use native.Mathlib.Omega.{arith}
 use lib.ListN.{length, drop}
 use borrow.Author.Tests.{lt-ltb, le-ltb}
-use Rattle.transpose.proofs.Fill.{below-at}
+use Rattle.base.proofs.Numbers.{below-at}
 use Rattle.shared_columns.specs.Marked.{countOf, marked}
 use Rattle.shared_columns.proofs.Among.{count-yes, count-no, count-end}
 use Rattle.shared_columns.proofs.count_marked.Statement.{statement}

@@ -10,7 +10,7 @@ use borrow.Author.Needs.{needs}
 use Rattle.base.specs.Numbers.{Below}
 use Rattle.csr.specs.Pattern.{row}
 use Rattle.transpose.proofs.Row as rowlaw
-use Rattle.shared_columns.proofs.Marks.{below-wider}
+use Rattle.base.proofs.Numbers.{below-more}
 use Rattle.shared_columns.proofs.Among as among
 use Rattle.shared_columns.proofs.count_shared.Statement.{statement}
 use Rattle.shared_columns.proofs.count_shared.Tie as tie
@@ -30,7 +30,7 @@ count-marked-requires : tie.Need-count-marked-requires
 count-marked-requires c κs =
     let s = c .before .before .before .before .before in
     let a = s .args in
-    subst (λ (l : List ℕ). Below (length (a .mark .now)) l) (sym (c .get-row .ensures)) (below-wider (a .wide) (length (a .mark .now)) (row (a .off .now) (a .cols .now) (a .j)) (s .pre .0 .long) (s .pre .0 .grid .within (a .j) (s .pre .1)))
+    subst (λ (l : List ℕ). Below (length (a .mark .now)) l) (sym (c .get-row .ensures)) (below-more (a .wide) (length (a .mark .now)) (row (a .off .now) (a .cols .now) (a .j)) (s .pre .0 .long) (s .pre .0 .grid .within (a .j) (s .pre .1)))
 
 returns : tie.Need-returns
 returns c =

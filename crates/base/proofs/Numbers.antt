@@ -1,0 +1,60 @@
+-- Laws of parts of a list, and of lists of numbers that are below a bound or rise. Assumes nothing.
+use mathlib.Core.Path.{_≡_, sym, ap, _∙_}
+use mathlib.Core.Bool.{Bool, true, false}
+use mathlib.Core.List.{List, [], _∷_, _++_}
+use Prim.Native.Nat.{ℕ, zero, suc, _+_, _-_, _<_, _≤_}
+use native.Mathlib.Omega.{arith}
+use lib.ListN.{length, getD, take, drop, length-take, length-drop}
+use lib.Seq.{take-at, drop-at}
+use Rattle.base.specs.Cat.{pick}
+use Rattle.base.specs.Numbers.{cut, Below, Under, Rising}
+
+-- ---- parts
+
+pub length-takes : (q : ℕ) (l : List ℕ) → q ≤ length l → length (take q l) ≡ q
+length-takes q l b = length-take q l ∙ omega arith
+
+pub part-le : (n f : ℕ) (l : List ℕ) → length (take n (drop f l)) ≤ length l
+part-le n f l = simp (length-take, length-drop) (omega arith)
+
+-- THE CUT: what stands between x and z
+pub cut-part : (x y z : List ℕ) (a e : ℕ) → a ≡ length x → e ≡ length x + length y → cut a e (x ++ (y ++ z)) ≡ y
+cut-part x y z a e p q = ap (take (e - a)) (drop-at x (y ++ z) a (sym p)) ∙ take-at y z (e - a) (omega arith)
+
+-- ---- numbers below a bound
+
+pub below-at : (n : ℕ) (l : List ℕ) (q : ℕ) → Below n l → q < length l → getD l q 0 < n
+below-at n [] q h g = absurd (omega arith)
+below-at n (x ∷ l) zero h g = h .0
+below-at n (x ∷ l) (suc q) h g = below-at n l q (h .1) (omega arith)
+
+pub below-more : (n k : ℕ) (l : List ℕ) → n ≤ k → Below n l → Below k l
+below-more n k [] h b = tt
+below-more n k (x ∷ l) h b = (omega (arith, b .0), below-more n k l h (b .1))
+
+pub below-join : (n : ℕ) (xs ys : List ℕ) → Below n xs → Below n ys → Below n (xs ++ ys)
+below-join n [] ys p q = q
+below-join n (x ∷ xs) ys p q = (p .0, below-join n xs ys (p .1) q)
+
+pub below-pick : (t : Bool) (x : ℕ) → Below (suc x) (pick t x)
+below-pick true x = (omega arith, tt)
+below-pick false x = tt
+
+-- ---- numbers that rise
+
+pub under-at : (x : ℕ) (xs : List ℕ) (i : ℕ) → Under x xs → i < length xs → x < getD xs i 0
+under-at x [] i h l = absurd (omega arith)
+under-at x (y ∷ xs) zero h l = h .0
+under-at x (y ∷ xs) (suc i) h l = under-at x xs i (h .1) (omega arith)
+
+pub under-trans : (x y : ℕ) (ys : List ℕ) → x < y → Under y ys → Under x ys
+under-trans x y [] l h = tt
+under-trans x y (z ∷ ys) l h = (omega (arith, h .0), under-trans x y ys l (h .1))
+
+pub under-snoc : (x : ℕ) (xs : List ℕ) (y : ℕ) → Under x xs → x < y → Under x (xs ++ (y ∷ []))
+under-snoc x [] y u l = (l, tt)
+under-snoc x (z ∷ xs) y u l = (u .0, under-snoc x xs y (u .1) l)
+
+pub rising-snoc : (xs : List ℕ) (y : ℕ) → Rising xs → Below y xs → Rising (xs ++ (y ∷ []))
+rising-snoc [] y r b = (tt, tt)
+rising-snoc (x ∷ xs) y r b = (under-snoc x xs y (r .0) (b .0), rising-snoc xs y (r .1) (b .1))
