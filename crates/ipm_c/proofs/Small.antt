@@ -24,7 +24,7 @@ use Rattle.machine.specs.declared.Outcome.the-variants.{Accepted as acceptedAt,
 use Rattle.machine.specs.Outcome.{isSpoilt, lowestSpoilt, someSpoilt, allDone, outcome, laneStatus, solved}
 use Rattle.machine.specs.Demand3.{Buffers}
 use Rattle.ipm_simd.specs.declared.SolveAnswer.{SolveAnswer}
-use Rattle.ipm_simd.specs.Solve.{Given, call, told, Solved, outcomeVerdict, lengthsRight, sizesVerdict, memoryVerdict, begun, solveVerdict}
+use Rattle.ipm_simd.specs.Solve.{Given, call, toldSolve, Solved, outcomeVerdict, lengthsRight, sizesVerdict, memoryVerdict, begun, solveVerdict}
 use Rattle.ipm_simd.proofs.Questions.{sizes-of}
 use Rattle.ipm_c.specs.Packed.{packed, SolvedInOne}
 
@@ -192,7 +192,7 @@ small-solve a B =
     small-outcome 4 (laneStatus (call a)) (a .limit) (omega arith) (sizes .upTo))
 
 -- what solve promises of its answer holds of the number
-pub in-one : {a : Given} {B B′ : Buffers} {r : SolveAnswer} {code : ℕ} → Solved a B B′ r → code ≡ packed (told r) → SolvedInOne a B B′ code
+pub in-one : {a : Given} {B B′ : Buffers} {r : SolveAnswer} {code : ℕ} → Solved a B B′ r → code ≡ packed (toldSolve r) → SolvedInOne a B B′ code
 in-one s e = record {
   answer = e ∙ ap packed (s .answer);
   buffers = s .buffers;

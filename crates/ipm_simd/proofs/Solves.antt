@@ -12,7 +12,7 @@ use Rattle.csr.specs.Csr.{Accepted}
 use Rattle.csr.specs.Counts.{countE, sizeW, sizeF}
 use Rattle.csr.specs.Pattern.{has, row, neighbours, stored}
 use Rattle.lanes.specs.Arithmetic.{null}
-use Rattle.lanes.specs.Lanes.{room as roomFor}
+use Rattle.lanes.specs.Lanes.{room as roomIn}
 use Rattle.lanes.proofs.Regions.{room-fits}
 use Rattle.lists.specs.Lists.{shape, listOf}
 use Rattle.lists.specs.declared.Which.the-variants.{Lindptr, Lindices}
@@ -39,7 +39,7 @@ use Rattle.memory.proofs.Calls.{region-is, lanes-all}
 use Rattle.step.specs.Steps.{Untouched}
 use Rattle.ipm_simd.specs.declared.SolveAnswer.{SolveAnswer}
 use Rattle.ipm_simd.specs.declared.SolveAnswer.the-variants as answers
-use Rattle.ipm_simd.specs.Solve.{Given, lent, call, words, room, plannedHas, told, outcomeVerdict, sizesVerdict, memoryVerdict, begun, solveVerdict, ifPassed, solveBuffers, Solved}
+use Rattle.ipm_simd.specs.Solve.{Given, lent, roomFor, call, words, room, plannedHas, toldSolve, outcomeVerdict, sizesVerdict, memoryVerdict, begun, solveVerdict, ifPassed, solveBuffers, Solved}
 use Rattle.ipm_simd.specs.Parts.{Asked10, EntriesBelow, written, Finished, Continued}
 use Rattle.ipm_common.specs.Plan.{written as indexed}
 use Rattle.ipm_common.proofs.Final.{written-yes, written-other}
@@ -48,15 +48,16 @@ use Rattle.ipm_simd.proofs.Questions.{sizes-of, not-passed}
 
 -- the plan by value, of E, S and D
 abbrev pub planOf : Given → ℕ → ℕ → ℕ → Plan
-planOf a e h d = record { m = a .m; n = a .n; s = a .s; t = length (a .columns); stored = e; shared = h; products = d }
+planOf a stored shared products = record { m = a .m; n = a .n; s = a .s; t = length (a .columns); stored = stored; shared = shared; products = products }
 
 -- W, of E, S and D
-words-of : (off cols : List ℕ) (m n s e h d : ℕ) → Counted off cols m e h d → wordsAt (record { m = m; n = n; s = s; t = length cols; stored = e; shared = h; products = d }) ≡ sizeW off cols m n
+words-of : (off cols : List ℕ) (m n s stored shared products : ℕ) → Counted off cols m stored shared products
+    → wordsAt (record { m = m; n = n; s = s; t = length cols; stored = stored; shared = shared; products = products }) ≡ sizeW off cols m n
 unfolding sizeW
-words-of off cols m n s e h d c = omega (arith, c .stored, c .shared, c .products)
+words-of off cols m n s stored shared products c = omega (arith, c .stored, c .shared, c .products)
 
 -- F, of E
-room-of : (off cols : List ℕ) (m n s e : ℕ) → e ≡ countE off cols m → 4 * (5 * n + 3 * m + 2 * s + e) ≡ sizeF off cols m n s
+room-of : (off cols : List ℕ) (m n s e : ℕ) → e ≡ countE off cols m → roomFor m n s e ≡ sizeF off cols m n s
 unfolding sizeF
 room-of off cols m n s e q = omega (arith, q)
 
@@ -76,7 +77,7 @@ abbrev four : Block
 four = record { total = 4; first = 0 }
 
 -- ---- before and after the tests
-module _ (a : Given) {output work : List Float} {index : List ℕ} {e h d : ℕ} (Q : Asked10 a (lent output index work) e h d) where
+module _ (a : Given) {output work : List Float} {index : List ℕ} {stored shared products : ℕ} (Q : Asked10 a (lent output index work) stored shared products) where
   pub lent-four : Lent four 4 (a .m) (a .n) (a .s) (a .b) (a .c) (a .tolerances)
   lent-four = record {
     rows = Q .ok .csr .few;
@@ -90,16 +91,16 @@ module _ (a : Given) {output work : List Float} {index : List ℕ} {e h d : ℕ}
     tol-long = omega (arith, Q .tol-long);
   }
 
-  pub room-four : lAt (a .n) (a .m) (a .s) + e ≤ roomFor 4 work
-  room-four = room-fits 4 work (lAt (a .n) (a .m) (a .s) + e) (omega arith) (Q .work)
+  pub room-four : lAt (a .n) (a .m) (a .s) + stored ≤ roomIn 4 work
+  room-four = room-fits 4 work (lAt (a .n) (a .m) (a .s) + stored) (omega arith) (omega (arith, Q .work))
 
   -- the block's lanes are the call's
-  pub run-four : {M : Memory} {o : Outcome} → Ran (callIn standard (planOf a e h d) four 4 (a .offsets) (a .columns) (a .values) (a .b) (a .c) (a .tolerances)) (a .limit) M o → Ran (call a) (a .limit) M o
+  pub run-four : {M : Memory} {o : Outcome} → Ran (callIn standard (planOf a stored shared products) four 4 (a .offsets) (a .columns) (a .values) (a .b) (a .c) (a .tolerances)) (a .limit) M o → Ran (call a) (a .limit) M o
   run-four R =
       rw (lanes-all 4 (a .m) (a .b) (omega arith) (Q .b-long), lanes-all 4 (a .n) (a .c) (omega arith) (Q .c-long), lanes-all 4 3 (a .tolerances) (omega arith) (Q .tol-long))
       at R
 
-  output-is : (o : Outcome) (work1 : List Float) → length work1 ≡ length work → Ran (call a) (a .limit) (memoryIn (planOf a e h d) 4 work1) o
+  output-is : (o : Outcome) (work1 : List Float) → length work1 ≡ length work → Ran (call a) (a .limit) (memoryIn (planOf a stored shared products) 4 work1) o
       → written o (take (length output) work1) output ≡ outputAfter (call a) (λ q. q .x) (a .n) o output
   output-is (accepted k) work1 s R =
       let z : length output ≡ 4 * (0 + a .n) - 4 * 0 = omega (arith, Q .output) in
@@ -111,21 +112,21 @@ module _ (a : Given) {output work : List Float} {index : List ℕ} {e h d : ℕ}
 
   pub finished : {index1 : List ℕ} {work1 output1 work2 : List Float} {o : Outcome} {r : SolveAnswer}
       → index1 ≡ words a ++ drop (sizeW (a .offsets) (a .columns) (a .m) (a .n)) index
-      → Untouched 4 (lAt (a .n) (a .m) (a .s) + e) work work1
-      → Ran (call a) (a .limit) (memoryIn (planOf a e h d) 4 work1) o
-      → told r ≡ outcomeVerdict o
+      → Untouched 4 (lAt (a .n) (a .m) (a .s) + stored) work work1
+      → Ran (call a) (a .limit) (memoryIn (planOf a stored shared products) 4 work1) o
+      → toldSolve r ≡ outcomeVerdict o
       → output1 ≡ written o (take (length output) work1) output
-      → work2 ≡ replicate (4 * (5 * a .n + 3 * a .m + 2 * a .s + e)) null ++ drop (4 * (5 * a .n + 3 * a .m + 2 * a .s + e)) work1
+      → work2 ≡ replicate (roomFor (a .m) (a .n) (a .s) stored) null ++ drop (roomFor (a .m) (a .n) (a .s) stored) work1
       → Finished a (lent output index work) (lent output1 index1 work2) r
   finished {index1} {work1} {output1} {work2} {o} {r} ei U R er eo ew = record {
     answer = er ∙ ap outcomeVerdict (R .answer);
     buffers = all;
-    demand3 = demand3 (call a) (words a) (room a) (plannedHas a) (a .limit) (lent output index work) (lent output1 index1 work2) (solved (call a) (a .limit)) (memoryIn (planOf a e h d) 4 work1)
+    demand3 = demand3 (call a) (words a) (room a) (plannedHas a) (a .limit) (lent output index work) (lent output1 index1 work2) (solved (call a) (a .limit)) (memoryIn (planOf a stored shared products) 4 work1)
         (R .tests .0) (R .tests .1) (λ i j l b. planned-stored (a .offsets) (a .columns) (a .m) i j b l) refl all;
   }
     where
       F : ℕ
-      F = 4 * (5 * a .n + 3 * a .m + 2 * a .s + e)
+      F = roomFor (a .m) (a .n) (a .s) stored
 
       out : output1 ≡ outputAfter (call a) (λ q. q .x) (a .n) (solved (call a) (a .limit)) output
       out = eo ∙ output-is o work1 (U .size) R ∙ ap (λ (z : Outcome). outputAfter (call a) (λ q. q .x) (a .n) z output) (R .answer)
@@ -136,8 +137,8 @@ module _ (a : Given) {output work : List Float} {index : List ℕ} {e h d : ℕ}
       clear : work2 ≡ replicate (room a) null ++ drop (room a) work
       clear =
           ew
-          ∙ ap (λ (x : List Float). replicate F null ++ x) (rest-same (lAt (a .n) (a .m) (a .s) + e) F work work1 U (omega arith))
-          ∙ ap (λ (k : ℕ). replicate k null ++ drop k work) (room-of (a .offsets) (a .columns) (a .m) (a .n) (a .s) e (Q .counts .stored))
+          ∙ ap (λ (x : List Float). replicate F null ++ x) (rest-same (lAt (a .n) (a .m) (a .s) + stored) F work work1 U (omega arith))
+          ∙ ap (λ (k : ℕ). replicate k null ++ drop k work) (room-of (a .offsets) (a .columns) (a .m) (a .n) (a .s) stored (Q .counts .stored))
 
       all : lent output1 index1 work2 ≡ leaves (call a) (words a) (room a) (a .limit) (lent output index work)
       all = λ i. record { output = out i; index = plan i; work = clear i }
@@ -145,24 +146,24 @@ module _ (a : Given) {output work : List Float} {index : List ℕ} {e h d : ℕ}
 -- ---- questions 6 to 10
 module _ (a : Given) (B : Buffers) where
   -- the verdict of questions 6 to 10, of the counted E, S and D
-  memory-is : (e h d : ℕ) → Counted (a .offsets) (a .columns) (a .m) e h d
-      → sizesVerdict (wordsAt (planOf a e h d)) e (a .m) (a .n) (a .s) (length (B .index)) (length (a .b)) (length (a .c)) (length (a .tolerances)) (length (B .output)) (length (B .work)) (a .limit)
+  memory-is : (stored shared products : ℕ) → Counted (a .offsets) (a .columns) (a .m) stored shared products
+      → sizesVerdict (wordsAt (planOf a stored shared products)) stored (a .m) (a .n) (a .s) (length (B .index)) (length (a .b)) (length (a .c)) (length (a .tolerances)) (length (B .output)) (length (B .work)) (a .limit)
       ≡ memoryVerdict a B
   unfolding memoryVerdict
-  memory-is e h d c = rw (words-of (a .offsets) (a .columns) (a .m) (a .n) (a .s) e h d c, c .stored)
+  memory-is stored shared products c = rw (words-of (a .offsets) (a .columns) (a .m) (a .n) (a .s) stored shared products c, c .stored)
 
-  module _ (e h d : ℕ) (c : Counted (a .offsets) (a .columns) (a .m) e h d) where
+  module _ (stored shared products : ℕ) (c : Counted (a .offsets) (a .columns) (a .m) stored shared products) where
     abbrev verdict : Verdict
-    verdict = sizesVerdict (wordsAt (planOf a e h d)) e (a .m) (a .n) (a .s) (length (B .index)) (length (a .b)) (length (a .c)) (length (a .tolerances)) (length (B .output)) (length (B .work)) (a .limit)
+    verdict = sizesVerdict (wordsAt (planOf a stored shared products)) stored (a .m) (a .n) (a .s) (length (B .index)) (length (a .b)) (length (a .c)) (length (a .tolerances)) (length (B .output)) (length (B .work)) (a .limit)
 
-    pub asked-all : Accepted (a .offsets) (a .columns) (a .m) (a .n) → length (a .values) ≡ length (a .columns) → passed ≡ verdict → Asked10 a B e h d
+    pub asked-all : Accepted (a .offsets) (a .columns) (a .m) (a .n) → length (a .values) ≡ length (a .columns) → passed ≡ verdict → Asked10 a B stored shared products
     asked-all ok values v =
-        let q = sizes-of _ e (a .m) (a .n) (a .s) (length (B .index)) (length (a .b)) (length (a .c)) (length (a .tolerances)) (length (B .output)) (length (B .work)) (a .limit) (sym v) in
+        let q = sizes-of _ stored (a .m) (a .n) (a .s) (length (B .index)) (length (a .b)) (length (a .c)) (length (a .tolerances)) (length (B .output)) (length (B .work)) (a .limit) (sym v) in
         record {
           ok = ok;
           values = values;
           counts = c;
-          index = omega (arith, words-of (a .offsets) (a .columns) (a .m) (a .n) (a .s) e h d c, q .index-long);
+          index = omega (arith, words-of (a .offsets) (a .columns) (a .m) (a .n) (a .s) stored shared products c, q .index-long);
           slack = q .slack;
           b-long = q .b-long;
           c-long = q .c-long;
@@ -175,7 +176,7 @@ module _ (a : Given) (B : Buffers) where
 
     pub go-on : {B′ : Buffers} {r : SolveAnswer} → passed ≡ verdict → Finished a B B′ r → Continued a B B′ r
     go-on {B′} {r} v F =
-        let z : memoryVerdict a B ≡ passed = sym (v ∙ memory-is e h d c) in
+        let z : memoryVerdict a B ≡ passed = sym (v ∙ memory-is stored shared products c) in
         record {
           answer = F .answer ∙ ap (λ (x : Verdict). andThen x (outcomeVerdict (solved (call a) (a .limit)))) (sym z);
           buffers = F .buffers ∙ ap (λ (x : Verdict). ifPassed a x (leaves (call a) (words a) (room a) (a .limit) B) B) (sym z);
@@ -184,7 +185,7 @@ module _ (a : Given) (B : Buffers) where
 
     pub refused-here : (r : Refusal) → refusal r ≡ verdict → Continued a B B (answers.Refused r)
     refused-here r v =
-        let z : memoryVerdict a B ≡ refusal r = sym (v ∙ memory-is e h d c) in
+        let z : memoryVerdict a B ≡ refusal r = sym (v ∙ memory-is stored shared products c) in
         record {
           answer = ap (λ (x : Verdict). andThen x (outcomeVerdict (solved (call a) (a .limit)))) (sym z);
           buffers = ap (λ (x : Verdict). ifPassed a x (leaves (call a) (words a) (room a) (a .limit) B) B) (sym z);
@@ -195,17 +196,17 @@ module _ (a : Given) (B : Buffers) where
       -- the index memory after ten yeses, and after a no
       pub index-planned : passed ≡ verdict → indexed below (a .m) (a .n) (a .offsets) (a .columns) (B .index) ≡ words a ++ drop (sizeW (a .offsets) (a .columns) (a .m) (a .n)) (B .index)
       index-planned v =
-          let q = sizes-of _ e (a .m) (a .n) (a .s) (length (B .index)) (length (a .b)) (length (a .c)) (length (a .tolerances)) (length (B .output)) (length (B .work)) (a .limit) (sym v) in
-          written-yes (a .m) (a .n) (a .offsets) (a .columns) (B .index) below (omega (arith, c .stored, bound .under _ e _ (sym v))) (omega (arith, words-of (a .offsets) (a .columns) (a .m) (a .n) (a .s) e h d c, q .index-long))
+          let q = sizes-of _ stored (a .m) (a .n) (a .s) (length (B .index)) (length (a .b)) (length (a .c)) (length (a .tolerances)) (length (B .output)) (length (B .work)) (a .limit) (sym v) in
+          written-yes (a .m) (a .n) (a .offsets) (a .columns) (B .index) below (omega (arith, c .stored, bound .under _ stored _ (sym v))) (omega (arith, words-of (a .offsets) (a .columns) (a .m) (a .n) (a .s) stored shared products c, q .index-long))
 
       pub index-kept : (r : Refusal) → refusal r ≡ verdict → indexed below (a .m) (a .n) (a .offsets) (a .columns) (B .index) ≡ B .index
       index-kept r v =
           written-other (a .m) (a .n) (a .offsets) (a .columns) (B .index) below
-          (λ l w. not-passed (r .question) (r .place) (r .lane) (v ∙ bound .yes _ e _ (omega (arith, words-of (a .offsets) (a .columns) (a .m) (a .n) (a .s) e h d c, w)) (omega (arith, c .stored, l))))
+          (λ l w. not-passed (r .question) (r .place) (r .lane) (v ∙ bound .yes _ stored _ (omega (arith, words-of (a .offsets) (a .columns) (a .m) (a .n) (a .s) stored shared products c, w)) (omega (arith, c .stored, l))))
 
       -- what the tests start from, where the index memory is as `plan_below` leaves it
       pub planned-here : (ok : Accepted (a .offsets) (a .columns) (a .m) (a .n)) → length (a .values) ≡ length (a .columns) → {index : List ℕ} → index ≡ indexed below (a .m) (a .n) (a .offsets) (a .columns) (B .index)
-          → passed ≡ verdict → Planned (a .offsets) (a .columns) (a .values) (planOf a e h d) index
+          → passed ≡ verdict → Planned (a .offsets) (a .columns) (a .values) (planOf a stored shared products) index
       planned-here ok values i v = record {
         ok = ok;
         values = values;

@@ -12,23 +12,22 @@ use Rattle.machine.specs.Outcome.{largestLimit, solved}
 use Rattle.machine.specs.Demand3.{Buffers, leaves, Demand3}
 use Rattle.csr.specs.Verdict.{passed, andThen}
 use Rattle.layout.specs.declared.Plan.{Plan}
-use Rattle.layout.specs.Layout.{lAt}
 use Rattle.memory.specs.Planned.{Counted}
 use Rattle.ipm_simd.specs.declared.SolveAnswer.{SolveAnswer}
-use Rattle.ipm_simd.specs.Solve.{Given, lent, call, words, room, plannedHas, told, outcomeVerdict, sizesVerdict, memoryVerdict, ifPassed}
+use Rattle.ipm_simd.specs.Solve.{Given, lent, roomFor, call, words, room, plannedHas, toldSolve, outcomeVerdict, sizesVerdict, memoryVerdict, ifPassed}
 
--- questions 1 to 10 got a yes
-pub record Asked10 (a : Given) (B : Buffers) (e h d : ℕ) : Type 0 where
+-- questions 1 to 10 got a yes, and E, S and D are counted
+pub record Asked10 (a : Given) (B : Buffers) (stored shared products : ℕ) : Type 0 where
   pub ok : Accepted (a .offsets) (a .columns) (a .m) (a .n)
   pub values : length (a .values) ≡ length (a .columns)
-  pub counts : Counted (a .offsets) (a .columns) (a .m) e h d
+  pub counts : Counted (a .offsets) (a .columns) (a .m) stored shared products
   pub index : sizeW (a .offsets) (a .columns) (a .m) (a .n) ≤ length (B .index)
   pub slack : a .s ≤ a .m
   pub b-long : length (a .b) ≡ 4 * a .m
   pub c-long : length (a .c) ≡ 4 * a .n
   pub tol-long : length (a .tolerances) ≡ 12
   pub output : length (B .output) ≡ 4 * a .n
-  pub work : 4 * (lAt (a .n) (a .m) (a .s) + e) ≤ length (B .work)
+  pub work : roomFor (a .m) (a .n) (a .s) stored ≤ length (B .work)
   pub from : 1 ≤ a .limit
   pub upTo : a .limit ≤ largestLimit
 
@@ -45,7 +44,7 @@ written (noAt12 k) new old = old
 
 -- the tests were made: the answer, the lent lists and demand 3
 pub record Finished (a : Given) (B B′ : Buffers) (r : SolveAnswer) : Type 0 where
-  pub answer : told r ≡ outcomeVerdict (solved (call a) (a .limit))
+  pub answer : toldSolve r ≡ outcomeVerdict (solved (call a) (a .limit))
   pub buffers : B′ ≡ leaves (call a) (words a) (room a) (a .limit) B
   pub demand3 : Demand3 (call a) (words a) (room a) (plannedHas a) (a .limit) B B′ (solved (call a) (a .limit))
 
@@ -59,6 +58,6 @@ Ends a p output work B′ r =
 
 -- questions 6 to 10, and then the tests
 pub record Continued (a : Given) (B B′ : Buffers) (r : SolveAnswer) : Type 0 where
-  pub answer : told r ≡ andThen (memoryVerdict a B) (outcomeVerdict (solved (call a) (a .limit)))
+  pub answer : toldSolve r ≡ andThen (memoryVerdict a B) (outcomeVerdict (solved (call a) (a .limit)))
   pub buffers : B′ ≡ ifPassed a (memoryVerdict a B) (leaves (call a) (words a) (room a) (a .limit) B) B
   pub demand3 : memoryVerdict a B ≡ passed → Demand3 (call a) (words a) (room a) (plannedHas a) (a .limit) B B′ (solved (call a) (a .limit))

@@ -42,9 +42,9 @@ abbrev pub lent : List Float → List ℕ → List Float → Buffers
 lent output index work = record { output = output; index = index; work = work }
 
 -- each case of the answer, by document 01's number and values
-abbrev pub told : SolveAnswer → Verdict
-told (Accepted k) = acceptedAt k
-told (Refused r) = refusal r
+abbrev pub toldSolve : SolveAnswer → Verdict
+toldSolve (Accepted k) = acceptedAt k
+toldSolve (Refused r) = refusal r
 
 -- how the tests end, as an answer: 'accepted and the test'; 11 with its test and its lane; 12 with N
 abbrev pub outcomeVerdict : Outcome → Verdict
@@ -56,13 +56,17 @@ outcomeVerdict (noAt12 k) = refused 12 k 0
 abbrev pub lengthsRight : ℕ → ℕ → ℕ → ℕ → ℕ → ℕ → Bool
 lengthsRight m n b c tolerances output = eqb b (4 * m) && eqb c (4 * n) && eqb tolerances 12 && eqb output (4 * n)
 
+-- F, by E: 'F = 4(5n + 3m + 2s + E)'
+abbrev pub roomFor : ℕ → ℕ → ℕ → ℕ → ℕ
+roomFor m n s E = 4 * (5 * n + 3 * m + 2 * s + E)
+
 -- questions 6 to 10, by W, E, the sizes, the lengths of the lists, and N
 unfoldable pub sizesVerdict : ℕ → ℕ → ℕ → ℕ → ℕ → ℕ → ℕ → ℕ → ℕ → ℕ → ℕ → ℕ → Verdict
 sizesVerdict W E m n s index b c tolerances output work N =
     ask (leb W index)
     (ask (leb s m)
     (ask (lengthsRight m n b c tolerances output)
-    (ask (leb (4 * (5 * n + 3 * m + 2 * s + E)) work)
+    (ask (leb (roomFor m n s E) work)
     (ask (leb 1 N && leb N largestLimit)
     passed
     (refused 10 0 0))
@@ -125,6 +129,6 @@ module _ (a : Given) where
 
   -- the answer, the lent lists, and demand 3 whole once questions 1 to 10 got a yes
   pub record Solved (B B′ : Buffers) (r : SolveAnswer) : Type 0 where
-    pub answer : told r ≡ solveVerdict B
+    pub answer : toldSolve r ≡ solveVerdict B
     pub buffers : B′ ≡ solveBuffers B
-    pub demand3 : begun B ≡ passed → (o : Outcome) × (told r ≡ outcomeVerdict o) × Demand3 call words room plannedHas (a .limit) B B′ o
+    pub demand3 : begun B ≡ passed → (o : Outcome) × (toldSolve r ≡ outcomeVerdict o) × Demand3 call words room plannedHas (a .limit) B B′ o

@@ -10,8 +10,9 @@ ghost use Rattle.csr.specs.Verdict.{told as toldAsked};
 ghost use Rattle.lanes.specs.Arithmetic.{null};
 ghost use Rattle.machine.specs.declared.Outcome.the-variants.{NoAt11};
 ghost use Rattle.machine.specs.Outcome.{largestLimit};
+ghost use Rattle.layout.specs.Layout.{topWord};
 ghost use Rattle.memory.specs.Planned.{Planned};
-ghost use Rattle.ipm_simd.specs.Solve.{given, lent, told, outcomeVerdict, lengthsRight, sizesVerdict, Solved};
+ghost use Rattle.ipm_simd.specs.Solve.{given, lent, roomFor, toldSolve, outcomeVerdict, lengthsRight, sizesVerdict, Solved};
 ghost use Rattle.ipm_simd.specs.Parts.{Asked10, EntriesBelow, written, Ends, Continued};
 use csr::Asked;
 use csr::Refusal;
@@ -80,6 +81,14 @@ fn limit_right(limit: usize) -> bool
     limit <= LaneState::MAX_TESTS
 }
 
+// F: the numbers of working memory that the four lanes of a plan need.
+fn room_for(plan: Plan) -> usize
+    requires { ⌜ roomFor (plan .m) (plan .n) (plan .s) (plan .stored) ≤ topWord ⌝ }
+    ensures { λ r. ⌜ r ≡ roomFor (plan .m) (plan .n) (plan .s) (plan .stored) ⌝ }
+{
+    4 * (5 * plan.n + 3 * plan.m + 2 * plan.s + plan.stored)
+}
+
 // Questions 6 to 10, by W, the plan's sizes, the lengths of the lists and the limit.
 fn ask_sizes(words: usize, plan: Plan, lengths: Lengths, limit: usize) -> Asked
     requires { ⌜ (plan .m ≤ 256) × (plan .n ≤ 1024) × (plan .stored ≤ 32896) ⌝ }
@@ -88,7 +97,6 @@ fn ask_sizes(words: usize, plan: Plan, lengths: Lengths, limit: usize) -> Asked
     let m = plan.m;
     let n = plan.n;
     let s = plan.s;
-    let e = plan.stored;
     if lengths.index < words {
         return Asked::Refused(Refusal::new(Refusal::INDEX_MEMORY, 0, 0));
     }
@@ -98,7 +106,7 @@ fn ask_sizes(words: usize, plan: Plan, lengths: Lengths, limit: usize) -> Asked
     if !lengths_right(m, n, lengths) {
         return Asked::Refused(Refusal::new(LENGTHS, 0, 0));
     }
-    if lengths.work < 4 * (5 * n + 3 * m + 2 * s + e) {
+    if lengths.work < room_for(plan) {
         return Asked::Refused(Refusal::new(WORKING_MEMORY, 0, 0));
     }
     if !limit_right(limit) {
@@ -134,7 +142,7 @@ fn clear_front(work: &mut [f64], k: usize)
 // The answer, and on acceptance the output.
 fn report(outcome: Outcome, output: &mut [f64], work: &[f64]) -> SolveAnswer
     requires { ⌜ (length (now output) ≤ length (now work)) × ((k l : ℕ) → outcome ≡ NoAt11 k l → l < 4) ⌝ }
-    ensures { λ r. ⌜ (told r ≡ outcomeVerdict outcome) × (now (output .exit) ≡ written outcome (take (length (now (output .entry))) (now (work .entry))) (now (output .entry))) ⌝ }
+    ensures { λ r. ⌜ (toldSolve r ≡ outcomeVerdict outcome) × (now (output .exit) ≡ written outcome (take (length (now (output .entry))) (now (work .entry))) (now (output .entry))) ⌝ }
 {
     match outcome {
         Outcome::Accepted(k) => {
@@ -163,11 +171,7 @@ fn solve_planned(
     requires { ⌜ Planned (now offsets) (now columns) (now values) plan (now index) × Asked10 (given (plan .m) (plan .n) (plan .s) (now offsets) (now columns) (now values) (now b) (now c) (now tolerances) limit) (lent (now output) (now index) (now work)) (plan .stored) (plan .shared) (plan .products) ⌝ }
     ensures { λ r. ⌜ Ends (given (plan .m) (plan .n) (plan .s) (now (offsets .entry)) (now (columns .entry)) (now (values .entry)) (now (b .entry)) (now (c .entry)) (now (tolerances .entry)) limit) plan (now (output .entry)) (now (work .entry)) (lent (now (output .exit)) (now (index .entry)) (now (work .exit))) r ⌝ }
 {
-    let m = plan.m;
-    let n = plan.n;
-    let s = plan.s;
-    let e = plan.stored;
-    let room = 4 * (5 * n + 3 * m + 2 * s + e);
+    let room = room_for(plan);
     let block = Block { total: 4, first: 0 };
     let outcome = run::run(
         offsets,

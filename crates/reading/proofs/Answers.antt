@@ -4,19 +4,19 @@ use Prim.Native.Nat.{ℕ}
 use Rattle.csr.specs.declared.Refusal.{Refusal}
 use Rattle.csr.specs.Verdict.{Verdict}
 use Rattle.machine.specs.Demand3.{Buffers}
-use Rattle.ipm_simd.specs.Solve.{Given, told, Solved}
+use Rattle.ipm_simd.specs.Solve.{Given, toldSolve, Solved}
 use Rattle.ipm_simd.specs.declared.SolveAnswer.{SolveAnswer}
 use Rattle.ipm_simd.specs.declared.SolveAnswer.the-variants.{Accepted, Refused}
 use Rattle.answer_text.specs.Text.{acceptedText, refusedText}
 use Rattle.reading.specs.Answer.{verdictText, solveText}
 
 module _ {a : Given} {B B′ : Buffers} {r : SolveAnswer} (w : Solved a B B′ r) where
-  solved-text : verdictText (told r) (B′ .output) (a .n) ≡ solveText a B
+  solved-text : verdictText (toldSolve r) (B′ .output) (a .n) ≡ solveText a B
   unfolding solveText
   solved-text = ap₂ (λ (v : Verdict) (b : Buffers). verdictText v (b .output) (a .n)) (w .answer) (w .buffers)
 
   pub accepted-text : (test : ℕ) → r ≡ Accepted test → acceptedText test (B′ .output) (a .n) ≡ solveText a B
-  accepted-text test e = sym (ap (λ (q : SolveAnswer). verdictText (told q) (B′ .output) (a .n)) e) ∙ solved-text
+  accepted-text test e = sym (ap (λ (q : SolveAnswer). verdictText (toldSolve q) (B′ .output) (a .n)) e) ∙ solved-text
 
   pub refused-text : (u : Refusal) → r ≡ Refused u → refusedText (u .question) (u .place) (u .lane) ≡ solveText a B
-  refused-text u e = sym (ap (λ (q : SolveAnswer). verdictText (told q) (B′ .output) (a .n)) e) ∙ solved-text
+  refused-text u e = sym (ap (λ (q : SolveAnswer). verdictText (toldSolve q) (B′ .output) (a .n)) e) ∙ solved-text

@@ -8,43 +8,26 @@ use Rattle.ipm_simd.proofs.Solves.{lane-under, lent-four, room-four, ru
 use Rattle.ipm_simd.proofs.solve_planned.Statement.{statement}
 use Rattle.ipm_simd.proofs.solve_planned.Tie as tie
 
-mul-room : tie.Need-mul-room
-mul-room c = let p = c .before .before .before .before .before .before .before .before .before .pre .1 in omega (arith, p .work, p .slack)
-
-mul-room-2 : tie.Need-mul-room-2
-mul-room-2 c = let p = c .before .before .before .before .before .before .before .before .before .pre .1 in omega (arith, p .work, p .slack)
-
-add-room : tie.Need-add-room
-add-room c = let p = c .before .before .before .before .before .before .before .before .before .pre .1 in omega (arith, p .work, p .slack)
-
-mul-room-3 : tie.Need-mul-room-3
-mul-room-3 c = let p = c .before .before .before .before .before .before .before .before .before .pre .1 in omega (arith, p .work, p .slack)
-
-add-room-2 : tie.Need-add-room-2
-add-room-2 c = let p = c .before .before .before .before .before .before .before .before .before .pre .1 in omega (arith, p .work, p .slack)
-
-add-room-3 : tie.Need-add-room-3
-add-room-3 c = let p = c .before .before .before .before .before .before .before .before .before .pre .1 in omega (arith, p .work, p .slack)
-
-mul-room-4 : tie.Need-mul-room-4
-mul-room-4 c = let p = c .before .before .before .before .before .before .before .before .before .pre .1 in omega (arith, p .work, p .slack)
+room-for-requires : tie.Need-room-for-requires
+room-for-requires c κs = let p = c .before .before .before .before .before .before .before .before .before .pre .1 in omega (arith, p .work)
 
 run-requires : tie.Need-run-requires
 run-requires c κs =
-    let e = c .before .before .before .before .before .before .before .before .before .before in
+    let e = c .before .before .before .before .before .before .before .before .before .before .before in
     let p = e .pre in
     let a = (given (e .args .plan .m) (e .args .plan .n) (e .args .plan .s) (e .args .offsets .now) (e .args .columns .now) (e .args .values .now) (e .args .b .now) (e .args .c .now) (e .args .tolerances .now) (e .args .limit)) in
     (record { planned = p .0; lent = lent-four a (p .1); room = room-four a (p .1) }, p .1 .from)
 
 report-requires : tie.Need-report-requires
 report-requires c κs =
-    let e = c .before .before .before .before .before .before .before .before .before .before .before .before .before .before .before in
+    let e = c .before .before .before .before .before .before .before .before .before .before .before .before .before .before .before .before in
     let p = e .pre .1 in
     let r = c .before .before .before .before .run .ensures in
-    (omega (arith, p .output, p .work, r .0 .size), lane-under (call (given (e .args .plan .m) (e .args .plan .n) (e .args .plan .s) (e .args .offsets .now) (e .args .columns .now) (e .args .values .now) (e .args .b .now) (e .args .c .now) (e .args .tolerances .now) (e .args .limit))) (e .args .limit) (c .before .before .before .before .run .result) (run-four (given (e .args .plan .m) (e .args .plan .n) (e .args .plan .s) (e .args .offsets .now) (e .args .columns .now) (e .args .values .now) (e .args .b .now) (e .args .c .now) (e .args .tolerances .now) (e .args .limit)) p (r .1 standard standard-runs) .answer))
+    let a = (given (e .args .plan .m) (e .args .plan .n) (e .args .plan .s) (e .args .offsets .now) (e .args .columns .now) (e .args .values .now) (e .args .b .now) (e .args .c .now) (e .args .tolerances .now) (e .args .limit)) in
+    (omega (arith, p .output, p .work, r .0 .size), lane-under (call a) (e .args .limit) (c .before .before .before .before .run .result) (run-four a p (r .1 standard standard-runs) .answer))
 
 clear-front-requires : tie.Need-clear-front-requires
-clear-front-requires c κs = let p = c .before .before .before .before .before .before .before .before .before .before .before .before .before .before .before .before .before .before .before .pre .1 in omega (arith, p .work, c .before .before .before .before .before .before .before .before .run .ensures .0 .size)
+clear-front-requires c κs = let p = c .before .before .before .before .before .before .before .before .before .before .before .before .before .before .before .before .before .before .before .before .pre .1 in omega (arith, p .work, c .before .before .before .before .before .before .before .before .run .ensures .0 .size, c .before .before .before .before .before .before .before .before .before .before .room-for .ensures)
 
 same-length : tie.Need-same-length
 same-length c = search needs
@@ -54,20 +37,17 @@ same-length-2 c = search needs
 
 returns : tie.Need-returns
 returns c =
-    let e = c .before .before .before .before .before .before .before .before .before .before .before .before .before .before .before .before .before .before .before .before .before .before in
-    λ old asked planned. finished (given (e .args .plan .m) (e .args .plan .n) (e .args .plan .s) (e .args .offsets .now) (e .args .columns .now) (e .args .values .now) (e .args .b .now) (e .args .c .now) (e .args .tolerances .now) (e .args .limit)) asked planned (c .before .before .before .before .before .before .before .before .before .before .before .run .ensures .0) (run-four (given (e .args .plan .m) (e .args .plan .n) (e .args .plan .s) (e .args .offsets .now) (e .args .columns .now) (e .args .values .now) (e .args .b .now) (e .args .c .now) (e .args .tolerances .now) (e .args .limit)) asked (c .before .before .before .before .before .before .before .before .before .before .before .run .ensures .1 standard standard-runs)) (c .before .before .before .before .before .before .report .ensures .0) (c .before .before .before .before .before .before .report .ensures .1) (c .before .before .clear-front .ensures)
+    let e = c .before .before .before .before .before .before .before .before .before .before .before .before .before .before .before .before .before .before .before .before .before .before .before in
+    let a = (given (e .args .plan .m) (e .args .plan .n) (e .args .plan .s) (e .args .offsets .now) (e .args .columns .now) (e .args .values .now) (e .args .b .now) (e .args .c .now) (e .args .tolerances .now) (e .args .limit)) in
+    let ran = c .before .before .before .before .before .before .before .before .before .before .before .run .ensures in
+    let told = c .before .before .before .before .before .before .report .ensures in
+    λ old asked planned. finished a asked planned (ran .0) (run-four a asked (ran .1 standard standard-runs)) (told .0) (told .1) (rw (c .before .before .before .before .before .before .before .before .before .before .before .before .before .room-for .ensures) at (c .before .before .clear-front .ensures))
 
 pub solve-planned-spec : {M : Type 1} → statement M
 solve-planned-spec =
     tie.close
     (tie.spec
-    mul-room
-    mul-room-2
-    add-room
-    mul-room-3
-    add-room-2
-    add-room-3
-    mul-room-4
+    room-for-requires
     run-requires
     report-requires
     clear-front-requires
