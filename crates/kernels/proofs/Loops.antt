@@ -12,7 +12,7 @@ use Rattle.lanes.proofs.Lists.{vec-at}
 use Rattle.lanes.specs.Lanes.{cell, put, On, room}
 use Rattle.lanes.specs.Region.{reg, Kept, Fills, Grows, Apart, before, after}
 use Rattle.lanes.proofs.Regions.{places-le, places-lt, reg-at, grows-none, grown, kept-none, kept-put, kept-room, kept-apart, apart-front, own-cell, other-cell}
-use Rattle.lanes.proofs.Quads.{grows-turn, fold-turn, _▹_}
+use Rattle.lanes.proofs.Quads.{reg-cell, grows-turn, fold-turn, _▹_}
 use Rattle.machine.specs.Machine.{largestRatio}
 use Rattle.kernels.specs.Kernels.{FillsThree}
 
@@ -109,6 +109,18 @@ sum-turn A B {acc} {a} {b} {r} {e} i ea eb er = fold-turn (λ l k v. v ⊕ A l k
 pub sum-none : {width : ℕ} (A B : ℕ → ℕ → Float) {acc : List Float} → On width acc (λ l. null) → On width acc (λ l. Σ 0 (λ k. A l k ⊗ B l k))
 unfolding Σ fold
 sum-none A B e = e
+
+-- two regions of k entries: lane l's sum over the first e
+module _ (width : ℕ) (ws : List Float) (p q k : ℕ) where
+  abbrev pub productsTo : ℕ → ℕ → Float
+  productsTo e l = Σ e (λ j. entryLane width ws p k l j ⊗ entryLane width ws q k l j)
+
+  pub products-none : {acc : List Float} → On width acc (λ l. null) → On width acc (productsTo 0)
+  products-none i = sum-none (entryLane width ws p k) (entryLane width ws q k) i
+
+  pub products-turn : (e : ℕ) {acc a b r : List Float} → On width acc (productsTo e) → e < k → On width a (cell width ws (p + e)) → On width b (cell width ws (q + e))
+      → On width r (λ l. at acc l ⊕ at a l ⊗ at b l) → On width r (productsTo (e + 1))
+  products-turn e i h ea eb er = sum-turn (entryLane width ws p k) (entryLane width ws q k) i (ea ▹ reg-cell width ws p k e h) (eb ▹ reg-cell width ws q k e h) er
 
 -- ---- theta: the largest ratio so far
 

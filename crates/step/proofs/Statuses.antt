@@ -20,8 +20,8 @@ use Rattle.machine.specs.Outcome.{isDone}
 use Rattle.machine.specs.Work.{stepOf, stepBy}
 use Rattle.layout.specs.Layout.{yAt, wAt}
 use Rattle.memory.specs.Numbers.{numbersAt}
-use Rattle.step.specs.Steps.{Fresh, Took, Told, LanesStep}
-use Rattle.step.proofs.Steps.{untouched, untouched-on}
+use Rattle.step.specs.Steps.{Fresh, Told, LanesStep}
+use Rattle.step.proofs.Steps.{Took, untouched, untouched-on}
 
 -- ---- the start
 pub fresh : (width m n s : ℕ) {v w0 w1 w2 w3 w4 : List Float} → On width v (λ t. startValue)

@@ -25,7 +25,7 @@ use Rattle.plan_laws.specs.Meaning.{RowsOf, ColsOf, LowOf, HighOf, Holds}
 use Rattle.layout.specs.Layout.{yAt, dyAt, rhsAt, wAt, dwAt, lAt}
 use Rattle.lane_test.proofs.ToMachine.{row-plus, col-plus, front-machine, back-machine}
 use Rattle.lane_test.proofs.Tests.{reg-front}
-use Rattle.step.specs.Steps.{numbersIn, directionIn, reducedCosts, muOverX, changes, Untouched, Still, Ready, RightSide, Changed, Directed, Advanced, Took}
+use Rattle.step.specs.Steps.{numbersIn, directionIn, reducedCosts, muOverX, changes, Untouched, Still, Ready, RightSide, Changed, Directed, Advanced}
 
 -- a shorter region of the same start
 other-front : (width : ℕ) (ws : List Float) (k n t : ℕ) (mu : Float) (p : List Float) (r dr : ℕ) → k ≤ n → complement k mu p (reg width ws r k t) (reg width ws dr k t) ≡ complement k mu p (reg width ws r n t) (reg width ws dr n t)
@@ -299,6 +299,18 @@ module _ (width m n s : ℕ) (damping : Float) (done : List Bool) where
           )
 
 -- ---- the step: worked out, and taken
+
+module _ (width : ℕ) (A : Problem) (H : Settings) (d : ℕ → LaneData) where
+  -- the step is taken, by the lane's step length or, where the lane is done, by 0
+  pub record Took (top : ℕ) (mu : List Float) (done : List Bool) (old new : List Float) : Type 0 where
+    pub frame : Untouched width top old new
+    pub taken :
+        (l : ℕ)
+        → l < width
+        → let q = numbersIn width A old l in
+        let r = direction A H (d l) q (at mu l) in
+        numbersIn width A new l ≡ stepBy A q (cond (getD done l false) null (stepLength A H (d l) q r)) r
+
 module _ (width : ℕ) (A : Problem) (H : Settings) (d : ℕ → LaneData) (mu : List Float) (done : List Bool) where
   pub took : {damping : Float} {top : ℕ} {a b c r : List Float} → H .damping ≡ damping → Directed width A H d top mu a b r → Advanced width (A .m) (A .n) (A .s) damping r done b c → lAt (A .n) (A .m) (A .s) ≤ top → Took width A H d top mu done a c
   took {damping} {top} {a} {b} {c} {r} e D N u = record { frame = untouched-on (D .still .frame) (untouched-wider (N .frame) u); taken = λ t z. N .taken t z ∙ ap (by t) (length-is t z) ∙ to t z }

@@ -11,10 +11,10 @@ use Rattle.lanes.specs.Lanes.{Width, room}
 use Rattle.lanes.specs.Region.{reg}
 use Rattle.lanes.specs.Arithmetic.{_⊖_, _⊘_, null, one, smaller}
 use Rattle.lanes.specs.Constants.{startValue}
-use Rattle.machine.specs.Machine.{Problem, LaneData, Settings, State, Direction, columnProduct, fOf, dxOf, complement, theta, direction, stepLength, moved, mu, status}
+use Rattle.machine.specs.Machine.{Problem, LaneData, Settings, State, Direction, columnProduct, fOf, dxOf, complement, theta, direction, moved, mu, status}
 use Rattle.machine.specs.declared.Status.{Status}
 use Rattle.machine.specs.declared.Status.the-variants.{Spoilt}
-use Rattle.machine.specs.Work.{stepBy, stepOf}
+use Rattle.machine.specs.Work.{stepOf}
 use Rattle.layout.specs.declared.Block.{Block}
 use Rattle.layout.specs.declared.Plan.{Plan}
 use Rattle.layout.specs.Layout.{dyAt, rhsAt, lAt}
@@ -83,16 +83,6 @@ module _ (width : ℕ) (A : Problem) where
       pub still : Still top old new
       pub worked : (l : ℕ) → l < width → directionIn new l ≡ direction A H (d l) (numbersIn old l) (at mu l)
       pub largest : (l : ℕ) → l < width → at ratios l ≡ theta A H (d l) (numbersIn new l) (directionIn new l)
-
-    -- the step is taken, by the lane's step length or, where the lane is done, by 0
-    pub record Took (top : ℕ) (mu : List Float) (done : List Bool) (old new : List Float) : Type 0 where
-      pub frame : Untouched width top old new
-      pub taken :
-          (l : ℕ)
-          → l < width
-          → let q = numbersIn old l in
-          let r = direction A H (d l) q (at mu l) in
-          numbersIn new l ≡ stepBy A q (cond (getD done l false) null (stepLength A H (d l) q r)) r
 
     -- each lane's mu is its machine's, of the numbers in a memory
     abbrev pub Centred : List Float → List Float → Type 0
