@@ -20,7 +20,7 @@ use Rattle.base.specs.Numbers.{cut}
 use Rattle.sparse.specs.Sparse.{lessEach, frontAt, front, back, Low}
 use Rattle.plan_laws.specs.Factoring.{Given, Factored, stateOf, entries}
 use Rattle.plan_laws.proofs.Fill.{given-still, kept-part, filled-none, filled-at, filled-same, filled-still, lends-at, lends-up, lends-within}
-use Rattle.eliminate.proofs.Turns.{cut-length}
+use Rattle.base.proofs.Numbers.{cut-length}
 use Rattle.layout.specs.declared.Regions.{Regions}
 use Rattle.factor.specs.Row.{GivenIn, RowDue}
 use Rattle.factor.proofs.Along.{low, count}

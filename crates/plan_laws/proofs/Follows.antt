@@ -15,7 +15,7 @@ use Rattle.lists.proofs.Sizes.{size-list}
 use Rattle.lanes.specs.Lists.{at}
 use Rattle.machine.specs.Work.{problemOf}
 use Rattle.plan_laws.specs.Factoring.{Planned}
-use Rattle.sparse.specs.Parts.{span}
+use Rattle.base.specs.Numbers.{span}
 use Rattle.plan_laws.specs.Planned.{RowsOf, ColsOf, LowOf, HighOf, Holds}
 use Rattle.plan_laws.specs.Prepared.{Prepared}
 use Rattle.plan_laws.proofs.Rows.{rows-of}

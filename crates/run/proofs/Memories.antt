@@ -1,5 +1,5 @@
 -- The working memory's lists, entry by entry and lane by lane. Assumes nothing.
-use mathlib.Core.Path.{_≡_, refl, sym, ap, _∙_}
+use mathlib.Core.Path.{_≡_, sym, ap, _∙_}
 use mathlib.Core.List.{List}
 use Prim.Native.Nat.{ℕ, _+_, _-_, _*_, _/_, _%_, _≤_, _<_}
 use native.Mathlib.Omega.{arith}
@@ -11,10 +11,10 @@ use Rattle.lanes.specs.Lists.{at, vec, lane}
 use Rattle.lanes.specs.Lanes.{cell, room}
 use Rattle.lanes.specs.Region.{reg}
 use Rattle.lanes.specs.Constants.{startValue}
-use Rattle.lanes.proofs.Lists.{vec-length, vec-same, vec-at, lane-at}
+use Rattle.lanes.proofs.Lists.{vec-length, vec-same, vec-at}
 use Rattle.lanes.proofs.Regions.{reg-at, room-all}
-use Rattle.sparse.proofs.Spans.{cut-length, cut-at}
-use Rattle.machine.specs.Machine.{LaneData, Settings, State}
+use Rattle.base.proofs.Numbers.{cut-length, cut-at}
+use Rattle.machine.specs.Machine.{Settings, State}
 use Rattle.machine.specs.Outcome.{laneData}
 use Rattle.machine.specs.Demand3.{numbers, fresh}
 use Rattle.machine.proofs.Machines.{slot}

@@ -8,7 +8,7 @@ ghost use Rattle.csr.specs.Pattern.{row};
 ghost use lib.Seq.{sets};
 ghost use Rattle.base.specs.Cat.{Wrote, cat};
 ghost use Rattle.transpose.specs.Bins.{Bins, rowsOf, roomOf, Outside, Grid, Tally, Starts, seen, endsFrom, sideIn, colsOf};
-ghost use Rattle.lists.specs.Lists.{told};
+ghost use Rattle.lists.specs.Lists.{byWhat};
 use lists::Side;
 use lists::What;
 
@@ -42,7 +42,7 @@ fn column_at(side: Side, cols: &[u32], bytes: &[u8], k: usize) -> usize
 }
 
 fn of_entry(what: What, i: u32, place: u32) -> u32
-    ensures { λ r. ⌜ r ≡ told what i place ⌝ }
+    ensures { λ r. ⌜ r ≡ byWhat what i place ⌝ }
 {
     match what {
         What::Numbers => i,

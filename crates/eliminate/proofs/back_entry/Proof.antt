@@ -3,7 +3,8 @@ use native.Mathlib.Omega.{arith}
 use mathlib.Core.Path.{_∙_, sym}
 use Prim.Native.Nat.{_-_, _+_, _<_}
 use lib.ListN.{getD}
-use Rattle.eliminate.proofs.Turns.{cut-length, cut-at, back-value}
+use Rattle.base.proofs.Numbers.{cut-length, cut-at}
+use Rattle.eliminate.proofs.Turns.{back-value}
 use borrow.Author.Needs.{needs}
 use Rattle.eliminate.proofs.back_entry.Statement.{statement}
 use Rattle.eliminate.proofs.back_entry.Tie as tie
