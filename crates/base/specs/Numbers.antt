@@ -1,11 +1,22 @@
--- Parts of a list, and lists of numbers that are below a bound or rise. Definitions only.
+-- Parts of a list, places in it, and lists of numbers that are below a bound or rise. Definitions only.
+use mathlib.Core.Bool.{cond}
 use mathlib.Core.List.{List, [], _∷_}
-use Prim.Native.Nat.{ℕ, _-_, _<_}
-use lib.ListN.{take, drop}
+use Prim.Native.Nat.{ℕ, suc, _+_, _-_, _<_}
+use lib.Dec.{eqb}
+use lib.ListN.{getD, take, drop}
 
 -- the elements from a to e - 1
 abbrev pub cut {ℓ} : {A : Type ℓ} → ℕ → ℕ → List A → List A
 cut a e xs = take (e - a) (drop a xs)
+
+-- part i: the elements between offsets i and i + 1
+abbrev pub span {ℓ} : {A : Type ℓ} → List ℕ → List A → ℕ → List A
+span off xs i = cut (getD off i 0) (getD off (i + 1) 0) xs
+
+-- where x stands first, or the length where it does not stand
+unfoldable pub find : ℕ → List ℕ → ℕ
+find x [] = 0
+find x (y ∷ ys) = cond (eqb x y) 0 (suc (find x ys))
 
 -- every number of the list is below b
 abbrev pub Below : ℕ → List ℕ → Type 0

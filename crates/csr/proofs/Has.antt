@@ -1,7 +1,7 @@
 -- Laws of the numbers that a list has, and of those that two lists have in common. Assumes nothing.
 use mathlib.Core.Path.{_≡_, refl, sym, ap, _∙_}
 use mathlib.Core.Logic.{_⊎_, inl, inr}
-use mathlib.Core.Bool.{Bool, true, false, _||_, true≢false, false≢true}
+use mathlib.Core.Bool.{Bool, true, false, cond, _||_, true≢false, false≢true}
 use mathlib.Core.List.{List, [], _∷_, _++_}
 use Prim.Native.Nat.{ℕ, zero, suc, _+_, _-_, _<_, _≤_}
 use native.Mathlib.Omega.{arith}
@@ -10,13 +10,13 @@ use lib.Dec.{eqb}
 use lib.ListN.{length, getD, take}
 use borrow.Author.Tests.{ne-eqb, eq-eqb, eqb-true}
 use Rattle.base.specs.Cat.{pick}
-use Rattle.base.specs.Numbers.{Below, Under, Rising}
+use Rattle.base.specs.Numbers.{find, Below, Under, Rising}
 use Rattle.base.specs.Sums.{one}
 use Rattle.base.proofs.Bools.{or-left, or-right, or-out, or-nil, or-assoc}
-use Rattle.base.proofs.Numbers.{under-at, part-le}
+use Rattle.base.proofs.Numbers.{under-at}
 use Rattle.base.proofs.Sums.{one-le}
 use Rattle.csr.specs.Counts.{common}
-use Rattle.csr.specs.Pattern.{has, shares, row}
+use Rattle.csr.specs.Pattern.{has, shares}
 
 -- ---- a number of a list
 
@@ -112,7 +112,36 @@ unfolding common
 common-le [] ys = omega arith
 common-le (x ∷ xs) ys = omega (arith, common-le xs ys, one-le (has ys x))
 
--- a row is no longer than the columns of all rows
-pub row-le : (off cols : List ℕ) (i : ℕ) → length (row off cols i) ≤ length cols
-unfolding row
-row-le off cols i = part-le (getD off (i + 1) 0 - getD off i 0) (getD off i 0) cols
+-- ---- where a number stands first
+
+pub find-lt : (e : ℕ) (xs : List ℕ) → has xs e ≡ true → find e xs < length xs
+unfolding has find
+find-lt e [] h = absurd (false≢true h)
+find-lt e (x ∷ xs) h = go (eqb e x) h (find-lt e xs)
+  where
+    go : (t : Bool) → t || has xs e ≡ true → (has xs e ≡ true → find e xs < length xs) → cond t 0 (suc (find e xs)) < suc (length xs)
+    go true h ih = omega arith
+    go false h ih = omega (arith, ih h)
+
+pub find-in : (xs ys : List ℕ) (e : ℕ) → has xs e ≡ true → find e (xs ++ ys) ≡ find e xs
+unfolding has find
+find-in [] ys e q = absurd (false≢true q)
+find-in (x ∷ xs) ys e q = go (eqb e x) (find-in xs ys e) q
+  where
+    go : (t : Bool) → (has xs e ≡ true → find e (xs ++ ys) ≡ find e xs) → t || has xs e ≡ true → cond t 0 (suc (find e (xs ++ ys))) ≡ cond t 0 (suc (find e xs))
+    go true ih r = refl
+    go false ih r = ap suc (ih r)
+
+pub find-out : (xs ys : List ℕ) (e : ℕ) → has xs e ≡ false → find e (xs ++ ys) ≡ length xs + find e ys
+unfolding has find
+find-out [] ys e q = omega arith
+find-out (x ∷ xs) ys e q = go (eqb e x) (find-out xs ys e) q
+  where
+    go : (t : Bool) → (has xs e ≡ false → find e (xs ++ ys) ≡ length xs + find e ys) → t || has xs e ≡ false → cond t 0 (suc (find e (xs ++ ys))) ≡ suc (length xs) + find e ys
+    go true ih r = absurd (true≢false r)
+    go false ih r = omega (arith, ih r)
+
+pub find-one : (t : Bool) (x : ℕ) → t ≡ true → find x (pick t x) ≡ 0
+unfolding find
+find-one true x q = ap (λ (t : Bool). cond t 0 1) (eq-eqb x x refl)
+find-one false x q = refl

@@ -135,8 +135,7 @@ module _ (m n : ℕ) (off cols : List ℕ) where
       let r = rows-of values h in
       record {
         csr = csr-of values r;
-        first = r .offsets .first;
-        last = r .offsets .last;
+        offsets = r .offsets;
         wide = r .columns .1;
         within = λ i l. below n (row off cols i) (small n (row off cols i) (r .good i l));
         filled = λ i l.

@@ -6,6 +6,7 @@ use lib.ListN.{getD, length}
 use Rattle.csr.specs.Pattern.{row}
 use Rattle.base.specs.Numbers.{Below, Rising}
 
+-- the lists of m rows, each with rising columns
 pub record Csr (off cols : List ℕ) (m : ℕ) : Type 0 where
   pub offsets : length off ≡ m + 1
   pub few : m ≤ 256
@@ -25,8 +26,7 @@ pub record Offsets (m : ℕ) (off : List ℕ) (t : ℕ) : Type 0 where
 -- questions 1 to 5 got a yes
 pub record Accepted (off cols : List ℕ) (m n : ℕ) : Type 0 where
   pub csr : Csr off cols m
-  pub first : getD off 0 0 ≡ 0
-  pub last : getD off m 0 ≡ length cols
+  pub offsets : Offsets m off (length cols)
   pub wide : n ≤ 1024
   pub within : (i : ℕ) → i < m → Below n (row off cols i)
   pub filled : (i : ℕ) → i < m → getD off i 0 < getD off (i + 1) 0

@@ -27,7 +27,7 @@ use Rattle.plan_laws.proofs.Follows.{low-for, high-for}
 use Rattle.memory.specs.Planned.{problemIn, lIn}
 use Rattle.factor.specs.Row.{FilledTo, factorIn, sideIn, solvedIn, RowDue}
 use Rattle.eliminate.specs.Elimination.{KeptTwo, BackIn, backAll, Forwarded, Solves}
-use Rattle.eliminate.proofs.Turns.{cut-length}
+use Rattle.base.proofs.Numbers.{cut-length}
 
 -- ---- two regions
 

@@ -11,11 +11,11 @@ use Rattle.csr.specs.Counts.{countE, sizeW}
 use Rattle.ipm_common.specs.Plan.{Tallied, written}
 use Rattle.pattern.specs.Word.{bit}
 use Rattle.base.specs.Cat.{Wrote}
-use Rattle.lists.specs.Lists.{shape, tenOf, sideOf, planOf, planWords, plan-parts}
+use Rattle.lists.specs.Lists.{shape, tenOf, sideOf, planOf, planWords}
+use Rattle.lists.proofs.Whole.{plan-parts, three, three-length}
 use Rattle.lists.specs.Ready.{Ready}
 use Rattle.lists.specs.declared.Side.the-variants.{Factor, Matrix}
 use Rattle.base.proofs.Write.{wrote-as}
-use Rattle.lists.proofs.Whole.{three, three-length}
 use Rattle.transpose.specs.Bins.{sideIn}
 use Rattle.pair_lists.specs.Kept.{Rows}
 use Rattle.pair_lists.proofs.Factor.{side-same}

@@ -13,11 +13,11 @@ use Rattle.machine.specs.Machine.{Problem, holds, entry, inFactor, forward, bac
 use Rattle.lanes.specs.Arithmetic.{_⊕_, _⊖_, _⊗_, _⊘_, null}
 use Rattle.machine.proofs.Factor.{fold-same}
 use Rattle.machine.proofs.Entries.{through, along}
-use Rattle.base.specs.Numbers.{cut}
+use Rattle.base.specs.Numbers.{cut, span}
 use Rattle.sparse.specs.Sparse.{plusAll, lessAll, lessEach, frontAt, front, backAt, back}
-use Rattle.sparse.specs.Parts.{span, plusRow, lessRow, plusCol, lessCol}
-use Rattle.sparse.proofs.Spans.{cut-length, cut-at}
+use Rattle.sparse.specs.Parts.{plusRow, lessRow, plusCol, lessCol}
 use Rattle.plan_laws.specs.Meaning.{RowsOf, ColsOf, LowOf, HighOf, Holds}
+use Rattle.base.proofs.Numbers.{cut-length, cut-at}
 
 -- ONE LAW FOR EVERY LIST: a loop over a rising list, with a number of its own for each turn
 pub listed : (n : ℕ) (p : ℕ → Bool) (es : List ℕ) (a : ℕ → Float) (f : ℕ → Float) (F : ℕ → Float → Float → Float) (v : Float) → Between 0 n es

@@ -10,7 +10,8 @@ use Rattle.base.proofs.Sums.{sum-le, sum-times, sum-more, count-le}
 use Rattle.csr.specs.Pattern.{row}
 use Rattle.csr.specs.Csr.{Csr}
 use Rattle.csr.specs.Counts.{common, isStored, countE, countS, countD}
-use Rattle.csr.proofs.Has.{common-le, row-le}
+use Rattle.csr.proofs.Has.{common-le}
+use Rattle.csr.proofs.Rows.{row-le}
 
 -- ---- 1 + 2 + .. + n pairs
 

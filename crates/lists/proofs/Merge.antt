@@ -1,18 +1,18 @@
 -- What two rising rows share, and where a number stands in one. Assumes nothing.
-use mathlib.Core.Path.{_≡_, refl, ap, _∙_}
+use mathlib.Core.Path.{_≡_, refl, ap}
 use mathlib.Core.Bool.{Bool, true, false}
 use mathlib.Core.List.{List, [], _∷_, _++_}
-use Prim.Native.Nat.{ℕ, zero, suc, _+_, _<_}
+use Prim.Native.Nat.{ℕ, _+_, _<_}
 use native.Mathlib.Omega.{arith}
-use lib.ListN.{length, getD}
+use lib.ListN.{length}
 use borrow.Author.Tests.{ne-eqb, eq-eqb}
 use Rattle.csr.specs.Pattern.{has}
 use Rattle.csr.specs.Counts.{common}
 use Rattle.base.specs.Sums.{one}
-use Rattle.base.specs.Numbers.{Under, Rising}
+use Rattle.base.specs.Numbers.{Under}
 use Rattle.base.specs.Cat.{pick}
-use Rattle.lists.specs.Lists.{both, find, zeroIf}
-use Rattle.base.proofs.Numbers.{under-at, under-trans}
+use Rattle.lists.specs.Lists.{both}
+use Rattle.base.proofs.Numbers.{under-trans}
 use Rattle.csr.proofs.Has.{absent}
 
 skip : (y : ℕ) (zs ys : List ℕ) → Under y zs → both zs (y ∷ ys) ≡ both zs ys
@@ -44,11 +44,3 @@ length-both (x ∷ xs) ys = go (has ys x) (length-both xs ys)
     go : (t : Bool) → length (both xs ys) ≡ common xs ys → length (pick t x ++ both xs ys) ≡ one t + common xs ys
     go true ih = omega (arith, ih)
     go false ih = omega (arith, ih)
-
-pub find-at : (a : List ℕ) (i : ℕ) → Rising a → i < length a → find (getD a i 0) a ≡ i
-unfolding find
-find-at [] i h l = absurd (omega arith)
-find-at (x ∷ a) zero h l = ap (λ (t : Bool). zeroIf t (suc (find x a))) (eq-eqb x x refl)
-find-at (x ∷ a) (suc i) h l =
-    ap (λ (t : Bool). zeroIf t (suc (find (getD a i 0) a))) (ne-eqb (getD a i 0) x (λ e. omega (arith, under-at x a i (h .0) (omega arith))))
-    ∙ ap suc (find-at a i (h .1) (omega arith))

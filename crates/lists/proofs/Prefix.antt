@@ -13,7 +13,8 @@ use Rattle.base.specs.Sums.{sum, one}
 use Rattle.csr.specs.Counts.{common, isStored}
 use Rattle.base.proofs.Sums.{sum-ext}
 use Rattle.base.specs.Cat.{cat, pick, pairs}
-use Rattle.lists.specs.Lists.{Shape, shape, weight, lplace, place, before, piece, listOf, begins, shared, products, find, both}
+use Rattle.lists.specs.Lists.{Shape, shape, weight, lplace, place, before, piece, listOf, begins, shared, products, both}
+use Rattle.base.specs.Numbers.{find}
 use Rattle.lists.specs.declared.Which.{Which}
 use Rattle.lists.specs.declared.Which.the-variants.{AnormIndptr, AnormIndptrI, AnormIndptrJ, AnormIndices, LdecompIndptr, LdecompIndptrI, LdecompIndptrJ, Lindptr, LdiagIndptr, Lindices}
 use Rattle.base.proofs.Write.{cat-ext, cat-add}

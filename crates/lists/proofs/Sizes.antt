@@ -14,10 +14,11 @@ use Rattle.base.specs.Numbers.{Below, Rising}
 use Rattle.base.specs.Sums.{sum, one}
 use Rattle.csr.specs.Counts.{common, isStored, countE, countS, countD, sizeW}
 use Rattle.base.proofs.Sums.{sum-ext, sum-add, sum-zero, sum-plus, sum-swap, sum-ones, sum-once}
-use Rattle.pattern.proofs.Seed.{row-is}
+use Rattle.csr.proofs.Rows.{row-is}
 use Rattle.base.specs.Cat.{cat, pick, pairs}
 use Rattle.lists.specs.Ready.{Accepted}
-use Rattle.lists.specs.Lists.{shape, weight, lplace, place, before, piece, listOf, shared, products, holds, entry, inColumn, column, columnEnds, columns, endsOf, columnsOf, sideOf, tenOf, planOf, field, plan-parts}
+use Rattle.lists.specs.Lists.{shape, weight, lplace, place, before, piece, listOf, shared, products, holds, entry, inColumn, column, columnEnds, columns, endsOf, columnsOf, sideOf, tenOf, planOf, field}
+use Rattle.lists.proofs.Whole.{plan-parts, three-length, side-is}
 use Rattle.lists.specs.declared.Which.{Which}
 use Rattle.lists.specs.declared.Which.the-variants.{AnormIndptr, AnormIndptrI, AnormIndptrJ, AnormIndices, LdecompIndptr, LdecompIndptrI, LdecompIndptrJ, Lindptr, LdiagIndptr, Lindices}
 use Rattle.lists.specs.declared.Side.{Side}
@@ -25,8 +26,7 @@ use Rattle.lists.specs.declared.Side.the-variants.{Factor, Matrix}
 use Rattle.lists.specs.declared.What.the-variants.{Numbers, Places}
 use Rattle.base.proofs.Write.{length-cat, length-pick}
 use Rattle.lists.proofs.Merge.{length-both}
-use Rattle.lists.proofs.Spans.{span}
-use Rattle.lists.proofs.Whole.{three-length, side-is}
+use Rattle.lists.proofs.Spans.{row-span}
 use Rattle.csr.proofs.Has.{absent}
 
 -- ---- sums
@@ -146,16 +146,16 @@ module _ (off cols : List ℕ) (m n : ℕ) (ok : Accepted off cols m n) where
   -- the rows up to i, one after the other
   rows-long : (i : ℕ) → i ≤ m → sum i (λ r. length (row off cols r)) ≡ getD off i 0
   unfolding sum
-  rows-long zero h = sym (ok .first)
+  rows-long zero h = sym (ok .offsets .first)
   rows-long (suc i) h =
-      let s = span off cols m i (getD off i 0) (getD off (i + 1) 0) (ok .csr) (omega arith) refl refl in
+      let s = row-span off cols m i (getD off i 0) (getD off (i + 1) 0) (ok .csr) (omega arith) refl refl in
       omega (arith, rows-long i (omega arith), s .order, s .size, ap length (row-is off cols i (getD off i 0) (getD off (i + 1) 0) refl refl), ap (λ (k : ℕ). getD off k 0) (add-one i))
 
   pub matrix-entries : sum m (λ i. sum n (λ e. one (has (row off cols i) e))) ≡ length cols
   matrix-entries =
       sum-ext m (λ i. sum n (λ e. one (has (row off cols i) e))) (λ i. length (row off cols i)) (λ i l. row-ones n (row off cols i) (ok .csr .rising i l) (ok .within i l))
       ∙ rows-long m (omega arith)
-      ∙ ok .last
+      ∙ ok .offsets .last
 
   pub factor-entries : sum m (λ i. sum m (λ e. one ((shape off cols) .held i e))) ≡ countE off cols m
   unfolding countE

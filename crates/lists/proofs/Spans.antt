@@ -15,8 +15,8 @@ pub record Span (cols : List ℕ) (f t : ℕ) : Type 0 where
   pub size : length (take (t - f) (drop f cols)) ≡ t - f
   pub long : f + length (take (t - f) (drop f cols)) ≤ 65536
 
-pub span : (off cols : List ℕ) (m i f t : ℕ) → Csr off cols m → i < m → f ≡ getD off i 0 → t ≡ getD off (i + 1) 0 → Span cols f t
-span off cols m i f t h l e g = record {
+pub row-span : (off cols : List ℕ) (m i f t : ℕ) → Csr off cols m → i < m → f ≡ getD off i 0 → t ≡ getD off (i + 1) 0 → Span cols f t
+row-span off cols m i f t h l e g = record {
   order = omega (arith, h .order i l);
   within = omega (arith, h .ends (i + 1) (omega arith));
   few = h .nnz;

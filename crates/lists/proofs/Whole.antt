@@ -1,16 +1,17 @@
 -- Laws of the sixteen lists together. Assumes nothing.
 use mathlib.Core.Path.{_≡_, refl, sym, ap, _∙_}
-use mathlib.Core.List.{List, _++_}
+use mathlib.Core.List.{List, _++_, append-assoc}
 use Prim.Native.Nat.{ℕ, zero, suc, _+_, _<_, _≤_}
 use native.Mathlib.Omega.{arith}
 use lib.ListN.{length, length-append, drop}
 use lib.Seq.{sets-eq}
-use Rattle.base.specs.Cat.{Wrote}
-use Rattle.lists.specs.Lists.{Shape, listOf, field, sideOf, tenOf, endsOf, columnsOf}
+use Rattle.base.specs.Cat.{cat, Wrote}
+use Rattle.lists.specs.Lists.{Shape, listOf, field, sideOf, tenOf, endsOf, columnsOf, planOf}
 use Rattle.lists.specs.declared.Side.{Side}
+use Rattle.lists.specs.declared.Side.the-variants.{Factor, Matrix}
 use Rattle.lists.specs.declared.What.the-variants.{Numbers, Places}
 use Rattle.lists.specs.declared.Which.{Which}
-use Rattle.lists.specs.declared.Which.the-variants.{Lindices}
+use Rattle.lists.specs.declared.Which.the-variants.{AnormIndptr, AnormIndptrI, AnormIndptrJ, AnormIndices, LdecompIndptr, LdecompIndptrI, LdecompIndptrJ, Lindptr, LdiagIndptr, Lindices}
 use Rattle.base.proofs.Write.{wrote-join, wrote-as, cat-next, cat-room}
 
 pub field-rest : (k : ℕ) → (k ≡ 0 → ⊥) → (k ≡ 1 → ⊥) → (k ≡ 2 → ⊥) → (k ≡ 3 → ⊥) → (k ≡ 4 → ⊥) → (k ≡ 5 → ⊥) → (k ≡ 6 → ⊥) → (k ≡ 7 → ⊥) → (k ≡ 8 → ⊥) → field k ≡ Lindices
@@ -35,6 +36,21 @@ three a b c d start p q r x y z u v w = wrote-join a c d start q r (x ++ y) z (w
 pub side-is : (g : Shape) (s : Side) (m n : ℕ) → sideOf g s m n ≡ endsOf g s m n ++ columnsOf g s Numbers m n ++ columnsOf g s Places m n
 unfolding sideOf
 side-is g s m n = refl
+
+-- ---- the sixteen
+
+regroup : (a0 a1 a2 a3 a4 a5 a6 a7 a8 a9 r0 r1 r2 s0 s1 s2 : List ℕ)
+    → a0 ++ a1 ++ a2 ++ a3 ++ a4 ++ a5 ++ a6 ++ a7 ++ a8 ++ a9 ++ r0 ++ r1 ++ r2 ++ s0 ++ s1 ++ s2
+    ≡ (a0 ++ a1 ++ a2 ++ a3 ++ a4 ++ a5 ++ a6 ++ a7 ++ a8 ++ a9) ++ (r0 ++ r1 ++ r2) ++ (s0 ++ s1 ++ s2)
+regroup a0 a1 a2 a3 a4 a5 a6 a7 a8 a9 r0 r1 r2 s0 s1 s2 = simp append-assoc
+
+-- the sixteen are the ten and then the two transposes
+pub plan-parts : (g : Shape) (m n : ℕ) → planOf g m n ≡ tenOf g m 10 ++ sideOf g Factor m m ++ sideOf g Matrix m n
+unfolding planOf tenOf cat sideOf
+plan-parts g m n =
+    regroup (listOf g AnormIndptr m) (listOf g AnormIndptrI m) (listOf g AnormIndptrJ m) (listOf g AnormIndices m) (listOf g LdecompIndptr m) (listOf g LdecompIndptrI m) (listOf g LdecompIndptrJ m) (listOf g Lindptr m) (listOf g LdiagIndptr m) (listOf g Lindices m)
+    (endsOf g Factor m m) (columnsOf g Factor Numbers m m) (columnsOf g Factor Places m m)
+    (endsOf g Matrix m n) (columnsOf g Matrix Numbers m n) (columnsOf g Matrix Places m n)
 
 -- ---- the ten
 module _ (g : Shape) (m : ℕ) where

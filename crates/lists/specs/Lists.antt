@@ -1,10 +1,9 @@
--- The sixteen lists of the plan. Assumes nothing.
-use mathlib.Core.Path.{_≡_, refl}
+-- The sixteen lists of the plan. Definitions only.
 use mathlib.Core.Bool.{Bool, true, false, _&&_}
-use mathlib.Core.List.{List, [], _∷_, _++_, map, append-assoc}
+use mathlib.Core.List.{List, [], _∷_, _++_, map}
 use Prim.Native.Nat.{ℕ, zero, suc, _+_}
 use lib.Dec.{eqb, leb}
-use lib.ListN.{length, getD}
+use lib.ListN.{getD}
 use Rattle.csr.specs.Pattern.{has, row}
 use Rattle.base.specs.Sums.{sum, one}
 use Rattle.csr.specs.Counts.{common, isStored}
@@ -17,6 +16,7 @@ use Rattle.lists.specs.declared.What.{What}
 use Rattle.lists.specs.declared.What.the-variants.{Numbers, Places}
 use Rattle.lists.specs.declared.Which.{Which}
 use Rattle.lists.specs.declared.Which.the-variants.{AnormIndptr, AnormIndptrI, AnormIndptrJ, AnormIndices, LdecompIndptr, LdecompIndptrI, LdecompIndptrJ, Lindptr, LdiagIndptr, Lindices}
+use Rattle.base.specs.Numbers.{find}
 
 -- what the lists are read off
 pub record Shape : Type 0 where
@@ -39,15 +39,6 @@ unfoldable pub both : List ℕ → List ℕ → List ℕ
 unfolding has
 both [] ys = []
 both (x ∷ xs) ys = pick (has ys x) x ++ both xs ys
-
-abbrev pub zeroIf : Bool → ℕ → ℕ
-zeroIf true n = 0
-zeroIf false n = n
-
--- where x stands first
-unfoldable pub find : ℕ → List ℕ → ℕ
-find x [] = 0
-find x (y ∷ ys) = zeroIf (eqb x y) (suc (find x ys))
 
 -- the first, the second or the third
 abbrev pub chosen : Take → ℕ → ℕ → ℕ → ℕ
@@ -174,9 +165,10 @@ abbrev pub entry : Shape → Side → What → ℕ → ℕ → ℕ
 entry g s Numbers = λ i e. i
 entry g s Places = placed g s
 
-abbrev pub told : What → ℕ → ℕ → ℕ
-told Numbers i x = i
-told Places i x = x
+-- of an entry of row i at place x
+abbrev pub byWhat : What → ℕ → ℕ → ℕ
+byWhat Numbers i x = i
+byWhat Places i x = x
 
 -- how many columns there may be
 abbrev pub widest : Side → ℕ
@@ -213,6 +205,23 @@ unfoldable pub tenOf : Shape → ℕ → ℕ → List ℕ
 unfolding cat listOf
 tenOf g m k = cat k (λ i. listOf g (field i) m)
 
+-- THE PLAN: the sixteen lists, each by the Rust's name of its field. An entry is a stored pair (i, j) of the factor, j ≤ i, row by row; its place is its number among them.
+--   1 anorm_indptr      the shared columns of entry e stand from number e of this list to number e + 1
+--   2 anorm_indptr_i    of each column that rows i and j share, where row i's value stands in the matrix's values
+--   3 anorm_indptr_j    of each, where row j's value stands
+--   4 anorm_indices     of each, which column it is
+--   5 ldecomp_indptr    the products of entry e stand from number e of this list to number e + 1
+--   6 ldecomp_indptr_i  of each k < j with (i, k) and (j, k) stored, the place of (i, k)
+--   7 ldecomp_indptr_j  of each, the place of (j, k)
+--   8 lindptr           row i of the factor stands from number i of this list to number i + 1
+--   9 ldiag_indptr      the place of each row's diagonal entry
+--  10 lindices          each entry's column
+--  11 ltindptr          column j of the factor stands from number j of this list to number j + 1
+--  12 ltindices         the rows of each column
+--  13 ltmap             the places of those entries
+--  14 atindptr          column e of the matrix stands from number e of this list to number e + 1 (14 to 16: the matrix's transpose, which the Rust keeps elsewhere)
+--  15 atindices         the rows of each column
+--  16 atmap             where those entries stand in the matrix's values
 unfoldable pub planOf : Shape → ℕ → ℕ → List ℕ
 unfolding listOf endsOf columnsOf
 planOf g m n =
@@ -233,58 +242,5 @@ planOf g m n =
     ++ columnsOf g Matrix Numbers m n
     ++ columnsOf g Matrix Places m n
 
-regroup : (a0 a1 a2 a3 a4 a5 a6 a7 a8 a9 r0 r1 r2 s0 s1 s2 : List ℕ)
-    → a0 ++ a1 ++ a2 ++ a3 ++ a4 ++ a5 ++ a6 ++ a7 ++ a8 ++ a9 ++ r0 ++ r1 ++ r2 ++ s0 ++ s1 ++ s2
-    ≡ (a0 ++ a1 ++ a2 ++ a3 ++ a4 ++ a5 ++ a6 ++ a7 ++ a8 ++ a9) ++ (r0 ++ r1 ++ r2) ++ (s0 ++ s1 ++ s2)
-regroup a0 a1 a2 a3 a4 a5 a6 a7 a8 a9 r0 r1 r2 s0 s1 s2 = simp append-assoc
-
--- the sixteen are the ten and then the two transposes
-pub plan-parts : (g : Shape) (m n : ℕ) → planOf g m n ≡ tenOf g m 10 ++ sideOf g Factor m m ++ sideOf g Matrix m n
-unfolding planOf tenOf cat sideOf
-plan-parts g m n =
-    regroup (listOf g AnormIndptr m) (listOf g AnormIndptrI m) (listOf g AnormIndptrJ m) (listOf g AnormIndices m) (listOf g LdecompIndptr m) (listOf g LdecompIndptrI m) (listOf g LdecompIndptrJ m) (listOf g Lindptr m) (listOf g LdiagIndptr m) (listOf g Lindices m)
-    (endsOf g Factor m m) (columnsOf g Factor Numbers m m) (columnsOf g Factor Places m m)
-    (endsOf g Matrix m n) (columnsOf g Matrix Numbers m n) (columnsOf g Matrix Places m n)
-
 abbrev pub planWords : List ℕ → List ℕ → ℕ → ℕ → List ℕ
 planWords off cols m n = planOf (shape off cols) m n
-
--- ---- the marked examples
-one-row : planWords (0 ∷ 1 ∷ []) (0 ∷ []) 1 1 ≡ 0 ∷ 1 ∷ 0 ∷ 0 ∷ 0 ∷ 0 ∷ 0 ∷ 0 ∷ 1 ∷ 0 ∷ 0 ∷ 0 ∷ 1 ∷ 0 ∷ 0 ∷ 0 ∷ 1 ∷ 0 ∷ 0 ∷ []
-unfolding planOf isStored lplace place
-one-row = refl
-
-abbrev star-off : List ℕ
-star-off = 0 ∷ 2 ∷ 3 ∷ 4 ∷ []
-
-abbrev star-cols : List ℕ
-star-cols = 0 ∷ 1 ∷ 0 ∷ 1 ∷ []
-
-abbrev star : Shape
-star = shape star-off star-cols
-
-star-lists : (listOf star Lindices 3 ≡ 0 ∷ 0 ∷ 1 ∷ 0 ∷ 1 ∷ 2 ∷ [])
-    × (listOf star Lindptr 3 ≡ 0 ∷ 1 ∷ 3 ∷ 6 ∷ [])
-    × (listOf star LdiagIndptr 3 ≡ 0 ∷ 2 ∷ 5 ∷ [])
-    × (listOf star AnormIndptr 3 ≡ 0 ∷ 2 ∷ 3 ∷ 4 ∷ 5 ∷ 5 ∷ 6 ∷ [])
-    × (listOf star AnormIndptrI 3 ≡ 0 ∷ 1 ∷ 2 ∷ 2 ∷ 3 ∷ 3 ∷ [])
-    × (listOf star AnormIndptrJ 3 ≡ 0 ∷ 1 ∷ 0 ∷ 2 ∷ 1 ∷ 3 ∷ [])
-    × (listOf star AnormIndices 3 ≡ 0 ∷ 1 ∷ 0 ∷ 0 ∷ 1 ∷ 1 ∷ [])
-    × (listOf star LdecompIndptr 3 ≡ 0 ∷ 0 ∷ 0 ∷ 1 ∷ 1 ∷ 2 ∷ 4 ∷ [])
-    × (listOf star LdecompIndptrI 3 ≡ 1 ∷ 3 ∷ 3 ∷ 4 ∷ [])
-    × (listOf star LdecompIndptrJ 3 ≡ 1 ∷ 1 ∷ 3 ∷ 4 ∷ [])
-unfolding listOf isStored
-star-lists = (refl, refl, refl, refl, refl, refl, refl, refl, refl, refl)
-
-star-columns : (endsOf star Factor 3 3 ≡ 0 ∷ 3 ∷ 5 ∷ 6 ∷ [])
-    × (columnsOf star Factor Numbers 3 3 ≡ 0 ∷ 1 ∷ 2 ∷ 1 ∷ 2 ∷ 2 ∷ [])
-    × (columnsOf star Factor Places 3 3 ≡ 0 ∷ 1 ∷ 3 ∷ 2 ∷ 4 ∷ 5 ∷ [])
-    × (endsOf star Matrix 3 2 ≡ 0 ∷ 2 ∷ 4 ∷ [])
-    × (columnsOf star Matrix Numbers 3 2 ≡ 0 ∷ 1 ∷ 0 ∷ 2 ∷ [])
-    × (columnsOf star Matrix Places 3 2 ≡ 0 ∷ 2 ∷ 1 ∷ 3 ∷ [])
-unfolding endsOf columnsOf isStored lplace place
-star-columns = (refl, refl, refl, refl, refl, refl)
-
-star-size : length (planWords star-off star-cols 3 2) ≡ 80
-unfolding planOf isStored lplace place
-star-size = refl

@@ -6,17 +6,27 @@ ghost use lib.ListN.{length, getD};
 ghost use Rattle.base.specs.Cat.{pick, Wrote};
 ghost use Rattle.lists.specs.Lists.{begins, field};
 
-// The ten lists that are written pair by pair, by the names of the Rust's fields.
+// The ten lists that are written pair by pair, by the names of the Rust's fields. An entry is a stored pair (i, j) of the factor.
 pub enum Which {
+    // anorm_indptr: the shared columns of entry e stand from number e of this list to number e + 1.
     AnormIndptr,
+    // anorm_indptr_i: of each column that rows i and j share, where row i's value stands.
     AnormIndptrI,
+    // anorm_indptr_j: of each, where row j's value stands.
     AnormIndptrJ,
+    // anorm_indices: of each, which column it is.
     AnormIndices,
+    // ldecomp_indptr: the products of entry e stand from number e of this list to number e + 1.
     LdecompIndptr,
+    // ldecomp_indptr_i: of each product, the place of its first entry, (i, k).
     LdecompIndptrI,
+    // ldecomp_indptr_j: of each product, the place of its second entry, (j, k).
     LdecompIndptrJ,
+    // lindptr: row i of the factor stands from number i of this list to number i + 1.
     Lindptr,
+    // ldiag_indptr: the place of each row's diagonal entry.
     LdiagIndptr,
+    // lindices: each entry's column.
     Lindices,
 }
 
@@ -45,13 +55,13 @@ pub fn has_head(which: Which) -> bool
     }
 }
 
-// The factor's columns, or the matrix's.
+// The factor's columns (ltindptr, ltindices, ltmap), or the matrix's (atindptr, atindices, atmap).
 pub enum Side {
     Factor,
     Matrix,
 }
 
-// An entry by its row, or by its place.
+// An entry of a column by its row (ltindices, atindices), or by its place (ltmap, atmap).
 pub enum What {
     Numbers,
     Places,

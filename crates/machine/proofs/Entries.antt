@@ -5,14 +5,16 @@ use mathlib.Core.List.{List, [], _∷_}
 use Prim.Native.Nat.{ℕ, zero, suc, _+_, _-_, _≤_, _<_}
 use native.Mathlib.Omega.{arith}
 use borrow.Author.Tests.{ne-eqb, eq-eqb}
-use lib.ListN.{getD, length, take, drop, length-drop}
-use lib.Seq.{take-suc, take-length, getD-take, getD-drop, length-take-le}
+use lib.ListN.{getD, length, take}
+use lib.Seq.{take-suc, take-length}
 use lib.Ieee.{Float}
 use Rattle.csr.specs.Pattern.{has, row}
 use Rattle.lanes.specs.Lists.{at, fold, each, Between}
-use Rattle.machine.specs.Machine.{Problem, place, holds, entry}
+use Rattle.machine.specs.Machine.{Problem, holds, entry}
 use Rattle.machine.proofs.Walks.{walk, walk-more, each-walk}
 use Rattle.machine.proofs.Factor.{fold-same}
+use Rattle.base.specs.Numbers.{find}
+use Rattle.csr.proofs.Rows.{row-length, row-at}
 
 -- a walk through a list, as a loop over its places
 walk-take : (es : List ℕ) (f : ℕ → Float → Float) (v : Float) (k : ℕ) → k ≤ length es → walk (take k es) f v ≡ fold k (λ j r. f (getD es j 0) r) v
@@ -37,14 +39,14 @@ under b n [] r j h = absurd (omega arith)
 under b n (e ∷ es) r zero h = r .1
 under b n (e ∷ es) r (suc j) h = under (suc e) n es (r .2) j (omega arith)
 
-pub place-at : (b n : ℕ) (es : List ℕ) → Between b n es → (j : ℕ) → j < length es → place es (getD es j 0) ≡ j
-unfolding place
-place-at b n [] r j h = absurd (omega arith)
-place-at b n (e ∷ es) r zero h = ap (λ (t : Bool). cond t 0 (suc (place es e))) (eq-eqb e e refl)
-place-at b n (e ∷ es) r (suc j) h =
+pub find-between : (b n : ℕ) (es : List ℕ) → Between b n es → (j : ℕ) → j < length es → find (getD es j 0) es ≡ j
+unfolding find
+find-between b n [] r j h = absurd (omega arith)
+find-between b n (e ∷ es) r zero h = ap (λ (t : Bool). cond t 0 (suc (find e es))) (eq-eqb e e refl)
+find-between b n (e ∷ es) r (suc j) h =
     let a : suc e ≤ getD es j 0 = above (suc e) n es (r .2) j (omega arith) in
-    ap (λ (t : Bool). cond t 0 (suc (place es (getD es j 0)))) (ne-eqb (getD es j 0) e (λ z. omega (arith, a)))
-    ∙ ap suc (place-at (suc e) n es (r .2) j (omega arith))
+    ap (λ (t : Bool). cond t 0 (suc (find (getD es j 0) es))) (ne-eqb (getD es j 0) e (λ z. omega (arith, a)))
+    ∙ ap suc (find-between (suc e) n es (r .2) j (omega arith))
 
 module _ (A : Problem) (i : ℕ) where
   -- row i's first place, and how many entries it has
@@ -55,22 +57,17 @@ module _ (A : Problem) (i : ℕ) where
   many = getD (A .off) (i + 1) 0 - getD (A .off) i 0
 
   module _ (rising : Between 0 (A .n) (row (A .off) (A .cols) i)) (ends : from + many ≤ length (A .cols)) where
-    row-length : length (row (A .off) (A .cols) i) ≡ many
-    unfolding row
-    row-length = length-take-le many (drop from (A .cols)) (omega (arith, length-drop from (A .cols)))
-
-    pub row-at : (j : ℕ) → j < many → getD (row (A .off) (A .cols) i) j 0 ≡ getD (A .cols) (from + j) 0
-    unfolding row
-    row-at j h = getD-take many (drop from (A .cols)) j 0 h ∙ getD-drop from (A .cols) j 0
+    row-many : length (row (A .off) (A .cols) i) ≡ many
+    row-many = row-length (A .off) (A .cols) i (omega arith)
 
     pub column-lt : (j : ℕ) → j < many → getD (A .cols) (from + j) 0 < A .n
-    column-lt j h = subst (λ (e : ℕ). e < A .n) (row-at j h) (under 0 (A .n) (row (A .off) (A .cols) i) rising j (omega (arith, row-length)))
+    column-lt j h = subst (λ (e : ℕ). e < A .n) (row-at (A .off) (A .cols) i j h) (under 0 (A .n) (row (A .off) (A .cols) i) rising j (omega (arith, row-many)))
 
     pub entry-at : (j : ℕ) → j < many → entry A i (getD (A .cols) (from + j) 0) ≡ at (A .vals) (from + j)
     unfolding entry
     entry-at j h =
-        ap (λ (e : ℕ). at (A .vals) (from + place (row (A .off) (A .cols) i) e)) (sym (row-at j h))
-        ∙ ap (λ (k : ℕ). at (A .vals) (from + k)) (place-at 0 (A .n) (row (A .off) (A .cols) i) rising j (omega (arith, row-length)))
+        ap (λ (e : ℕ). at (A .vals) (from + find e (row (A .off) (A .cols) i))) (sym (row-at (A .off) (A .cols) i j h))
+        ∙ ap (λ (k : ℕ). at (A .vals) (from + k)) (find-between 0 (A .n) (row (A .off) (A .cols) i) rising j (omega (arith, row-many)))
 
     -- THROUGH A ROW: what the machine does for each column of row i, a loop does from the row's offset on
     pub along : (F : ℕ → Float → Float → Float) (v : Float)
@@ -80,10 +77,10 @@ module _ (A : Problem) (i : ℕ) where
         let es = row (A .off) (A .cols) i in
         each-walk (λ e r. F e (entry A i e) r) 0 (A .n) es v rising
         ∙ walk-fold es (λ e r. F e (entry A i e) r) v
-        ∙ ap (λ (k : ℕ). fold k (λ j r. F (getD es j 0) (entry A i (getD es j 0)) r) v) row-length
+        ∙ ap (λ (k : ℕ). fold k (λ j r. F (getD es j 0) (entry A i (getD es j 0)) r) v) row-many
         ∙ fold-same many (λ j r. F (getD es j 0) (entry A i (getD es j 0)) r) (λ j r. F (getD (A .cols) (from + j) 0) (at (A .vals) (from + j)) r) v
         (λ j h r.
-        ap (λ (e : ℕ). F e (entry A i e) r) (row-at j h) ∙ ap (λ (a : Float). F (getD (A .cols) (from + j) 0) a r) (entry-at j h))
+        ap (λ (e : ℕ). F e (entry A i e) r) (row-at (A .off) (A .cols) i j h) ∙ ap (λ (a : Float). F (getD (A .cols) (from + j) 0) a r) (entry-at j h))
 
 -- ---- through any list: a column's rows, the columns that two rows share, the k of D, a row or a column of the factor
 

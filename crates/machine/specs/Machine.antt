@@ -16,6 +16,7 @@ use Rattle.root.specs.Root.{root}
 use Rattle.lanes.specs.Lists.{at, grow, vec, fold, each}
 use Rattle.lanes.specs.Constants.{startValue, centringValue, dampingValue}
 use Rattle.lanes.specs.Arithmetic.{_⊕_, _⊖_, _⊗_, _⊘_, √, whole, null, one, larger, smaller, magnitude, Σ, norm}
+use Rattle.base.specs.Numbers.{find}
 
 -- ---- 'The machine is fed the matrix, s and its own lane's b, c and three tolerances, and nothing of another lane.'
 
@@ -92,11 +93,6 @@ finiteTo (suc k) v = finiteTo k v && finite (at v k)
 abbrev pub cell : List (List Float) → ℕ → ℕ → Float
 cell rows i j = at (getD rows i []) j
 
--- the place of a number in a list
-unfoldable pub place : List ℕ → ℕ → ℕ
-place [] e = 0
-place (c ∷ cs) e = let r = suc (place cs e) in cond (eqb e c) 0 r
-
 module _ (A : Problem) where
   -- is (i, e) a stored entry of the matrix, and its value
   unfoldable pub holds : ℕ → ℕ → Bool
@@ -104,8 +100,8 @@ module _ (A : Problem) where
   holds i e = has (row (A .off) (A .cols) i) e
 
   unfoldable pub entry : ℕ → ℕ → Float
-  unfolding row place
-  entry i e = at (A .vals) (getD (A .off) i 0 + place (row (A .off) (A .cols) i) e)
+  unfolding row find
+  entry i e = at (A .vals) (getD (A .off) i 0 + find e (row (A .off) (A .cols) i))
 
   -- 'The machine's factor has (i, j), j ≤ i, exactly when i = j or there is a chain from i to j.'
   unfoldable pub inFactor : ℕ → ℕ → Bool

@@ -14,7 +14,8 @@ use Rattle.csr.specs.Counts.{isStored}
 use Rattle.pattern.specs.Word.{bit}
 use Rattle.base.proofs.Sums.{sum-ext}
 use Rattle.base.specs.Cat.{cat, pick}
-use Rattle.lists.specs.Lists.{shape, find, place, lplace, before, holds, entry, inColumn, column, columns, columnEnds, endsOf, columnsOf, sideOf}
+use Rattle.lists.specs.Lists.{shape, place, lplace, before, holds, entry, inColumn, column, columns, columnEnds, endsOf, columnsOf, sideOf}
+use Rattle.base.specs.Numbers.{find}
 use Rattle.lists.specs.Ready.{Ready}
 use Rattle.lists.specs.declared.What.{What}
 use Rattle.lists.specs.declared.What.the-variants.{Numbers, Places}

@@ -1,26 +1,23 @@
 -- Laws of the rows as lists. Assumes nothing.
 use mathlib.Core.Path.{_≡_, refl, sym, ap, ap₂, _∙_, subst}
 use mathlib.Core.Bool.{Bool, true, false, _||_}
-use mathlib.Core.List.{List, [], _∷_, _++_, append-assoc, append-nil}
+use mathlib.Core.List.{List, _++_, append-assoc, append-nil}
 use Prim.Native.Nat.{ℕ, zero, suc, _+_, _-_, _<_, _≤_}
 use native.Mathlib.Omega.{arith}
 use native.Mathlib.Decide.{ℕ-discrete}
-use lib.Dec.{eqb}
-use borrow.Author.Tests.{eq-eqb}
 use lib.ListN.{length, getD, set, take, drop, length-append}
 use lib.Seq.{sets, sets-eq, getD-set-same, getD-set-other}
 use Rattle.csr.specs.Pattern.{has, row}
-use Rattle.base.specs.Numbers.{Below, Rising, cut}
+use Rattle.base.specs.Numbers.{Below, Rising, cut, find}
 use Rattle.base.specs.Sums.{sum, one}
 use Rattle.base.proofs.Sums.{sum-ext, sum-more, sum-room}
 use Rattle.base.specs.Cat.{cat, pick, Wrote}
-use Rattle.lists.specs.Lists.{find, zeroIf}
 use Rattle.base.proofs.Write.{length-cat, cat-next, length-pick, wrote-join, wrote-as, cat-split}
 use Rattle.transpose.specs.Bins.{Grid}
 use Rattle.pair_lists.specs.Kept.{kept, keptRows, Rows}
 use Rattle.base.proofs.Bools.{or-nil}
 use Rattle.base.proofs.Numbers.{below-more, below-join, below-pick, rising-snoc, cut-part}
-use Rattle.csr.proofs.Has.{has-append, has-self, has-other}
+use Rattle.csr.proofs.Has.{has-append, has-self, has-other, find-in, find-out, find-one}
 use Rattle.lists.proofs.Few.{pairs-256}
 
 -- ---- one row
@@ -55,29 +52,6 @@ module _ (h : ℕ → Bool) where
       go : Dec (e ≡ n) → (e < n → has (kept h n) e ≡ h e) → has (kept h n ++ pick (h n) n) e ≡ h e
       go (yes q) ih = rw q (has-append (kept h n) (pick (h n) n) n ∙ ap₂ _||_ (kept-none n n (omega arith)) (has-self (h n) n))
       go (no q) ih = has-append (kept h n) (pick (h n) n) e ∙ ap₂ _||_ (ih (omega arith)) (has-other (h n) n e q) ∙ or-nil (h e)
-
-  find-in : (xs ys : List ℕ) (e : ℕ) → has xs e ≡ true → find e (xs ++ ys) ≡ find e xs
-  unfolding has find
-  find-in [] ys e q = absurd (let z : _≡_ {A = Bool} false true = q in let y : _≡_ {A = ℕ} 0 1 = cc in omega arith)
-  find-in (x ∷ xs) ys e q = go (eqb e x) (find-in xs ys e) q
-    where
-      go : (t : Bool) → (has xs e ≡ true → find e (xs ++ ys) ≡ find e xs) → t || has xs e ≡ true → zeroIf t (suc (find e (xs ++ ys))) ≡ zeroIf t (suc (find e xs))
-      go true ih r = refl
-      go false ih r = ap suc (ih r)
-
-  find-out : (xs ys : List ℕ) (e : ℕ) → has xs e ≡ false → find e (xs ++ ys) ≡ length xs + find e ys
-  unfolding has find
-  find-out [] ys e q = omega arith
-  find-out (x ∷ xs) ys e q = go (eqb e x) (find-out xs ys e) q
-    where
-      go : (t : Bool) → (has xs e ≡ false → find e (xs ++ ys) ≡ length xs + find e ys) → t || has xs e ≡ false → zeroIf t (suc (find e (xs ++ ys))) ≡ suc (length xs) + find e ys
-      go true ih r = absurd (let y : _≡_ {A = ℕ} 0 1 = cc in omega arith)
-      go false ih r = omega (arith, ih r)
-
-  find-one : (t : Bool) (x : ℕ) → t ≡ true → find x (pick t x) ≡ 0
-  unfolding find
-  find-one true x q = ap (λ (t : Bool). zeroIf t 1) (eq-eqb x x refl)
-  find-one false x q = refl
 
   -- an entry stands after those below it
   pub kept-find : (n e : ℕ) → e < n → h e ≡ true → find e (kept h n) ≡ sum e (λ k. one (h k))

@@ -20,15 +20,15 @@ use Rattle.lists.proofs.Sizes.{length-ends}
 use Rattle.lanes.specs.Lists.{at, Between}
 use Rattle.machine.specs.Machine.{Problem, holds, entry}
 use Rattle.machine.specs.Work.{problemOf}
-use Rattle.plan_laws.proofs.Picks.{picks-all, find-place, find-lt}
-use Rattle.base.specs.Numbers.{cut}
-use Rattle.sparse.specs.Sparse.{Csr}
-use Rattle.sparse.specs.Parts.{span}
+use Rattle.plan_laws.proofs.Picks.{picks-all}
+use Rattle.base.specs.Numbers.{cut, span}
 use Rattle.plan_laws.specs.Meaning.{ColsOf}
+use Rattle.csr.proofs.Has.{find-lt}
+use Rattle.sparse.specs.Sparse.{Ranges}
 use Rattle.plan_laws.proofs.Parts.{cat-all, singles-at}
 use Rattle.base.proofs.Numbers.{cut-part}
 use Rattle.plan_laws.proofs.Picked.{picked, named, named-length, named-same, named-at, picked-rise, picked-has}
-use Rattle.plan_laws.proofs.Rows.{row-length}
+use Rattle.csr.proofs.Rows.{row-length}
 
 -- ---- any grid of m rows
 module _ (mem : ℕ → ℕ → Bool) (m n : ℕ) where
@@ -72,7 +72,7 @@ module _ (mem : ℕ → ℕ → Bool) (m n : ℕ) where
       subst P (sym (named-at (λ i. mem i e) (λ i. v i e) m t c)) (picks-all (λ (i : ℕ). P (v i e)) (λ i. mem i e) m (λ i q z. h i e q l z) t c))
 
   -- the ranges of the ends and of the rows of the columns
-  pub columns-csr : Csr n m (columnEnds mem m n) (columns mem m (λ i e. i) n)
+  pub columns-csr : Ranges n m (columnEnds mem m n) (columns mem m (λ i e. i) n)
   columns-csr = record {
     rows = omega (arith, length-ends mem m n);
     rises = λ e h. omega (arith, ends-at e (omega arith), ends-next e h);
@@ -95,7 +95,7 @@ module _ (off cols : List ℕ) (m n : ℕ) (ok : Accepted off cols m n) (s : ℕ
 
   place-in : (i e : ℕ) → i < m → e < n → mem i e ≡ true → place g i e < length vals
   unfolding place
-  place-in i e h l t = omega (arith, find-lt e (row off cols i) t, row-length off cols m n ok i h, ok .csr .order i h, ok .csr .ends (i + 1) (omega arith))
+  place-in i e h l t = omega (arith, find-lt e (row off cols i) t, row-length off cols i (ok .csr .ends (i + 1) (omega arith)), ok .csr .order i h, ok .csr .ends (i + 1) (omega arith))
 
   rows-cut : (e : ℕ) → e < n → span (endsOf g Matrix m n) (columnsOf g Matrix Numbers m n) e ≡ picked (λ i. mem i e) m
   unfolding endsOf columnsOf column
@@ -107,7 +107,7 @@ module _ (off cols : List ℕ) (m n : ℕ) (ok : Accepted off cols m n) (s : ℕ
 
   entry-is : (i e : ℕ) → at vals (place g i e) ≡ entry A i e
   unfolding place entry
-  entry-is i e = ap (λ (k : ℕ). at vals (getD off i 0 + k)) (find-place e (row off cols i))
+  entry-is i e = refl
 
   pub cols-of : ColsOf A (endsOf g Matrix m n) (columnsOf g Matrix Numbers m n) (columnsOf g Matrix Places m n)
   unfolding endsOf columnsOf holds

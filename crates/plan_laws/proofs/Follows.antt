@@ -17,8 +17,8 @@ use Rattle.machine.specs.Machine.{Problem}
 use Rattle.machine.specs.Work.{problemOf}
 use Rattle.layout.specs.declared.Plan.{Plan}
 use Rattle.layout.specs.Lists.{lindptrIn, lindicesIn, ltindptrIn, ltindicesIn, ltmapIn, atindptrIn, atindicesIn, atmapIn}
-use Rattle.sparse.specs.Parts.{span}
 use Rattle.plan_laws.specs.Meaning.{RowsOf, ColsOf, LowOf, HighOf, Holds}
+use Rattle.base.specs.Numbers.{span}
 use Rattle.plan_laws.specs.Prepared.{Prepared}
 use Rattle.plan_laws.proofs.Rows.{rows-of}
 use Rattle.plan_laws.proofs.Cols.{cols-of}

@@ -22,11 +22,9 @@ use Rattle.machine.specs.Machine.{inFactor}
 use Rattle.machine.specs.Work.{problemOf}
 use Rattle.plan_laws.proofs.Ranks.{ranked, lplace-start, lplace-next, lplace-row, lplace-along, lplace-down, by-entry-length, by-row-at, entry-of}
 use Rattle.plan_laws.proofs.Picks.{picks-all, held-factor, held-diag}
-use Rattle.base.specs.Numbers.{cut}
-use Rattle.sparse.specs.Parts.{span}
-use Rattle.sparse.proofs.Spans.{cut-at}
+use Rattle.base.specs.Numbers.{cut, span}
 use Rattle.plan_laws.specs.Meaning.{LowOf, Holds}
-use Rattle.base.proofs.Numbers.{cut-part}
+use Rattle.base.proofs.Numbers.{cut-part, cut-at}
 use Rattle.base.proofs.Write.{cat-split}
 use Rattle.plan_laws.proofs.Picked.{picked, named-length, picked-rise, picked-has}
 

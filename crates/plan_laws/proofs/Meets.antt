@@ -11,7 +11,8 @@ use Rattle.csr.specs.Pattern.{row}
 use Rattle.csr.specs.Factor.{factorHas}
 use Rattle.base.specs.Sums.{one}
 use Rattle.base.specs.Cat.{pick}
-use Rattle.lists.specs.Lists.{Shape, shape, find, place, lplace, before, weight, products, shared, piece, listOf}
+use Rattle.lists.specs.Lists.{Shape, shape, place, lplace, before, weight, products, shared, piece, listOf}
+use Rattle.base.specs.Numbers.{find}
 use Rattle.lists.specs.Ready.{Accepted}
 use Rattle.lists.specs.declared.Which.the-variants.{AnormIndptr, AnormIndptrI, AnormIndptrJ, AnormIndices, LdecompIndptr, LdecompIndptrI, LdecompIndptrJ}
 use Rattle.base.proofs.Write.{length-cat, length-pick}
@@ -27,8 +28,8 @@ use Rattle.machine.proofs.Entries.{each-pick}
 use Rattle.machine.specs.Work.{problemOf}
 use Rattle.plan_laws.specs.Factoring.{normalStep, productStep}
 use Rattle.plan_laws.proofs.Ranks.{pairs-at, pairs-long, lplace-lt}
-use Rattle.plan_laws.proofs.Picks.{picks, picks-all, both-each, between, find-place, find-lt, both-all, held-factor}
-use Rattle.csr.proofs.Has.{below-has}
+use Rattle.plan_laws.proofs.Picks.{picks, picks-all, both-each, between, both-all, held-factor}
+use Rattle.csr.proofs.Has.{find-lt, below-has}
 
 map-at : (f : ℕ → ℕ) (l : List ℕ) (k : ℕ) → k < length l → getD (map f l) k 0 ≡ f (getD l k 0)
 map-at f [] k h = absurd (omega arith)
@@ -106,7 +107,7 @@ module _ (m n s : ℕ) (off cols : List ℕ) (vals : List Float) (ok : Accepted 
 
     entry-place : (r e : ℕ) → entry A r e ≡ at vals (place g r e)
     unfolding entry place
-    entry-place r e = ap (λ (k : ℕ). at vals (getD off r 0 + k)) (sym (find-place e (row off cols r)))
+    entry-place r e = refl
 
     -- THE SHARED COLUMNS: the sum by the lists is the machine's
     pub normal-is : (width : ℕ) (work : List Float) (x z l : ℕ) (v : Float)

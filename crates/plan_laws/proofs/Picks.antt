@@ -18,10 +18,9 @@ use Rattle.csr.specs.Factor.{factorHas}
 use Rattle.csr.proofs.Chain.{factor-stored}
 use Rattle.base.specs.Sums.{one}
 use Rattle.base.specs.Cat.{cat, pick}
-use Rattle.lists.specs.Lists.{Shape, shape, both, find, zeroIf, weight}
+use Rattle.lists.specs.Lists.{Shape, shape, both, weight}
 use Rattle.lists.specs.declared.Which.the-variants.{AnormIndptr, LdecompIndptr}
 use Rattle.lanes.specs.Lists.{fold, each, Between}
-use Rattle.machine.specs.Machine.{place}
 use Rattle.machine.proofs.Walks.{walk, walk-more, each-walk}
 use Rattle.machine.proofs.Entries.{walk-fold}
 use Rattle.machine.proofs.Factor.{fold-same}
@@ -95,15 +94,6 @@ pub between : (n : ℕ) (xs : List ℕ) → Rising xs → Below n xs → Between
 between n [] r b = tt
 between n (x ∷ xs) r b = (omega arith, b .0, between-under x n xs (r .0) (r .1) (b .1))
 
-pub find-place : (e : ℕ) (xs : List ℕ) → find e xs ≡ place xs e
-unfolding find place
-find-place e [] = refl
-find-place e (x ∷ xs) = go (eqb e x) (find-place e xs)
-  where
-    go : (t : Bool) → find e xs ≡ place xs e → zeroIf t (suc (find e xs)) ≡ cond t 0 (suc (place xs e))
-    go true ih = refl
-    go false ih = ap suc ih
-
 -- what stands in both stands in each
 pub both-all : (P : ℕ → Type 0) (xs ys : List ℕ) → ((x : ℕ) → has xs x ≡ true → has ys x ≡ true → P x) → (t : ℕ) → t < length (both xs ys) → P (getD (both xs ys) t 0)
 unfolding both has
@@ -118,15 +108,6 @@ both-all P (x ∷ xs) ys h t l = go (has ys x) refl t l (both-all P xs ys (λ y 
     go true e zero l ih = h x (rw (eq-eqb x x refl) refl) e
     go true e (suc t) l ih = ih t (omega arith)
     go false e t l ih = ih t l
-
-pub find-lt : (e : ℕ) (xs : List ℕ) → has xs e ≡ true → find e xs < length xs
-unfolding has find
-find-lt e [] h = absurd (false≢true h)
-find-lt e (x ∷ xs) h = go (eqb e x) h (find-lt e xs)
-  where
-    go : (t : Bool) → t || has xs e ≡ true → (has xs e ≡ true → find e xs < length xs) → zeroIf t (suc (find e xs)) < suc (length xs)
-    go true h ih = omega arith
-    go false h ih = omega (arith, ih h)
 
 -- ---- a pair that is not stored counts nothing
 

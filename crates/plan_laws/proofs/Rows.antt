@@ -1,39 +1,33 @@
 -- The matrix's own lists are its rows. Assumes nothing.
-use mathlib.Core.Path.{_≡_, refl, ap, _∙_, subst}
+use mathlib.Core.Path.{_≡_, ap, _∙_, subst}
 use mathlib.Core.List.{List}
 use Prim.Native.Nat.{ℕ, zero, suc, _+_, _-_, _<_, _≤_}
 use native.Mathlib.Omega.{arith}
 use native.Mathlib.Numerals.{add-one}
 use native.Mathlib.Decide.{decLt}
-use lib.ListN.{length, getD, drop}
-use lib.Seq.{getD-take, getD-drop}
+use lib.ListN.{length, getD}
 use lib.Ieee.{Float}
 use Rattle.csr.specs.Pattern.{row}
 use Rattle.lists.specs.Ready.{Accepted}
-use Rattle.lists.proofs.Spans.{span}
 use Rattle.machine.specs.Work.{problemOf}
 use Rattle.plan_laws.proofs.Picks.{between}
 use Rattle.plan_laws.specs.Meaning.{RowsOf}
 use Rattle.base.proofs.Numbers.{below-at}
+use Rattle.csr.proofs.Rows.{row-length, row-at}
 
 module _ (off cols : List ℕ) (m n : ℕ) (ok : Accepted off cols m n) where
-  pub row-length : (i : ℕ) → i < m → length (row off cols i) ≡ getD off (i + 1) 0 - getD off i 0
-  unfolding row
-  row-length i h = span off cols m i (getD off i 0) (getD off (i + 1) 0) (ok .csr) h refl refl .size
-
   row-below : (i : ℕ) → i < m → (k : ℕ) → getD off i 0 ≤ k → k < getD off (i + 1) 0 → getD cols k 0 < n
-  unfolding row
   row-below i h k a b =
       let c = k - getD off i 0 in
       let l : c < getD off (i + 1) 0 - getD off i 0 = omega arith in
       let z : getD off i 0 + c ≡ k = omega arith in
       let e : getD (row off cols i) c 0 ≡ getD cols k 0 =
-      getD-take (getD off (i + 1) 0 - getD off i 0) (drop (getD off i 0) cols) c 0 l ∙ getD-drop (getD off i 0) cols c 0 ∙ ap (λ (x : ℕ). getD cols x 0) z in
-      subst (λ (x : ℕ). x < n) e (below-at n (row off cols i) c (ok .within i h) (omega (arith, row-length i h)))
+      row-at off cols i c l ∙ ap (λ (x : ℕ). getD cols x 0) z in
+      subst (λ (x : ℕ). x < n) e (below-at n (row off cols i) c (ok .within i h) (omega (arith, row-length off cols i (ok .csr .ends (i + 1) (omega arith)))))
 
   -- each column stands in one of the rows
   column-below : (i : ℕ) → i ≤ m → (k : ℕ) → k < getD off i 0 → getD cols k 0 < n
-  column-below zero h k l = absurd (omega (arith, ok .first))
+  column-below zero h k l = absurd (omega (arith, ok .offsets .first))
   column-below (suc i) h k l = go (decLt k (getD off i 0)) (column-below i (omega arith) k)
     where
       go : Dec (k < getD off i 0) → (k < getD off i 0 → getD cols k 0 < n) → getD cols k 0 < n
@@ -48,7 +42,7 @@ module _ (off cols : List ℕ) (m n : ℕ) (ok : Accepted off cols m n) where
         rows = omega (arith, ok .csr .offsets);
         rises = ok .csr .order;
         ends = λ i h. ok .csr .ends (i + 1) (omega arith);
-        below = λ k h. column-below m (omega arith) k (omega (arith, ok .last));
+        below = λ k h. column-below m (omega arith) k (omega (arith, ok .offsets .last));
       };
       sizes = e;
     };

@@ -1,5 +1,5 @@
 -- What the plan's lists say of the matrix and of its factor. Definitions only.
-use Prim.Native.Nat.{ℕ, _+_, _-_, _*_, _≤_, _<_}
+use Prim.Native.Nat.{ℕ, _+_, _-_, _≤_, _<_}
 use mathlib.Core.Path.{_≡_}
 use mathlib.Core.Bool.{_&&_}
 use mathlib.Core.List.{List}
@@ -9,9 +9,9 @@ use lib.Ieee.{Float}
 use Rattle.csr.specs.Pattern.{has}
 use Rattle.lanes.specs.Lists.{at, Between}
 use Rattle.machine.specs.Machine.{Problem, holds, entry, inFactor}
-use Rattle.base.specs.Numbers.{cut}
-use Rattle.sparse.specs.Sparse.{Csr, Low, High}
-use Rattle.sparse.specs.Parts.{span, Rows, Cols}
+use Rattle.base.specs.Numbers.{cut, span}
+use Rattle.sparse.specs.Sparse.{Low, High}
+use Rattle.sparse.specs.Parts.{Rows, Cols}
 
 module _ (A : Problem) where
   -- the rows' columns rise

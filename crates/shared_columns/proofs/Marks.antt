@@ -11,17 +11,18 @@ use borrow.Author.Tests.{eq-eqb, ne-eqb, lt-ltb, le-ltb}
 use lib.ListN.{length, getD, set, take, drop, length-append, length-take, take-append-drop}
 use lib.Seq.{take-suc, take-all, getD-set-same, getD-set-other}
 use Rattle.csr.specs.Pattern.{has, row}
-use Rattle.base.specs.Numbers.{Under, Rising, Below}
+use Rattle.base.specs.Numbers.{Under, Rising, Below, find}
 use Rattle.base.specs.Cat.{pick, Wrote}
-use Rattle.lists.specs.Lists.{both, find, chosen, sharedAs, sharedOf, shared, place, shape}
+use Rattle.lists.specs.Lists.{both, chosen, sharedAs, sharedOf, shared, place, shape}
 use Rattle.transpose.specs.Bins.{Grid}
 use Rattle.lists.specs.declared.Take.{Take}
-use Rattle.lists.proofs.Merge.{both-eq, both-lt, both-gt, both-nil, find-at}
+use Rattle.lists.proofs.Merge.{both-eq, both-lt, both-gt, both-nil}
+use Rattle.base.proofs.Numbers.{find-at, below-at, length-takes, below-more}
 use Rattle.lists.proofs.Pieces.{map-join, map-pick}
-use Rattle.base.proofs.Numbers.{below-at, length-takes, below-more}
 use Rattle.csr.proofs.Has.{has-last}
 use Rattle.shared_columns.specs.Marked.{alongOf, Marked, hit}
 use Rattle.base.proofs.Bools.{or-nil, or-true}
+use Rattle.csr.proofs.Rows.{row-is}
 
 -- ---- along a list
 module _ (f : ℕ → ℕ → List ℕ) where
@@ -180,12 +181,8 @@ module _ (t : Take) (off cols : List ℕ) (m n : ℕ) (g : Grid off cols m n) (m
   pub span-order : (a ≤ b) × (b ≤ length cols) × (length cols ≤ 65536)
   span-order = (omega (arith, g .order j hj), omega (arith, g .ends (j + 1) (omega arith)), g .nnz)
 
-  cut : take (b - a) (drop a cols) ≡ row off cols j
-  unfolding row
-  cut = ap₂ (λ (x y : ℕ). take (x - y) (drop y cols)) eb ea
-
   pub span-below : Below (length mark) (take (b - a) (drop a cols))
-  span-below = subst (Below (length mark)) (sym cut) (below-more n (length mark) (row off cols j) long (g .within j hj))
+  span-below = subst (Below (length mark)) (sym (row-is off cols j a b ea eb)) (below-more n (length mark) (row off cols j) long (g .within j hj))
 
   pub span-short : a + length (take (b - a) (drop a cols)) ≤ 65536
   span-short = omega (arith, length-take (b - a) (drop a cols), span-order .0, span-order .1, span-order .2)
@@ -194,5 +191,5 @@ module _ (t : Take) (off cols : List ℕ) (m n : ℕ) (g : Grid off cols m n) (m
   unfolding sharedOf sharedAs shared place
   span-is lo el =
       ap (λ (x : ℕ). alongOf (hit t mark x) a (take (b - a) (drop a cols))) el
-      ∙ ap₂ (λ (x : ℕ) (l : List ℕ). alongOf (hit t mark (getD off i 0)) x l) ea cut
+      ∙ ap₂ (λ (x : ℕ) (l : List ℕ). alongOf (hit t mark (getD off i 0)) x l) ea (row-is off cols j a b ea eb)
       ∙ along-shared t mark (getD off i 0) n (row off cols i) k (getD off j 0) (row off cols j) (g .rising j hj) (g .within j hj) (g .rising i hi)

@@ -8,7 +8,8 @@ use lib.ListN.{length, getD}
 use Rattle.csr.specs.Pattern.{has, row}
 use Rattle.base.specs.Sums.{one}
 use Rattle.base.specs.Cat.{pick}
-use Rattle.lists.specs.Lists.{find, chosen}
+use Rattle.base.specs.Numbers.{find}
+use Rattle.lists.specs.Lists.{chosen}
 use Rattle.lists.specs.declared.Take.{Take}
 use Rattle.transpose.specs.Bins.{Grid}
 

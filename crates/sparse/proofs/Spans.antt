@@ -1,22 +1,16 @@
 -- A part between two offsets: its length, and what stands in it. Assumes nothing.
 use mathlib.Core.Path.{_≡_, refl, sym, _∙_, subst}
 use mathlib.Core.List.{List}
-use Prim.Native.Nat.{ℕ, _+_, _-_, _≤_, _<_}
+use Prim.Native.Nat.{ℕ, _+_, _-_, _<_}
 use native.Mathlib.Omega.{arith}
-use lib.ListN.{length, getD, drop, length-drop}
+use lib.ListN.{length, getD}
 use lib.Ieee.{Float}
-use lib.Seq.{getD-take, getD-drop, length-take-le}
-use Rattle.base.specs.Numbers.{cut}
-use Rattle.sparse.specs.Sparse.{Csr}
-use Rattle.sparse.specs.Parts.{span, Rows, Cols}
+use Rattle.sparse.specs.Parts.{Rows, Cols}
+use Rattle.base.specs.Numbers.{span}
+use Rattle.sparse.specs.Sparse.{Ranges}
+use Rattle.base.proofs.Numbers.{cut-length, cut-at}
 
-pub cut-length {ℓ} : {A : Type ℓ} (a e : ℕ) (xs : List A) → e ≤ length xs → length (cut a e xs) ≡ e - a
-cut-length a e xs h = length-take-le (e - a) (drop a xs) (simp length-drop (omega arith))
-
-pub cut-at {ℓ} : {A : Type ℓ} (a e : ℕ) (xs : List A) (k : ℕ) (z : A) → k < e - a → getD (cut a e xs) k z ≡ getD xs (a + k) z
-cut-at a e xs k z h = getD-take (e - a) (drop a xs) k z h ∙ getD-drop a xs k z
-
-module _ {m n : ℕ} {off cols : List ℕ} (r : Csr m n off cols) (i : ℕ) (h : i < m) where
+module _ {m n : ℕ} {off cols : List ℕ} (r : Ranges m n off cols) (i : ℕ) (h : i < m) where
   span-length {ℓ} : {A : Type ℓ} (xs : List A) → length xs ≡ length cols → length (span off xs i) ≡ getD off (i + 1) 0 - getD off i 0
   span-length xs e = cut-length (getD off i 0) (getD off (i + 1) 0) xs (omega (arith, r .ends i h))
 

@@ -1,16 +1,12 @@
 -- A row and a column of the matrix, by the lists that the program reads. Definitions only.
-use Prim.Native.Nat.{ℕ, _+_, _-_, _<_}
+use Prim.Native.Nat.{ℕ, _-_, _<_}
 use mathlib.Core.Path.{_≡_}
 use mathlib.Core.List.{List}
 use lib.ListN.{getD, length}
 use lib.Ieee.{Float}
 use Rattle.lanes.specs.Lists.{at}
-use Rattle.base.specs.Numbers.{cut}
-use Rattle.sparse.specs.Sparse.{plusAll, lessAll, Csr}
-
--- part i between the offsets
-abbrev pub span {ℓ} : {A : Type ℓ} → List ℕ → List A → ℕ → List A
-span off xs i = cut (getD off i 0) (getD off (i + 1) 0) xs
+use Rattle.base.specs.Numbers.{span}
+use Rattle.sparse.specs.Sparse.{plusAll, lessAll, Ranges}
 
 -- v plus, or less, each a·u_e of row i
 unfoldable pub plusRow : List ℕ → List ℕ → List Float → List Float → ℕ → Float → Float
@@ -32,10 +28,10 @@ lessCol toff rows places vals y e v = lessAll (span toff rows e) (λ k. at vals 
 
 -- the ranges of the two
 pub record Rows (m n : ℕ) (off cols : List ℕ) (vals : List Float) : Type 0 where
-  pub csr : Csr m n off cols
+  pub csr : Ranges m n off cols
   pub sizes : length vals ≡ length cols
 
 pub record Cols (n m : ℕ) (toff rows places : List ℕ) (vals : List Float) : Type 0 where
-  pub csr : Csr n m toff rows
+  pub csr : Ranges n m toff rows
   pub sizes : length places ≡ length rows
   pub range : (k : ℕ) → k < length places → getD places k 0 < length vals

@@ -46,7 +46,7 @@ back ptr tptr tind tmap lv (suc i) d = back ptr tptr tind tmap lv i (set d i (ba
 -- ---- ranges
 
 -- m parts in a list of numbers below n
-pub record Csr (m n : ℕ) (off cols : List ℕ) : Type 0 where
+pub record Ranges (m n : ℕ) (off cols : List ℕ) : Type 0 where
   pub rows : m < length off
   pub rises : (i : ℕ) → i < m → getD off i 0 ≤ getD off (i + 1) 0
   pub ends : (i : ℕ) → i < m → getD off (i + 1) 0 ≤ length cols

@@ -3,19 +3,20 @@ use mathlib.Core.Path.{_≡_, refl, sym, ap, _∙_, subst}
 use mathlib.Core.List.{List}
 use Prim.Native.Nat.{ℕ, _+_, _-_, _<_, _≤_}
 use native.Mathlib.Omega.{arith}
-use lib.ListN.{length, getD, set, drop, length-take, length-drop}
-use lib.Seq.{getD-set-other, getD-take, getD-drop}
+use lib.ListN.{length, getD, set}
+use lib.Seq.{getD-set-other}
 use Rattle.csr.specs.Pattern.{row}
 use Rattle.base.specs.Sums.{sum}
-use Rattle.lists.specs.Lists.{shape, entry, told, place, find}
+use Rattle.lists.specs.Lists.{shape, entry, byWhat, place}
+use Rattle.base.specs.Numbers.{find}
 use Rattle.lists.specs.declared.What.{What}
 use Rattle.lists.specs.declared.What.the-variants.{Numbers, Places}
 use Rattle.lists.specs.declared.Side.the-variants.{Matrix}
-use Rattle.lists.proofs.Merge.{find-at}
+use Rattle.base.proofs.Numbers.{find-at, below-at}
 use Rattle.transpose.specs.Bins.{Bins, rowsOf, roomOf, inRow, Outside, Grid}
 use Rattle.transpose.proofs.Fill.{turn, in-room, in-start, in-end, bins-ext}
-use Rattle.base.proofs.Numbers.{below-at}
 use Rattle.base.proofs.Sums.{sum-room}
+use Rattle.csr.proofs.Rows.{row-length, row-at}
 
 place-of : (off cols : List ℕ) (i e k q : ℕ) → find e (row off cols i) ≡ q → k ≡ getD off i 0 + q → k ≡ place (shape off cols) i e
 unfolding place
@@ -23,24 +24,19 @@ place-of off cols i e k q f g = g ∙ ap (λ (y : ℕ). getD off i 0 + y) (sym f
 
 module _ (off cols : List ℕ) (m n i : ℕ) (ok : Grid off cols m n) (hi : i < m) where
   pub row-long : length (row off cols i) ≡ getD off (i + 1) 0 - getD off i 0
-  unfolding row
-  row-long = simp (length-take, length-drop) (omega (arith, ok .order i hi, ok .ends (i + 1) (omega arith)))
-
-  row-at : (q : ℕ) → q < getD off (i + 1) 0 - getD off i 0 → getD (row off cols i) q 0 ≡ getD cols (getD off i 0 + q) 0
-  unfolding row
-  row-at q h = getD-take (getD off (i + 1) 0 - getD off i 0) (drop (getD off i 0) cols) q 0 h ∙ getD-drop (getD off i 0) cols q 0
+  row-long = row-length off cols i (ok .ends (i + 1) (omega arith))
 
   pub ends-in : (k : ℕ) → k < getD off (i + 1) 0 → (k < length cols) × (length cols ≤ 65536)
   ends-in k h = (omega (arith, ok .ends (i + 1) (omega arith)), ok .nnz)
 
-  module _ (w : What) (k e x : ℕ) (lo : getD off i 0 ≤ k) (hk : k < getD off (i + 1) 0) (he : e ≡ getD cols k 0) (hx : x ≡ told w i k) where
+  module _ (w : What) (k e x : ℕ) (lo : getD off i 0 ≤ k) (hk : k < getD off (i + 1) 0) (he : e ≡ getD cols k 0) (hx : x ≡ byWhat w i k) where
     pub in-q : k - getD off i 0 < length (row off cols i)
     in-q = omega (arith, row-long)
 
     pub e-at : e ≡ getD (row off cols i) (k - getD off i 0) 0
     e-at =
         let z : getD off i 0 + (k - getD off i 0) ≡ k = omega arith in
-        he ∙ sym (row-at (k - getD off i 0) (omega arith) ∙ ap (λ (y : ℕ). getD cols y 0) z)
+        he ∙ sym (row-at off cols i (k - getD off i 0) (omega arith) ∙ ap (λ (y : ℕ). getD cols y 0) z)
 
     pub e-below : e < n
     e-below = subst (λ (y : ℕ). y < n) (sym e-at) (below-at n (row off cols i) (k - getD off i 0) (ok .within i hi) in-q)
@@ -48,7 +44,7 @@ module _ (off cols : List ℕ) (m n i : ℕ) (ok : Grid off cols m n) (hi : i < 
     pub x-is : x ≡ entry (shape off cols) Matrix w i e
     x-is = hx ∙ go w
       where
-        go : (v : What) → told v i k ≡ entry (shape off cols) Matrix v i e
+        go : (v : What) → byWhat v i k ≡ entry (shape off cols) Matrix v i e
         go Numbers = refl
         go Places = place-of off cols i e k (k - getD off i 0) (ap (λ (y : ℕ). find y (row off cols i)) e-at ∙ find-at (row off cols i) (k - getD off i 0) (ok .rising i hi) in-q) (omega arith)
 

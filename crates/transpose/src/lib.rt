@@ -7,8 +7,8 @@ ghost use Rattle.csr.specs.Counts.{countS};
 ghost use lib.Seq.{sets};
 ghost use Rattle.base.specs.Cat.{Wrote, cat};
 ghost use Rattle.transpose.specs.Bins.{rowsOf, roomOf, Scattering, Scattered, Grid, Tally, Starts, seen, RowCounted, endsFrom, sideIn, colsOf};
-ghost use Rattle.lists.specs.Lists.{told};
 use base::word_at;
+ghost use Rattle.lists.specs.Lists.{byWhat};
 use lists::Side;
 use lists::What;
 
@@ -36,7 +36,7 @@ pub fn column_at(side: Side, cols: &[u32], bytes: &[u8], k: usize) -> usize
 
 // What a list has for an entry of row i: its row or its place.
 pub fn of_entry(what: What, i: u32, place: u32) -> u32
-    ensures { λ r. ⌜ r ≡ told what i place ⌝ }
+    ensures { λ r. ⌜ r ≡ byWhat what i place ⌝ }
 {
     match what {
         What::Numbers => i,

@@ -9,6 +9,7 @@ use Rattle.layout.specs.Lists.{lindptrIn, ltindptrIn, ltindicesIn, ltmapIn}
 use Rattle.memory.specs.Planned.{lIn}
 use Rattle.factor.proofs.Sums.{by-ends}
 use Rattle.eliminate.proofs.Turns.{column, column-reads, back-value}
+use Rattle.base.proofs.Numbers.{cut-length, cut-at}
 use Rattle.eliminate.proofs.back_entry.Statement.{statement}
 use Rattle.eliminate.proofs.back_entry.Tie as tie
 
