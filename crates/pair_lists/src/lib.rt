@@ -1,12 +1,11 @@
 // The ten lists that are written pair by pair, for the stored pairs of the factor.
 ghost use mathlib.Core.Path.{_≡_};
-ghost use mathlib.Core.List.{[], _∷_};
 ghost use mathlib.Core.Bool.{true, false};
 ghost use Prim.Native.Nat.{ℕ, suc, _+_, _<_, _≤_};
 ghost use lib.ListN.{length, getD};
 ghost use Rattle.pattern.specs.Word.{bit};
 ghost use Rattle.base.specs.Sums.{sum};
-ghost use Rattle.base.specs.Cat.{Wrote, cat, pick};
+ghost use Rattle.base.specs.Cat.{Wrote, cat};
 ghost use Rattle.base.specs.Numbers.{Below};
 ghost use Rattle.lists.specs.Lists.{shape, walkOf, piece, weight, listOf, tenOf};
 ghost use Rattle.lists.specs.Ready.{Ready};

@@ -3,7 +3,7 @@ mod memory;
 
 ghost use mathlib.Core.Path.{_≡_};
 ghost use Prim.Native.Nat.{_+_, _*_, _≤_};
-ghost use lib.ListN.{length, take, drop};
+ghost use lib.ListN.{length};
 ghost use Rattle.io.specs.Counts.{Counts};
 ghost use Rattle.base.specs.Cat.{Wrote};
 ghost use Rattle.ipm_simd.specs.Solve.{given, lent};

@@ -1,8 +1,6 @@
 // A record's header, and its rows of numbers.
 ghost use mathlib.Core.Path.{_≡_};
-ghost use mathlib.Core.Bool.{Bool, _&&_};
 ghost use Prim.Native.Nat.{_+_, _*_, _≤_, _<_};
-ghost use lib.Dec.{eqb};
 ghost use lib.ListN.{length};
 ghost use Rattle.record.specs.Little.{shorts, floats};
 ghost use Rattle.record.specs.Record.{within, endAt, headerOf};

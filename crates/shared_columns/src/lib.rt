@@ -1,7 +1,7 @@
 // What rows of the matrix share, found by marks: mark[c] is above off[i] just where row i holds column c.
 ghost use mathlib.Core.Path.{_≡_};
 ghost use Prim.Native.Nat.{ℕ, _+_, _<_, _≤_};
-ghost use lib.ListN.{length, getD, set};
+ghost use lib.ListN.{length, getD};
 ghost use Rattle.csr.specs.Pattern.{row};
 ghost use Rattle.base.specs.Numbers.{Below};
 ghost use Rattle.csr.specs.Counts.{common};

@@ -1,8 +1,6 @@
 -- `ipm_common::put_plan` meets its contract. Assumes nothing.
-use Prim.Native.Nat.{_-_}
 use native.Mathlib.Omega.{arith}
 use Rattle.pattern.specs.Word.{bit}
-use Rattle.pair_lists.specs.Kept.{kept}
 use Rattle.pair_lists.proofs.Lists as law
 use Rattle.ipm_common.proofs.Final as fin
 use borrow.Author.Needs.{needs}

@@ -4,7 +4,6 @@ use mathlib.Core.Path.{_≡_, refl, sym, ap, _∙_}
 use native.Mathlib.Omega.{arith}
 use lib.ListN.{length, getD}
 use Rattle.base.specs.Cat.{Wrote, pick, pairs}
-use Rattle.pair_lists.specs.Kept.{kept}
 use mathlib.Core.Bool.{Bool}
 use Rattle.pair_lists.proofs.Turns as turns
 use Rattle.lists.proofs.Head.{head-room}

@@ -4,12 +4,10 @@ use mathlib.Core.Path.{_≡_, refl, _∙_}
 use native.Mathlib.Omega.{arith}
 use lib.ListN.{length, getD}
 use Rattle.pattern.specs.Word.{bit}
-use Rattle.pair_lists.specs.Kept.{kept}
 use Rattle.pair_lists.proofs.Lists as law
 use Rattle.pair_lists.proofs.Through as thru
 use Rattle.pair_lists.proofs.Stored as st
 use Rattle.pair_lists.proofs.Turns as turns
-use Rattle.lists.specs.Lists.{before}
 use Rattle.pair_lists.proofs.fill_row.Statement.{statement}
 use Rattle.pair_lists.proofs.fill_row.Tie as tie
 

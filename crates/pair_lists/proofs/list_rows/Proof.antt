@@ -4,7 +4,6 @@ use mathlib.Core.Path.{_≡_, refl, _∙_}
 use native.Mathlib.Omega.{arith}
 use lib.ListN.{length}
 use Rattle.pattern.specs.Word.{bit}
-use Rattle.pair_lists.specs.Kept.{kept}
 use Rattle.pair_lists.proofs.Lists as law
 use Rattle.pair_lists.proofs.list_rows.Statement.{statement}
 use Rattle.pair_lists.proofs.list_rows.Tie as tie

@@ -8,7 +8,7 @@ use native.Mathlib.Omega.{arith}
 use lib.ListN.{length, getD}
 use Rattle.pattern.specs.Word.{bit}
 use Rattle.base.specs.Cat.{Wrote, pick}
-use Rattle.pair_lists.specs.Kept.{kept, placesOf}
+use Rattle.pair_lists.specs.Kept.{placesOf}
 use Rattle.pair_lists.proofs.Through as thru
 use Rattle.base.proofs.Write.{wrote-join, wrote-as}
 use mathlib.Core.Bool.{Bool}

@@ -4,7 +4,6 @@ use mathlib.Core.Path.{_≡_, refl, _∙_, subst}
 use native.Mathlib.Omega.{arith}
 use lib.ListN.{length}
 use Rattle.base.specs.Cat.{Wrote}
-use Rattle.pair_lists.specs.Kept.{kept}
 use Rattle.lists.proofs.Whole as all
 use Rattle.lists.specs.Lists.{shape, tenOf}
 use Rattle.pair_lists.proofs.put_ten.Statement.{statement}

@@ -1,11 +1,10 @@
 -- `shared_columns::hit_one` meets its contract. Assumes nothing.
-use Prim.Native.Nat.{ℕ, _-_}
+use Prim.Native.Nat.{ℕ}
 use mathlib.Core.Path.{refl, sym, ap, _∙_}
 use mathlib.Core.List.{[], _∷_}
 use native.Mathlib.Omega.{arith}
 use lib.ListN.{length}
 use Rattle.base.proofs.Write.{wrote-as}
-use lib.ListN.{take}
 use Rattle.shared_columns.proofs.Marks as marks
 use borrow.Author.Needs.{needs}
 use Rattle.shared_columns.proofs.hit_one.Statement.{statement}

@@ -1,10 +1,8 @@
 -- `shared_columns::put_shared` meets its contract. Assumes nothing.
-use Prim.Native.Nat.{_-_}
 use mathlib.Core.Path.{ap}
 use native.Mathlib.Omega.{arith}
 use lib.ListN.{length}
 use Rattle.base.proofs.Write.{wrote-as}
-use lib.ListN.{take}
 use Rattle.shared_columns.proofs.Marks as marks
 use borrow.Author.Needs.{needs}
 use Rattle.shared_columns.proofs.put_shared.Statement.{statement}
