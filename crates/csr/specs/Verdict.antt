@@ -31,6 +31,6 @@ abbrev pub refusal : Refusal → Verdict
 refusal r = refused (r .question) (r .place) (r .lane)
 
 -- each case of the answer to questions 1 to 5, by document 01's number and values
-abbrev pub told : Asked → Verdict
-told Good = passed
-told (Refused r) = refusal r
+abbrev pub toldAsked : Asked → Verdict
+toldAsked Good = passed
+toldAsked (Refused r) = refusal r

@@ -6,7 +6,7 @@ ghost use lib.Dec.{leb};
 ghost use lib.ListN.{length, getD};
 ghost use Rattle.csr.specs.Pattern.{row};
 ghost use Rattle.csr.specs.Csr.{Offsets};
-ghost use Rattle.csr.specs.Verdict.{refused, refusal, told};
+ghost use Rattle.csr.specs.Verdict.{refused, refusal, toldAsked};
 ghost use Rattle.csr.specs.Questions.{firstFrom, falls, empty, badRow, offsetsRight, firstNo};
 
 // A no: the question, its place and its lane, 0 where the question names none.
@@ -152,7 +152,7 @@ fn offsets_right(offsets: &[u32], t: usize, values: usize, m: usize) -> bool
 
 // Questions 1 to 5, in order, over any numbers and lists.
 pub fn ask(m: usize, n: usize, offsets: &[u32], columns: &[u32], values: usize) -> Asked
-    ensures { λ r. ⌜ told r ≡ firstNo m n (now (offsets .entry)) (now (columns .entry)) values ⌝ }
+    ensures { λ r. ⌜ toldAsked r ≡ firstNo m n (now (offsets .entry)) (now (columns .entry)) values ⌝ }
 {
     if !between(1, m, layout::Plan::MAX_ROWS) {
         return Asked::Refused(Refusal::new(Refusal::ROWS, 0, 0));

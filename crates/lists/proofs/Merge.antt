@@ -1,4 +1,4 @@
--- What two rising rows share, and where a number stands in one. Assumes nothing.
+-- What two rising rows share. Assumes nothing.
 use mathlib.Core.Path.{_≡_, refl, ap}
 use mathlib.Core.Bool.{Bool, true, false}
 use mathlib.Core.List.{List, [], _∷_, _++_}

@@ -29,8 +29,6 @@ use Rattle.lists.proofs.Merge.{length-both}
 use Rattle.lists.proofs.Spans.{row-span}
 use Rattle.csr.proofs.Has.{absent}
 
--- ---- sums
-
 -- ---- pairs
 
 length-pairs : (m : ℕ) (f : ℕ → ℕ → List ℕ) (h : ℕ → ℕ → ℕ) → ((i j : ℕ) → i < m → j ≤ i → length (f i j) ≡ h i j)

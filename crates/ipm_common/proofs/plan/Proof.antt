@@ -22,7 +22,7 @@ plan-accepted-requires : tie.Need-plan-accepted-requires
 plan-accepted-requires c κs =
     let a = c .before .before .before .before .before .before .before .args in
     accepted-of (a .m) (a .n) (a .offsets .now) (a .columns .now) (length (a .columns .now))
-    (sym (c .before .before .before .ask .ensures) ∙ ap verdict.told (c .before .enum-told .given .1))
+    (sym (c .before .before .before .ask .ensures) ∙ ap verdict.toldAsked (c .before .enum-told .given .1))
 
 enum-known-r : tie.Need-enum-known-r
 enum-known-r c = search needs
@@ -36,7 +36,7 @@ returns c =
     let a = c .before .before .before .before .before .before .before .before .before .before .args in
     let room = roomVerdict (a .m) (a .n) (a .offsets .now) (a .columns .now) (length (a .index .now)) in
     let new = planWords (a .offsets .now) (a .columns .now) (a .m) (a .n) ++ drop (sizeW (a .offsets .now) (a .columns .now) (a .m) (a .n)) (a .index .now) in
-    let said = c .before .before .plan-accepted .ensures .says ∙ ap (λ (v : Verdict). andThen v room) (sym (ap verdict.told (c .before .before .before .before .enum-told .given .1)) ∙ c .before .before .before .before .before .before .ask .ensures) in
+    let said = c .before .before .plan-accepted .ensures .says ∙ ap (λ (v : Verdict). andThen v room) (sym (ap verdict.toldAsked (c .before .before .before .before .enum-told .given .1)) ∙ c .before .before .before .before .before .before .ask .ensures) in
     (said, c .before .before .plan-accepted .ensures .words ∙ ap (λ (v : Verdict). left v new (a .index .now)) said)
 
 returns-2 : tie.Need-returns-2
@@ -45,7 +45,7 @@ returns-2 c =
     let a = c .before .before .before .before .before .before .before .args in
     let room = roomVerdict (a .m) (a .n) (a .offsets .now) (a .columns .now) (length (a .index .now)) in
     let new = planWords (a .offsets .now) (a .columns .now) (a .m) (a .n) ++ drop (sizeW (a .offsets .now) (a .columns .now) (a .m) (a .n)) (a .index .now) in
-    let said = ap (λ (v : Verdict). andThen v room) (sym (ap verdict.told (c .before .r .given .1)) ∙ c .before .before .before .ask .ensures) in
+    let said = ap (λ (v : Verdict). andThen v room) (sym (ap verdict.toldAsked (c .before .r .given .1)) ∙ c .before .before .before .ask .ensures) in
     (said, ap (λ (v : Verdict). left v new (a .index .now)) said)
 
 pub plan-spec : {M : Type 1} → statement M

@@ -2,7 +2,7 @@ use Prim.Native.Nat.{ℕ}
 use native.Mathlib.Omega.{arith}
 use mathlib.Core.Path.{sym, ap, _∙_, subst}
 use mathlib.Core.List.{List}
-use Rattle.csr.specs.Verdict.{told}
+use Rattle.csr.specs.Verdict.{toldAsked}
 use Rattle.lists.proofs.Few.{few-stored}
 use Rattle.memory.specs.Planned.{Counted}
 use Rattle.ipm_simd.specs.declared.SolveAnswer.the-variants as answers
@@ -49,7 +49,7 @@ solve-planned-requires c κs =
     let t = c .before .before .before .before .before .before .before .before .before .before .before .plan-below .ensures .sizes in
     let k : Counted (a .offsets) (a .columns) (a .m) (z .e) (z .s) (z .d) = record { stored = t .stored; shared = t .shared; products = t .products } in
     let w = rw (c .before .before .before .before .before .before .words-at .ensures) at (c .before .before .before .before .before .ask-sizes .ensures) in
-    let v = sym (ap told (c .before .before .before .enum-told .given .1)) ∙ w in
+    let v = sym (ap toldAsked (c .before .before .before .enum-told .given .1)) ∙ w in
     let bound = c .before .before .before .before .before .before .before .before .before .before .before .before .before .entries-below .ensures in
     let q = asked-all a B (z .e) (z .s) (z .d) k (s .pre .0) (s .pre .1) v in (
       planned-here a B (z .e) (z .s) (z .d) k (c .before .before .before .before .before .before .before .before .before .before .before .before .before .entries-below .result) bound (s .pre .0) (s .pre .1) (c .before .before .before .before .before .before .before .before .before .before .before .plan-below .ensures .words) v,
@@ -81,7 +81,7 @@ returns c =
     let t = c .before .before .before .before .before .before .before .before .before .plan-below .ensures .sizes in
     let k : Counted (a .offsets) (a .columns) (a .m) (z .e) (z .s) (z .d) = record { stored = t .stored; shared = t .shared; products = t .products } in
     let w = rw (c .before .before .before .before .words-at .ensures) at (c .before .before .before .ask-sizes .ensures) in
-    let v = sym (ap told (c .before .r .given .1)) ∙ w in
+    let v = sym (ap toldAsked (c .before .r .given .1)) ∙ w in
     let bound = c .before .before .before .before .before .before .before .before .before .before .before .entries-below .ensures in
     let r = c .before .r .given .0 .0 in
     subst (λ (x : List ℕ). Continued a B (lent (s .args .output .now) x (s .args .work .now)) (answers.Refused r)) (sym (c .before .before .before .before .before .before .before .before .before .plan-below .ensures .words ∙ index-kept a B (z .e) (z .s) (z .d) k (c .before .before .before .before .before .before .before .before .before .before .before .entries-below .result) bound r v))
@@ -105,7 +105,7 @@ returns-2 c =
     let t = c .before .before .before .before .before .before .before .before .before .before .before .before .before .before .before .before .plan-below .ensures .sizes in
     let k : Counted (a .offsets) (a .columns) (a .m) (z .e) (z .s) (z .d) = record { stored = t .stored; shared = t .shared; products = t .products } in
     let w = rw (c .before .before .before .before .before .before .before .before .before .before .before .words-at .ensures) at (c .before .before .before .before .before .before .before .before .before .before .ask-sizes .ensures) in
-    let v = sym (ap told (c .before .before .before .before .before .before .before .before .enum-told .given .1)) ∙ w in
+    let v = sym (ap toldAsked (c .before .before .before .before .before .before .before .before .enum-told .given .1)) ∙ w in
     let bound = c .before .before .before .before .before .before .before .before .before .before .before .before .before .before .before .before .before .before .entries-below .ensures in
     let q = asked-all a B (z .e) (z .s) (z .d) k (s .pre .0) (s .pre .1) v in
     go-on a B (z .e) (z .s) (z .d) k v (c .before .before .before .before .solve-planned .ensures (s .args .index .now) q (c .before .before .before .before .before .before .before .before .before .before .before .before .before .before .before .before .plan-below .ensures .words ∙ index-planned a B (z .e) (z .s) (z .d) k (c .before .before .before .before .before .before .before .before .before .before .before .before .before .before .before .before .before .before .entries-below .result) bound v))
