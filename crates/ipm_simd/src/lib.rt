@@ -10,9 +10,8 @@ ghost use Rattle.csr.specs.Verdict.{toldAsked};
 ghost use Rattle.lanes.specs.Arithmetic.{null};
 ghost use Rattle.machine.specs.declared.Outcome.the-variants.{NoAt11};
 ghost use Rattle.machine.specs.Outcome.{largestLimit};
-ghost use Rattle.layout.specs.Layout.{topWord};
 ghost use Rattle.memory.specs.Planned.{Planned};
-ghost use Rattle.ipm_simd.specs.Solve.{given, lent, roomFor, toldSolve, outcomeVerdict, lengthsRight, sizesVerdict, Solved};
+ghost use Rattle.ipm_simd.specs.Solve.{given, lent, toldSolve, outcomeVerdict, lengthsRight, sizesVerdict, Solved};
 ghost use Rattle.ipm_simd.specs.Parts.{Asked10, EntriesBelow, written, Ends, Continued};
 use csr::Asked;
 use csr::Refusal;
@@ -34,8 +33,10 @@ const SPOILT: u32 = 11;
 
 const NOT_DONE: u32 = 12;
 
-// The tolerances of four lanes: primal, dual, optimality.
-const TOLERANCES: usize = 12;
+const LANES: usize = 4;
+
+// The tolerances of the lanes: primal, dual, optimality.
+const TOLERANCES: usize = 3 * LANES;
 
 // The answer of solve: the test at which all lanes were done, or the first no.
 pub enum SolveAnswer {
@@ -59,16 +60,16 @@ fn lengths_right(m: usize, n: usize, lengths: Lengths) -> bool
     ensures { λ r. ⌜ r ≡ lengthsRight m n (lengths .b) (lengths .c) (lengths .tolerances) (lengths .output) ⌝ }
 {
     let output = lengths.output;
-    if lengths.b != 4 * m {
+    if lengths.b != LANES * m {
         return false;
     }
-    if lengths.c != 4 * n {
+    if lengths.c != LANES * n {
         return false;
     }
     if lengths.tolerances != TOLERANCES {
         return false;
     }
-    output == 4 * n
+    output == LANES * n
 }
 
 // Question 10.
@@ -79,14 +80,6 @@ fn limit_right(limit: usize) -> bool
         return false;
     }
     limit <= LaneState::MAX_TESTS
-}
-
-// F: the numbers of working memory that the four lanes of a plan need.
-fn room_for(plan: Plan) -> usize
-    requires { ⌜ roomFor (plan .m) (plan .n) (plan .s) (plan .stored) ≤ topWord ⌝ }
-    ensures { λ r. ⌜ r ≡ roomFor (plan .m) (plan .n) (plan .s) (plan .stored) ⌝ }
-{
-    4 * (5 * plan.n + 3 * plan.m + 2 * plan.s + plan.stored)
 }
 
 // Questions 6 to 10, by W, the plan's sizes, the lengths of the lists and the limit.
@@ -106,7 +99,7 @@ fn ask_sizes(words: usize, plan: Plan, lengths: Lengths, limit: usize) -> Asked
     if !lengths_right(m, n, lengths) {
         return Asked::Refused(Refusal::new(LENGTHS, 0, 0));
     }
-    if lengths.work < room_for(plan) {
+    if lengths.work < plan.numbers(LANES) {
         return Asked::Refused(Refusal::new(WORKING_MEMORY, 0, 0));
     }
     if !limit_right(limit) {
@@ -171,8 +164,8 @@ fn solve_planned(
     requires { ⌜ Planned (now offsets) (now columns) (now values) plan (now index) × Asked10 (given (plan .m) (plan .n) (plan .s) (now offsets) (now columns) (now values) (now b) (now c) (now tolerances) limit) (lent (now output) (now index) (now work)) (plan .stored) (plan .shared) (plan .products) ⌝ }
     ensures { λ r. ⌜ Ends (given (plan .m) (plan .n) (plan .s) (now (offsets .entry)) (now (columns .entry)) (now (values .entry)) (now (b .entry)) (now (c .entry)) (now (tolerances .entry)) limit) plan (now (output .entry)) (now (work .entry)) (lent (now (output .exit)) (now (index .entry)) (now (work .exit))) r ⌝ }
 {
-    let room = room_for(plan);
-    let block = Block { total: 4, first: 0 };
+    let room = plan.numbers(LANES);
+    let block = Block { total: LANES, first: 0 };
     let outcome = run::run(
         offsets,
         columns,
@@ -184,7 +177,7 @@ fn solve_planned(
         tolerances,
         block,
         work,
-        4,
+        LANES,
         limit,
     );
     let answer = report(outcome, output, work);
@@ -206,7 +199,7 @@ fn entries_below(m: usize, n: usize, s: usize, lengths: Lengths, limit: usize) -
     if !limit_right(limit) {
         return 0;
     }
-    let most = lengths.work / 4;
+    let most = lengths.work / LANES;
     let others = 5 * n + 3 * m + 2 * s;
     if most < others {
         return 0;

@@ -8,8 +8,8 @@ use Rattle.ipm_simd.proofs.Solves.{lane-under, lent-four, room-four, ru
 use Rattle.ipm_simd.proofs.solve_planned.Statement.{statement}
 use Rattle.ipm_simd.proofs.solve_planned.Tie as tie
 
-room-for-requires : tie.Need-room-for-requires
-room-for-requires c κs = let p = c .before .before .before .before .before .before .before .before .before .pre .1 in omega (arith, p .work)
+numbers-requires : tie.Need-numbers-requires
+numbers-requires c κs = let p = c .before .before .before .before .before .before .before .before .before .pre .1 in omega (arith, p .work)
 
 run-requires : tie.Need-run-requires
 run-requires c κs =
@@ -27,7 +27,7 @@ report-requires c κs =
     (omega (arith, p .output, p .work, r .0 .size), lane-under (call a) (e .args .limit) (c .before .before .before .before .run .result) (run-four a p (r .1 standard standard-runs) .answer))
 
 clear-front-requires : tie.Need-clear-front-requires
-clear-front-requires c κs = let p = c .before .before .before .before .before .before .before .before .before .before .before .before .before .before .before .before .before .before .before .before .pre .1 in omega (arith, p .work, c .before .before .before .before .before .before .before .before .run .ensures .0 .size, c .before .before .before .before .before .before .before .before .before .before .room-for .ensures)
+clear-front-requires c κs = let p = c .before .before .before .before .before .before .before .before .before .before .before .before .before .before .before .before .before .before .before .before .pre .1 in omega (arith, p .work, c .before .before .before .before .before .before .before .before .run .ensures .0 .size, c .before .before .before .before .before .before .before .before .before .before .numbers .ensures)
 
 same-length : tie.Need-same-length
 same-length c = search needs
@@ -41,13 +41,13 @@ returns c =
     let a = (given (e .args .plan .m) (e .args .plan .n) (e .args .plan .s) (e .args .offsets .now) (e .args .columns .now) (e .args .values .now) (e .args .b .now) (e .args .c .now) (e .args .tolerances .now) (e .args .limit)) in
     let ran = c .before .before .before .before .before .before .before .before .before .before .before .run .ensures in
     let told = c .before .before .before .before .before .before .report .ensures in
-    λ old asked planned. finished a asked planned (ran .0) (run-four a asked (ran .1 standard standard-runs)) (told .0) (told .1) (rw (c .before .before .before .before .before .before .before .before .before .before .before .before .before .room-for .ensures) at (c .before .before .clear-front .ensures))
+    λ old asked planned. finished a asked planned (ran .0) (run-four a asked (ran .1 standard standard-runs)) (told .0) (told .1) (rw (c .before .before .before .before .before .before .before .before .before .before .before .before .before .numbers .ensures) at (c .before .before .clear-front .ensures))
 
 pub solve-planned-spec : {M : Type 1} → statement M
 solve-planned-spec =
     tie.close
     (tie.spec
-    room-for-requires
+    numbers-requires
     run-requires
     report-requires
     clear-front-requires
