@@ -1,10 +1,9 @@
 -- An entry of the backward substitution; what its loop keeps, and a turn of it. Assumes nothing.
 use mathlib.Core.Path.{_≡_, refl, sym, ap, _∙_}
 use mathlib.Core.List.{List}
-use Prim.Native.Nat.{ℕ, suc, _+_, _-_, _*_, _≤_, _<_}
+use Prim.Native.Nat.{ℕ, suc, _+_, _-_, _≤_, _<_}
 use native.Mathlib.Omega.{arith}
-use lib.ListN.{length, getD, drop, set, length-drop}
-use lib.Seq.{getD-take, getD-drop, length-take-le}
+use lib.ListN.{length, getD, set}
 use lib.Ieee.{Float, binary64, div}
 use Rattle.lanes.specs.Lists.{at}
 use Rattle.lanes.specs.Lanes.{each2, cell, put, On, Width, room}
@@ -12,20 +11,13 @@ use Rattle.lanes.specs.Region.{reg, Kept, Fills, Apart, after}
 use Rattle.lanes.proofs.Regions.{room-all, kept-room, reg-put, kept-apart, kept-put, kept-none}
 use Rattle.lanes.proofs.Quads.{each-on, reg-cell, _▹_}
 use Rattle.base.specs.Numbers.{cut}
+use Rattle.sparse.proofs.Spans.{cut-length, cut-at}
 use Rattle.sparse.specs.Sparse.{lessEach, backAt, back}
 use Rattle.layout.specs.declared.Plan.{Plan}
 use Rattle.layout.specs.Layout.{dyAt}
 use Rattle.layout.specs.Lists.{lindptrAt, ldiagIndptrAt, ltindicesAt, ltmapAt, lindptrIn, ltindptrIn, ltindicesIn, ltmapIn}
 use Rattle.memory.specs.Planned.{lIn}
 use Rattle.eliminate.specs.Elimination.{BackIn}
-
--- ---- parts of lists
-
-pub cut-length {ℓ} : {A : Type ℓ} (a e : ℕ) (xs : List A) → e ≤ length xs → length (cut a e xs) ≡ e - a
-cut-length a e xs h = length-take-le (e - a) (drop a xs) (simp length-drop (omega arith))
-
-pub cut-at {ℓ} : {A : Type ℓ} (a e : ℕ) (xs : List A) (k : ℕ) (z : A) → k < e - a → getD (cut a e xs) k z ≡ getD xs (a + k) z
-cut-at a e xs k z h = getD-take (e - a) (drop a xs) k z h ∙ getD-drop a xs k z
 
 -- ---- backward
 
