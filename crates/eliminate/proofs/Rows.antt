@@ -16,7 +16,8 @@ use Rattle.lanes.proofs.Quads.{grows-turn, _▹_}
 use Rattle.machine.specs.Machine.{Problem}
 use Rattle.machine.proofs.Factor.{fold-same}
 use Rattle.base.specs.Numbers.{cut}
-use Rattle.sparse.specs.Sparse.{lessEach, frontAt, front, back, Low, High}
+use Rattle.sparse.proofs.Spans.{cut-length}
+use Rattle.sparse.specs.Sparse.{lessEach, frontAt, front, Low, High}
 use Rattle.layout.specs.declared.Plan.{Plan}
 use Rattle.layout.specs.Layout.{yAt, dyAt, rhsAt, wAt}
 use Rattle.layout.specs.Lists.{lindptrIn, lindicesIn, ltindptrIn, ltindicesIn, ltmapIn}

@@ -1,4 +1,4 @@
-// The factor of the normal matrix and the two substitutions, in four lanes, by the plan's lists.
+// The factor of the normal matrix and the two substitutions, in the lanes of a block, by the plan's lists.
 ghost use mathlib.Core.List.{List};
 ghost use Prim.Native.Nat.{ℕ, _<_, _≤_};
 ghost use Rattle.lanes.specs.Lanes.{On, Width, room};
@@ -66,8 +66,8 @@ fn backward(work: &mut [f64], width: usize, index: &[u32], plan: Plan)
     let mut i = plan.m;
     while 0 < i {
         i -= 1;
-        let v = back_entry(work, width, index, plan, i);
-        put(work, mem.dy + i, width, v);
+        let u = back_entry(work, width, index, plan, i);
+        put(work, mem.dy + i, width, u);
     }
 }
 

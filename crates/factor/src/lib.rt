@@ -1,4 +1,4 @@
-// The factor of the normal matrix, in four lanes, by the plan's lists.
+// The factor of the normal matrix, in the lanes of a block, by the plan's lists.
 ghost use mathlib.Core.Path.{_≡_};
 ghost use mathlib.Core.Bool.{cond};
 ghost use mathlib.Core.List.{List};

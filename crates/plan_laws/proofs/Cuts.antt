@@ -1,15 +1,14 @@
 -- The sixteen lists stand one after the other in the index memory: each is cut out between its bounds. Assumes nothing.
-use mathlib.Core.Path.{_≡_, refl, sym, ap, _∙_, subst}
+use mathlib.Core.Path.{_≡_, refl, sym, ap, _∙_}
 use mathlib.Core.List.{List, [], _∷_, _++_, append-assoc, append-nil}
-use Prim.Native.Nat.{ℕ, zero, suc, _+_, _-_, _<_, _≤_}
+use Prim.Native.Nat.{ℕ, _+_, _-_, _≤_}
 use native.Mathlib.Omega.{arith}
-use lib.ListN.{length, getD, take, drop}
+use lib.ListN.{length, take, drop}
 use lib.Seq.{take-at, drop-at, drop-drop}
 use lib.Ieee.{Float}
 use Rattle.csr.specs.Counts.{countE, countS, countD}
 use Rattle.lists.specs.Lists.{Shape, shape, holds, entry, listOf, endsOf, columnsOf, planOf, planWords}
 use Rattle.lists.specs.Ready.{Accepted}
-use Rattle.lists.specs.declared.Which.{Which}
 use Rattle.lists.specs.declared.Which.the-variants.{AnormIndptr, AnormIndptrI, AnormIndptrJ, AnormIndices, LdecompIndptr, LdecompIndptrI, LdecompIndptrJ, Lindptr, LdiagIndptr, Lindices}
 use Rattle.lists.specs.declared.Side.{Side}
 use Rattle.lists.specs.declared.Side.the-variants.{Factor, Matrix}

@@ -1,14 +1,14 @@
 -- An entry of the factor, as the code works it out from the plan's lists. Assumes nothing.
-use mathlib.Core.Path.{_≡_, refl, ap, ap₂, _∙_}
+use mathlib.Core.Path.{_≡_, ap, ap₂, _∙_}
 use mathlib.Core.Bool.{cond, _&&_}
 use mathlib.Core.List.{List}
-use Prim.Native.Nat.{ℕ, suc, _+_, _-_, _*_, _<_, _≤_}
+use Prim.Native.Nat.{ℕ, suc, _+_, _-_, _<_, _≤_}
 use native.Mathlib.Omega.{arith}
 use lib.Dec.{eqb, ltb}
 use lib.ListN.{length, getD}
 use lib.Ieee.{Float, binary64, div}
-use Rattle.lists.specs.Lists.{Shape, shape, lplace, before, weight, listOf}
-use Rattle.lists.specs.declared.Which.the-variants.{AnormIndptr, AnormIndptrI, AnormIndptrJ, AnormIndices, LdecompIndptr}
+use Rattle.lists.specs.Lists.{Shape, shape, lplace, before, weight}
+use Rattle.lists.specs.declared.Which.the-variants.{AnormIndptr, LdecompIndptr}
 use Rattle.lanes.specs.Lists.{at}
 use Rattle.lanes.specs.Lanes.{cell as here, On, Width, room}
 use Rattle.lanes.proofs.Quads.{_▹_}

@@ -1,7 +1,7 @@
 -- What follows where the lists are prepared. Assumes nothing.
-use mathlib.Core.Path.{_≡_, refl, sym, ap as along, _∙_}
+use mathlib.Core.Path.{_≡_, sym, ap as along, _∙_}
 use mathlib.Core.Logic.{_↔_}
-use mathlib.Core.Bool.{Bool, true}
+use mathlib.Core.Bool.{true}
 use mathlib.Core.List.{List}
 use Prim.Native.Nat.{ℕ, _<_, _≤_}
 use lib.ListN.{length}

@@ -6,10 +6,10 @@ use lib.ListN.{length}
 use Rattle.lanes.proofs.Regions.{room-le, room-put, kept-room}
 use Rattle.lanes.proofs.Quads.{on}
 use Rattle.plan_laws.proofs.Entry.{start-needs, normal-needs, product-needs, finish-needs}
-use Rattle.plan_laws.proofs.Fill.{given-still, lindptr-room, lindices-next, stands-next, put-room}
+use Rattle.plan_laws.proofs.Fill.{lindptr-room, lindices-next, put-room}
 use Rattle.factor.specs.Row.{RowDue}
 use Rattle.factor.proofs.Sums.{by-ends}
-use Rattle.factor.proofs.Along.{Along, value-below, off-diagonal, row-some, stands-last, along-none, along-more, row-kept, row-filled, row-entry}
+use Rattle.factor.proofs.Along.{Along, along-given, along-stands, value-below, off-diagonal, row-some, stands-last, along-none, along-more, row-kept, row-filled, row-entry}
 use Rattle.factor.proofs.normal_matrix_cholesky_row.Statement.{statement}
 use Rattle.factor.proofs.normal_matrix_cholesky_row.Tie as tie
 
@@ -70,49 +70,49 @@ normal-sum-requires-2 : tie.Need-normal-sum-requires-2 Inv-loop μ-loop
 normal-sum-requires-2 c κs =
     let s = c .before .before .before .before .before .before .before .before .before .before .before .before .before .before .before .before .before .before .before .before in
     let l = c .before .before .before .before .loop in
-    let st = stands-next (s .pre .is .given) (s .pre .is .row) (l .inv (s .pre .off) (s .pre .cols) (s .pre .is) .from) (omega (arith, c .before .before .before .loop-test .taken, by-ends (s .args .i + 1) (c .before .before .before .before .before .before .before .before .before .before .before .before .before .word-at .ensures) (c .before .before .before .before .before .before .before .before .before .before .before .before .before .before .before .lindptr .ensures))) (by-ends (c .before .before .before .before .loop .e) (c .before .before .word-at3 .ensures) (c .before .before .before .before .before .before .before .before .before .before .before .before .before .before .lindices .ensures)) in
-    rw (c .before .before .before .before .before .before .before .before .before .before .before .before .before .before .before .before .regions .ensures) (normal-needs (given-still (s .pre .is .given) (l .work) (kept-room (l .inv (s .pre .off) (s .pre .cols) (s .pre .is) .kept))) st)
+    let st = along-stands (s .pre .is .given) (s .pre .is .row) (l .inv (s .pre .off) (s .pre .cols) (s .pre .is)) (c .before .before .before .loop-test .taken) (by-ends (s .args .i + 1) (c .before .before .before .before .before .before .before .before .before .before .before .before .before .word-at .ensures) (c .before .before .before .before .before .before .before .before .before .before .before .before .before .before .before .lindptr .ensures)) (by-ends (c .before .before .before .before .loop .e) (c .before .before .word-at3 .ensures) (c .before .before .before .before .before .before .before .before .before .before .before .before .before .before .lindices .ensures)) in
+    rw (c .before .before .before .before .before .before .before .before .before .before .before .before .before .before .before .before .regions .ensures) (normal-needs (along-given (s .pre .is .given) (s .pre .is .row) (l .inv (s .pre .off) (s .pre .cols) (s .pre .is))) st)
 
 less-products-requires : tie.Need-less-products-requires Inv-loop μ-loop
 less-products-requires c κs =
     let s = c .before .before .before .before .before .before .before .before .before .before .before .before .before .before .before .before .before .before .before .before .before .before in
     let l = c .before .before .before .before .before .before .loop in
-    let st = stands-next (s .pre .is .given) (s .pre .is .row) (l .inv (s .pre .off) (s .pre .cols) (s .pre .is) .from) (omega (arith, c .before .before .before .before .before .loop-test .taken, by-ends (s .args .i + 1) (c .before .before .before .before .before .before .before .before .before .before .before .before .before .before .before .word-at .ensures) (c .before .before .before .before .before .before .before .before .before .before .before .before .before .before .before .before .before .lindptr .ensures))) (by-ends (c .before .before .before .before .before .before .loop .e) (c .before .before .before .before .word-at3 .ensures) (c .before .before .before .before .before .before .before .before .before .before .before .before .before .before .before .before .lindices .ensures)) in
-    rw (c .before .before .before .before .before .before .before .before .before .before .before .before .before .before .before .before .before .before .regions .ensures) (product-needs (given-still (s .pre .is .given) (l .work) (kept-room (l .inv (s .pre .off) (s .pre .cols) (s .pre .is) .kept))) st)
+    let st = along-stands (s .pre .is .given) (s .pre .is .row) (l .inv (s .pre .off) (s .pre .cols) (s .pre .is)) (c .before .before .before .before .before .loop-test .taken) (by-ends (s .args .i + 1) (c .before .before .before .before .before .before .before .before .before .before .before .before .before .before .before .word-at .ensures) (c .before .before .before .before .before .before .before .before .before .before .before .before .before .before .before .before .before .lindptr .ensures)) (by-ends (c .before .before .before .before .before .before .loop .e) (c .before .before .before .before .word-at3 .ensures) (c .before .before .before .before .before .before .before .before .before .before .before .before .before .before .before .before .lindices .ensures)) in
+    rw (c .before .before .before .before .before .before .before .before .before .before .before .before .before .before .before .before .before .before .regions .ensures) (product-needs (along-given (s .pre .is .given) (s .pre .is .row) (l .inv (s .pre .off) (s .pre .cols) (s .pre .is))) st)
 
 over-diagonal-requires : tie.Need-over-diagonal-requires Inv-loop μ-loop
 over-diagonal-requires c κs =
     let s = c .before .before .before .before .before .before .before .before .before .before .before .before .before .before .before .before .before .before .before .before .before .before .before .before in
     let l = c .before .before .before .before .before .before .before .before .loop in
-    let st = stands-next (s .pre .is .given) (s .pre .is .row) (l .inv (s .pre .off) (s .pre .cols) (s .pre .is) .from) (omega (arith, c .before .before .before .before .before .before .before .loop-test .taken, by-ends (s .args .i + 1) (c .before .before .before .before .before .before .before .before .before .before .before .before .before .before .before .before .before .word-at .ensures) (c .before .before .before .before .before .before .before .before .before .before .before .before .before .before .before .before .before .before .before .lindptr .ensures))) (by-ends (c .before .before .before .before .before .before .before .before .loop .e) (c .before .before .before .before .before .before .word-at3 .ensures) (c .before .before .before .before .before .before .before .before .before .before .before .before .before .before .before .before .before .before .lindices .ensures)) in
-    rw (c .before .before .before .before .before .before .before .before .before .before .before .before .before .before .before .before .before .before .before .before .regions .ensures) (finish-needs (given-still (s .pre .is .given) (l .work) (kept-room (l .inv (s .pre .off) (s .pre .cols) (s .pre .is) .kept))) st)
+    let st = along-stands (s .pre .is .given) (s .pre .is .row) (l .inv (s .pre .off) (s .pre .cols) (s .pre .is)) (c .before .before .before .before .before .before .before .loop-test .taken) (by-ends (s .args .i + 1) (c .before .before .before .before .before .before .before .before .before .before .before .before .before .before .before .before .before .word-at .ensures) (c .before .before .before .before .before .before .before .before .before .before .before .before .before .before .before .before .before .before .before .lindptr .ensures)) (by-ends (c .before .before .before .before .before .before .before .before .loop .e) (c .before .before .before .before .before .before .word-at3 .ensures) (c .before .before .before .before .before .before .before .before .before .before .before .before .before .before .before .before .before .before .lindices .ensures)) in
+    rw (c .before .before .before .before .before .before .before .before .before .before .before .before .before .before .before .before .before .before .before .before .regions .ensures) (finish-needs (along-given (s .pre .is .given) (s .pre .is .row) (l .inv (s .pre .off) (s .pre .cols) (s .pre .is))) st)
 
 add-put : tie.Need-add-put Inv-loop μ-loop
 add-put c =
     let s = c .before .before .before .before .before .before .before .before .before .before .before .before .before .before .before .before .before .before .before .before .before .before .before .before .before .before .before in
     let l = c .before .before .before .before .before .before .before .before .before .before .before .loop in
-    let st = stands-next (s .pre .is .given) (s .pre .is .row) (l .inv (s .pre .off) (s .pre .cols) (s .pre .is) .from) (omega (arith, c .before .before .before .before .before .before .before .before .before .before .loop-test .taken, by-ends (s .args .i + 1) (c .before .before .before .before .before .before .before .before .before .before .before .before .before .before .before .before .before .before .before .before .word-at .ensures) (c .before .before .before .before .before .before .before .before .before .before .before .before .before .before .before .before .before .before .before .before .before .before .lindptr .ensures))) (by-ends (c .before .before .before .before .before .before .before .before .before .before .before .loop .e) (c .before .before .before .before .before .before .before .before .before .word-at3 .ensures) (c .before .before .before .before .before .before .before .before .before .before .before .before .before .before .before .before .before .before .before .before .before .lindices .ensures)) in
+    let st = along-stands (s .pre .is .given) (s .pre .is .row) (l .inv (s .pre .off) (s .pre .cols) (s .pre .is)) (c .before .before .before .before .before .before .before .before .before .before .loop-test .taken) (by-ends (s .args .i + 1) (c .before .before .before .before .before .before .before .before .before .before .before .before .before .before .before .before .before .before .before .before .word-at .ensures) (c .before .before .before .before .before .before .before .before .before .before .before .before .before .before .before .before .before .before .before .before .before .before .lindptr .ensures)) (by-ends (c .before .before .before .before .before .before .before .before .before .before .before .loop .e) (c .before .before .before .before .before .before .before .before .before .word-at3 .ensures) (c .before .before .before .before .before .before .before .before .before .before .before .before .before .before .before .before .before .before .before .before .before .lindices .ensures)) in
     rw (c .before .before .before .before .before .before .before .before .before .before .before .before .before .before .before .before .before .before .before .before .before .before .before .regions .ensures) (omega (arith, room-le (s .args .width) (s .args .work .now), put-room (s .pre .is .given) st, s .good .0))
 
 put-requires : tie.Need-put-requires Inv-loop μ-loop
 put-requires c κs =
     let s = c .before .before .before .before .before .before .before .before .before .before .before .before .before .before .before .before .before .before .before .before .before .before .before .before .before .before .before in
     let l = c .before .before .before .before .before .before .before .before .before .before .before .loop in
-    let st = stands-next (s .pre .is .given) (s .pre .is .row) (l .inv (s .pre .off) (s .pre .cols) (s .pre .is) .from) (omega (arith, c .before .before .before .before .before .before .before .before .before .before .loop-test .taken, by-ends (s .args .i + 1) (c .before .before .before .before .before .before .before .before .before .before .before .before .before .before .before .before .before .before .before .before .word-at .ensures) (c .before .before .before .before .before .before .before .before .before .before .before .before .before .before .before .before .before .before .before .before .before .before .lindptr .ensures))) (by-ends (c .before .before .before .before .before .before .before .before .before .before .before .loop .e) (c .before .before .before .before .before .before .before .before .before .word-at3 .ensures) (c .before .before .before .before .before .before .before .before .before .before .before .before .before .before .before .before .before .before .before .before .before .lindices .ensures)) in
+    let st = along-stands (s .pre .is .given) (s .pre .is .row) (l .inv (s .pre .off) (s .pre .cols) (s .pre .is)) (c .before .before .before .before .before .before .before .before .before .before .loop-test .taken) (by-ends (s .args .i + 1) (c .before .before .before .before .before .before .before .before .before .before .before .before .before .before .before .before .before .before .before .before .word-at .ensures) (c .before .before .before .before .before .before .before .before .before .before .before .before .before .before .before .before .before .before .before .before .before .before .lindptr .ensures)) (by-ends (c .before .before .before .before .before .before .before .before .before .before .before .loop .e) (c .before .before .before .before .before .before .before .before .before .word-at3 .ensures) (c .before .before .before .before .before .before .before .before .before .before .before .before .before .before .before .before .before .before .before .before .before .lindices .ensures)) in
     rw (c .before .before .before .before .before .before .before .before .before .before .before .before .before .before .before .before .before .before .before .before .before .before .before .regions .ensures) (s .pre .is .given .wide, omega (arith, put-room (s .pre .is .given) st, kept-room (l .inv (s .pre .off) (s .pre .cols) (s .pre .is) .kept)))
 
 add-get-2 : tie.Need-add-get-2 Inv-loop μ-loop
 add-get-2 c =
     let s = c .before .before .before .before .before .before .before .before .before .before .before .before .before .before .before .before .before .before .before .before .before .before .before .before .before .before .before .before .before .before .before .before in
     let l = c .before .before .before .before .before .before .before .before .before .before .before .before .before .before .before .before .loop in
-    let st = stands-next (s .pre .is .given) (s .pre .is .row) (l .inv (s .pre .off) (s .pre .cols) (s .pre .is) .from) (omega (arith, c .before .before .before .before .before .before .before .before .before .before .before .before .before .before .before .loop-test .taken, by-ends (s .args .i + 1) (c .before .before .before .before .before .before .before .before .before .before .before .before .before .before .before .before .before .before .before .before .before .before .before .before .before .word-at .ensures) (c .before .before .before .before .before .before .before .before .before .before .before .before .before .before .before .before .before .before .before .before .before .before .before .before .before .before .before .lindptr .ensures))) (by-ends (c .before .before .before .before .before .before .before .before .before .before .before .before .before .before .before .before .loop .e) (c .before .before .before .before .before .before .before .before .before .before .before .before .before .before .word-at3 .ensures) (c .before .before .before .before .before .before .before .before .before .before .before .before .before .before .before .before .before .before .before .before .before .before .before .before .before .before .lindices .ensures)) in
+    let st = along-stands (s .pre .is .given) (s .pre .is .row) (l .inv (s .pre .off) (s .pre .cols) (s .pre .is)) (c .before .before .before .before .before .before .before .before .before .before .before .before .before .before .before .loop-test .taken) (by-ends (s .args .i + 1) (c .before .before .before .before .before .before .before .before .before .before .before .before .before .before .before .before .before .before .before .before .before .before .before .before .before .word-at .ensures) (c .before .before .before .before .before .before .before .before .before .before .before .before .before .before .before .before .before .before .before .before .before .before .before .before .before .before .before .lindptr .ensures)) (by-ends (c .before .before .before .before .before .before .before .before .before .before .before .before .before .before .before .before .loop .e) (c .before .before .before .before .before .before .before .before .before .before .before .before .before .before .word-at3 .ensures) (c .before .before .before .before .before .before .before .before .before .before .before .before .before .before .before .before .before .before .before .before .before .before .before .before .before .before .lindices .ensures)) in
     rw (c .before .before .before .before .before .before .before .before .before .before .before .before .before .before .before .before .before .before .before .before .before .before .before .before .before .before .before .before .regions .ensures) (omega (arith, room-le (s .args .width) (s .args .work .now), st .row, st .low, s .pre .is .given .fits, s .good .0))
 
 get-requires-2 : tie.Need-get-requires-2 Inv-loop μ-loop
 get-requires-2 c κs =
     let s = c .before .before .before .before .before .before .before .before .before .before .before .before .before .before .before .before .before .before .before .before .before .before .before .before .before .before .before .before .before .before .before .before in
     let l = c .before .before .before .before .before .before .before .before .before .before .before .before .before .before .before .before .loop in
-    let st = stands-next (s .pre .is .given) (s .pre .is .row) (l .inv (s .pre .off) (s .pre .cols) (s .pre .is) .from) (omega (arith, c .before .before .before .before .before .before .before .before .before .before .before .before .before .before .before .loop-test .taken, by-ends (s .args .i + 1) (c .before .before .before .before .before .before .before .before .before .before .before .before .before .before .before .before .before .before .before .before .before .before .before .before .before .word-at .ensures) (c .before .before .before .before .before .before .before .before .before .before .before .before .before .before .before .before .before .before .before .before .before .before .before .before .before .before .before .lindptr .ensures))) (by-ends (c .before .before .before .before .before .before .before .before .before .before .before .before .before .before .before .before .loop .e) (c .before .before .before .before .before .before .before .before .before .before .before .before .before .before .word-at3 .ensures) (c .before .before .before .before .before .before .before .before .before .before .before .before .before .before .before .before .before .before .before .before .before .before .before .before .before .before .lindices .ensures)) in
+    let st = along-stands (s .pre .is .given) (s .pre .is .row) (l .inv (s .pre .off) (s .pre .cols) (s .pre .is)) (c .before .before .before .before .before .before .before .before .before .before .before .before .before .before .before .loop-test .taken) (by-ends (s .args .i + 1) (c .before .before .before .before .before .before .before .before .before .before .before .before .before .before .before .before .before .before .before .before .before .before .before .before .before .word-at .ensures) (c .before .before .before .before .before .before .before .before .before .before .before .before .before .before .before .before .before .before .before .before .before .before .before .before .before .before .before .lindptr .ensures)) (by-ends (c .before .before .before .before .before .before .before .before .before .before .before .before .before .before .before .before .loop .e) (c .before .before .before .before .before .before .before .before .before .before .before .before .before .before .word-at3 .ensures) (c .before .before .before .before .before .before .before .before .before .before .before .before .before .before .before .before .before .before .before .before .before .before .before .before .before .before .lindices .ensures)) in
     rw (c .before .before .before .before .before .before .before .before .before .before .before .before .before .before .before .before .before .before .before .before .before .before .before .before .before .before .before .before .regions .ensures) (s .pre .is .given .wide, omega (arith, st .row, st .low, s .pre .is .given .fits, kept-room (l .inv (s .pre .off) (s .pre .cols) (s .pre .is) .kept), room-put (s .args .width) (l .work) _ (c .before .before .before .before .before .before .before .over-diagonal .result) (rw (c .before .before .before .before .before .before .before .before .before .before .before .before .before .before .before .before .before .before .before .before .before .before .before .before .before .before .before .before .regions .ensures) at (c .before .before .before .before .put .ensures))))
 
 less-in-requires : tie.Need-less-in-requires Inv-loop μ-loop
@@ -125,7 +125,7 @@ add-e : tie.Need-add-e Inv-loop μ-loop
 add-e c =
     let s = c .before .before .before .before .before .before .before .before .before .before .before .before .before .before .before .before .before .before .before .before .before .before .before .before .before .before .before .before .before .before .before .before .before .before .before in
     let l = c .before .before .before .before .before .before .before .before .before .before .before .before .before .before .before .before .before .before .before .loop in
-    let st = stands-next (s .pre .is .given) (s .pre .is .row) (l .inv (s .pre .off) (s .pre .cols) (s .pre .is) .from) (omega (arith, c .before .before .before .before .before .before .before .before .before .before .before .before .before .before .before .before .before .before .loop-test .taken, by-ends (s .args .i + 1) (c .before .before .before .before .before .before .before .before .before .before .before .before .before .before .before .before .before .before .before .before .before .before .before .before .before .before .before .before .word-at .ensures) (c .before .before .before .before .before .before .before .before .before .before .before .before .before .before .before .before .before .before .before .before .before .before .before .before .before .before .before .before .before .before .lindptr .ensures))) (by-ends (c .before .before .before .before .before .before .before .before .before .before .before .before .before .before .before .before .before .before .before .loop .e) (c .before .before .before .before .before .before .before .before .before .before .before .before .before .before .before .before .before .word-at3 .ensures) (c .before .before .before .before .before .before .before .before .before .before .before .before .before .before .before .before .before .before .before .before .before .before .before .before .before .before .before .before .before .lindices .ensures)) in
+    let st = along-stands (s .pre .is .given) (s .pre .is .row) (l .inv (s .pre .off) (s .pre .cols) (s .pre .is)) (c .before .before .before .before .before .before .before .before .before .before .before .before .before .before .before .before .before .before .loop-test .taken) (by-ends (s .args .i + 1) (c .before .before .before .before .before .before .before .before .before .before .before .before .before .before .before .before .before .before .before .before .before .before .before .before .before .before .before .before .word-at .ensures) (c .before .before .before .before .before .before .before .before .before .before .before .before .before .before .before .before .before .before .before .before .before .before .before .before .before .before .before .before .before .before .lindptr .ensures)) (by-ends (c .before .before .before .before .before .before .before .before .before .before .before .before .before .before .before .before .before .before .before .loop .e) (c .before .before .before .before .before .before .before .before .before .before .before .before .before .before .before .before .before .word-at3 .ensures) (c .before .before .before .before .before .before .before .before .before .before .before .before .before .before .before .before .before .before .before .before .before .before .before .before .before .before .before .before .before .lindices .ensures)) in
     omega (arith, room-le (s .args .width) (s .args .work .now), put-room (s .pre .is .given) st, s .good .0)
 
 loop-less : tie.Need-loop-less Inv-loop μ-loop
@@ -136,9 +136,9 @@ loop-again c = λ off cols D.
     let s = c .before .before .before .before .before .before .before .before .before .before .before .before .before .before .before .before .before .before .before .before .before .before .before .before .before .before .before .before .before .before .before .before .before .before .before in
     let l = c .before .before .before .before .before .before .before .before .before .before .before .before .before .before .before .before .before .before .before .loop in
     let b = c .before .before .before .before .before .before .before .before .before .before .before .before .before .before .before .before .before .before .loop-test .taken in
-    let st = stands-next (D .given) (D .row) (l .inv off cols D .from) (omega (arith, b, by-ends (s .args .i + 1) (c .before .before .before .before .before .before .before .before .before .before .before .before .before .before .before .before .before .before .before .before .before .before .before .before .before .before .before .before .word-at .ensures) (c .before .before .before .before .before .before .before .before .before .before .before .before .before .before .before .before .before .before .before .before .before .before .before .before .before .before .before .before .before .before .lindptr .ensures))) (by-ends (c .before .before .before .before .before .before .before .before .before .before .before .before .before .before .before .before .before .before .before .loop .e) (c .before .before .before .before .before .before .before .before .before .before .before .before .before .before .before .before .before .word-at3 .ensures) (c .before .before .before .before .before .before .before .before .before .before .before .before .before .before .before .before .before .before .before .before .before .before .before .before .before .before .before .before .before .lindices .ensures)) in
+    let st = along-stands (D .given) (D .row) (l .inv off cols D) b (by-ends (s .args .i + 1) (c .before .before .before .before .before .before .before .before .before .before .before .before .before .before .before .before .before .before .before .before .before .before .before .before .before .before .before .before .word-at .ensures) (c .before .before .before .before .before .before .before .before .before .before .before .before .before .before .before .before .before .before .before .before .before .before .before .before .before .before .before .before .before .before .lindptr .ensures)) (by-ends (c .before .before .before .before .before .before .before .before .before .before .before .before .before .before .before .before .before .before .before .loop .e) (c .before .before .before .before .before .before .before .before .before .before .before .before .before .before .before .before .before .word-at3 .ensures) (c .before .before .before .before .before .before .before .before .before .before .before .before .before .before .before .before .before .before .before .before .before .before .before .before .before .before .before .before .before .lindices .ensures)) in
     let o = off-diagonal (D .given) (D .row) (l .inv off cols D .from) (omega (arith, b, by-ends (s .args .i + 1) (c .before .before .before .before .before .before .before .before .before .before .before .before .before .before .before .before .before .before .before .before .before .before .before .before .before .before .before .before .word-at .ensures) (c .before .before .before .before .before .before .before .before .before .before .before .before .before .before .before .before .before .before .before .before .before .before .before .before .before .before .before .before .before .before .lindptr .ensures))) (by-ends (c .before .before .before .before .before .before .before .before .before .before .before .before .before .before .before .before .before .before .before .loop .e) (c .before .before .before .before .before .before .before .before .before .before .before .before .before .before .before .before .before .word-at3 .ensures) (c .before .before .before .before .before .before .before .before .before .before .before .before .before .before .before .before .before .before .before .before .before .before .before .before .before .before .before .before .before .lindices .ensures)) in
-    let v = value-below (given-still (D .given) (l .work) (kept-room (l .inv off cols D .kept))) st o (c .before .before .before .before .before .before .before .before .before .before .before .before .before .before .normal-sum2 .result) (c .before .before .before .before .before .before .before .before .before .before .before .before .less-products .result) (on (D .given .wide) (c .before .before .before .before .before .before .before .before .before .before .before .before .before .before .before .before .splat .ensures)) (rw (c .before .before .before .before .before .before .before .before .before .before .before .before .before .before .before .before .before .before .before .before .before .before .before .before .before .before .before .before .before .before .before .regions .ensures) at (c .before .before .before .before .before .before .before .before .before .before .before .before .before .before .normal-sum2 .ensures)) (rw (c .before .before .before .before .before .before .before .before .before .before .before .before .before .before .before .before .before .before .before .before .before .before .before .before .before .before .before .before .before .before .before .regions .ensures) at (c .before .before .before .before .before .before .before .before .before .before .before .before .less-products .ensures)) (rw (c .before .before .before .before .before .before .before .before .before .before .before .before .before .before .before .before .before .before .before .before .before .before .before .before .before .before .before .before .before .before .before .regions .ensures) at (c .before .before .before .before .before .before .before .before .before .before .over-diagonal .ensures)) in
+    let v = value-below (along-given (D .given) (D .row) (l .inv off cols D)) st o (c .before .before .before .before .before .before .before .before .before .before .before .before .before .before .normal-sum2 .result) (c .before .before .before .before .before .before .before .before .before .before .before .before .less-products .result) (on (D .given .wide) (c .before .before .before .before .before .before .before .before .before .before .before .before .before .before .before .before .splat .ensures)) (rw (c .before .before .before .before .before .before .before .before .before .before .before .before .before .before .before .before .before .before .before .before .before .before .before .before .before .before .before .before .before .before .before .regions .ensures) at (c .before .before .before .before .before .before .before .before .before .before .before .before .before .before .normal-sum2 .ensures)) (rw (c .before .before .before .before .before .before .before .before .before .before .before .before .before .before .before .before .before .before .before .before .before .before .before .before .before .before .before .before .before .before .before .regions .ensures) at (c .before .before .before .before .before .before .before .before .before .before .before .before .less-products .ensures)) (rw (c .before .before .before .before .before .before .before .before .before .before .before .before .before .before .before .before .before .before .before .before .before .before .before .before .before .before .before .before .before .before .before .regions .ensures) at (c .before .before .before .before .before .before .before .before .before .before .over-diagonal .ensures)) in
     along-more (D .given) (D .row) (l .inv off cols D) (omega (arith, b, by-ends (s .args .i + 1) (c .before .before .before .before .before .before .before .before .before .before .before .before .before .before .before .before .before .before .before .before .before .before .before .before .before .before .before .before .word-at .ensures) (c .before .before .before .before .before .before .before .before .before .before .before .before .before .before .before .before .before .before .before .before .before .before .before .before .before .before .before .before .before .before .lindptr .ensures))) (by-ends (c .before .before .before .before .before .before .before .before .before .before .before .before .before .before .before .before .before .before .before .loop .e) (c .before .before .before .before .before .before .before .before .before .before .before .before .before .before .before .before .before .word-at3 .ensures) (c .before .before .before .before .before .before .before .before .before .before .before .before .before .before .before .before .before .before .before .before .before .before .before .before .before .before .before .before .before .lindices .ensures)) v (rw (c .before .before .before .before .before .before .before .before .before .before .before .before .before .before .before .before .before .before .before .before .before .before .before .before .before .before .before .before .before .before .before .regions .ensures) at (c .before .before .before .before .before .before .before .put .ensures)) (rw (c .before .before .before .before .before .before .before .before .before .before .before .before .before .before .before .before .before .before .before .before .before .before .before .before .before .before .before .before .before .before .before .regions .ensures) at (c .before .before .get2 .ensures)) (on (D .given .wide) (c .before .less-in .ensures)) (on (D .given .wide) (c .less-in2 .ensures))
 
 root-of-requires : tie.Need-root-of-requires Inv-loop μ-loop
