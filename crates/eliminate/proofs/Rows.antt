@@ -16,19 +16,18 @@ use Rattle.lanes.proofs.Quads.{grows-turn, _▹_}
 use Rattle.machine.specs.Machine.{Problem}
 use Rattle.machine.proofs.Factor.{fold-same}
 use Rattle.base.specs.Numbers.{cut}
-use Rattle.sparse.proofs.Spans.{cut-length}
+use Rattle.base.proofs.Numbers.{cut-length}
 use Rattle.sparse.specs.Sparse.{lessEach, frontAt, front, Low, High}
 use Rattle.layout.specs.declared.Plan.{Plan}
-use Rattle.layout.specs.Layout.{yAt, dyAt, rhsAt, wAt}
+use Rattle.layout.specs.Layout.{yAt, dyAt, rhsAt, wAt, lIn}
 use Rattle.layout.specs.Lists.{lindptrIn, lindicesIn, ltindptrIn, ltindicesIn, ltmapIn}
 use Rattle.plan_laws.specs.Factoring.{Given, Factored, stateIn}
 use Rattle.plan_laws.proofs.Entry.{count, stored-is}
 use Rattle.plan_laws.proofs.Fill.{given-still, kept-part, filled-none, filled-at, filled-same, filled-still, lindptr-at, lindptr-up, lindptr-within}
 use Rattle.plan_laws.proofs.Follows.{low-for, high-for}
-use Rattle.memory.specs.Planned.{problemIn, lIn}
+use Rattle.memory.specs.Planned.{problemIn}
 use Rattle.factor.specs.Row.{FilledTo, factorIn, sideIn, solvedIn, RowDue}
 use Rattle.eliminate.specs.Elimination.{KeptTwo, BackIn, backAll, Forwarded, Solves}
-use Rattle.base.proofs.Numbers.{cut-length}
 
 -- ---- two regions
 

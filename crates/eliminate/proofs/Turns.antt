@@ -11,12 +11,11 @@ use Rattle.lanes.specs.Region.{reg, Kept, Fills, Apart, after}
 use Rattle.lanes.proofs.Regions.{room-all, kept-room, reg-put, kept-apart, kept-put, kept-none}
 use Rattle.lanes.proofs.Quads.{each-on, reg-cell, _▹_}
 use Rattle.base.specs.Numbers.{cut}
-use Rattle.sparse.proofs.Spans.{cut-length, cut-at}
+use Rattle.base.proofs.Numbers.{cut-length, cut-at}
 use Rattle.sparse.specs.Sparse.{lessEach, backAt, back}
 use Rattle.layout.specs.declared.Plan.{Plan}
-use Rattle.layout.specs.Layout.{dyAt}
+use Rattle.layout.specs.Layout.{dyAt, lIn}
 use Rattle.layout.specs.Lists.{lindptrAt, ldiagIndptrAt, ltindicesAt, ltmapAt, lindptrIn, ltindptrIn, ltindicesIn, ltmapIn}
-use Rattle.memory.specs.Planned.{lIn}
 use Rattle.eliminate.specs.Elimination.{BackIn}
 
 -- ---- backward

@@ -12,10 +12,10 @@ use Rattle.machine.specs.Machine.{Problem, State}
 use Rattle.sparse.specs.Sparse.{High, front, backAt, back}
 use Rattle.plan_laws.specs.Factoring.{Factored}
 use Rattle.layout.specs.declared.Plan.{Plan}
-use Rattle.layout.specs.Layout.{dyAt}
+use Rattle.layout.specs.Layout.{dyAt, lIn, topIn}
 use Rattle.layout.specs.Lists.{lindptrIn, lindicesIn, ltindptrIn, ltindicesIn, ltmapIn, Indexed}
 use Rattle.memory.specs.Numbers.{numbersAt}
-use Rattle.memory.specs.Planned.{problemIn, lIn, topIn}
+use Rattle.memory.specs.Planned.{problemIn}
 use Rattle.factor.specs.Row.{factorIn, sideIn, solvedIn}
 
 -- what the backward substitution reads: the factor's columns, and where each row ends, in a memory that has room for the factor

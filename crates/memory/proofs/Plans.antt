@@ -15,7 +15,8 @@ use Rattle.plan_laws.proofs.Cuts.{prepared-of}
 use Rattle.lists.proofs.Few.{few-stored, few-shared, few-products}
 use Rattle.layout.specs.declared.Plan.{Plan}
 use Rattle.layout.specs.Lists.{Indexed}
-use Rattle.memory.specs.Planned.{Planned, topIn}
+use Rattle.memory.specs.Planned.{Planned}
+use Rattle.layout.specs.Layout.{topIn}
 
 module _ {off cols : List ℕ} {vals : List Float} {p : Plan} {index : List ℕ} (P : Planned off cols vals p index) where
   -- the index memory has room for the plan, whose bytes fit a word of 64 bits

@@ -9,10 +9,9 @@ use lib.ListN.{length, getD}
 use lib.Ieee.{Float, binary64, div}
 use Rattle.lists.specs.Lists.{Shape, shape, lplace, before, weight}
 use Rattle.lists.specs.declared.Which.the-variants.{AnormIndptr, LdecompIndptr}
-use Rattle.lanes.specs.Lists.{at}
+use Rattle.lanes.specs.Lists.{at, fold}
 use Rattle.lanes.specs.Lanes.{cell as here, On, Width, room}
 use Rattle.lanes.proofs.Quads.{_▹_}
-use Rattle.lanes.specs.Lists.{fold}
 use Rattle.machine.specs.Machine.{reduced, factorEntry}
 use Rattle.lanes.specs.Arithmetic.{null, √, magnitude}
 use Rattle.machine.specs.Work.{problemOf}
@@ -20,7 +19,7 @@ use Rattle.plan_laws.specs.Factoring.{normalStep, productStep, NormalAt,
 use Rattle.layout.specs.declared.Plan.{Plan}
 use Rattle.layout.specs.Layout.{yAt, wAt, lAt}
 use Rattle.layout.specs.Lists.{anormIndptrIn, anormIndptrIIn, anormIndptrJIn, anormIndicesIn, ldecompIndptrIn, ldecompIndptrIIn, ldecompIndptrJIn, ldiagIndptrIn, lindicesIn, lindicesAt, ltindptrAt}
-use Rattle.sparse.proofs.Spans.{cut-length}
+use Rattle.base.proofs.Numbers.{cut-length}
 use Rattle.plan_laws.proofs.Low.{ind-length}
 use Rattle.plan_laws.proofs.Turn.{anorm-from, anorm-to, ldecomp-from, ldecomp-to, entry-room, diag-is, diag-entry, normal-ready, product-ready, sharedSum, shared-is, rest-is}
 

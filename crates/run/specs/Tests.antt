@@ -20,7 +20,8 @@ use Rattle.machine.specs.Work.{Says}
 use Rattle.layout.specs.declared.Block.{Block}
 use Rattle.layout.specs.declared.Plan.{Plan}
 use Rattle.memory.specs.Numbers.{Lent}
-use Rattle.memory.specs.Planned.{Planned, problemIn, topIn}
+use Rattle.memory.specs.Planned.{Planned, problemIn}
+use Rattle.layout.specs.Layout.{topIn}
 use Rattle.memory.specs.Calls.{callIn}
 use Rattle.lane_test.specs.declared.Measures.{Measures}
 use Rattle.lane_test.specs.Measures.{Measured}

@@ -17,9 +17,9 @@ use Rattle.machine.specs.declared.Status.the-variants.{Spoilt}
 use Rattle.machine.specs.Work.{stepOf}
 use Rattle.layout.specs.declared.Block.{Block}
 use Rattle.layout.specs.declared.Plan.{Plan}
-use Rattle.layout.specs.Layout.{dyAt, rhsAt, lAt}
+use Rattle.layout.specs.Layout.{dyAt, rhsAt, lAt, topIn}
 use Rattle.memory.specs.Numbers.{numbersAt, directionAt}
-use Rattle.memory.specs.Planned.{problemIn, dataIn, topIn}
+use Rattle.memory.specs.Planned.{problemIn, dataIn}
 
 -- a block's lanes are among those of b and c, which are as long as stated
 pub record Fed (k : Block) (width m n s : ℕ) (b c : List Float) : Type 0 where

@@ -4,9 +4,8 @@ use Prim.Native.Nat.{_+_}
 use native.Mathlib.Omega.{arith}
 use lib.ListN.{length}
 use Rattle.lanes.proofs.Regions.{room-le}
-use Rattle.layout.specs.Layout.{dyAt}
+use Rattle.layout.specs.Layout.{dyAt, lIn}
 use Rattle.layout.specs.Lists.{lindptrIn, ltindptrIn, ltindicesIn, ltmapIn}
-use Rattle.memory.specs.Planned.{lIn}
 use Rattle.factor.proofs.Sums.{by-ends}
 use Rattle.eliminate.proofs.Turns.{column, column-reads, back-value}
 use Rattle.base.proofs.Numbers.{cut-length, cut-at}

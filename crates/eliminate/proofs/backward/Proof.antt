@@ -1,9 +1,8 @@
 -- `eliminate::backward` meets its contract. Assumes nothing.
 use native.Mathlib.Omega.{arith}
 use Rattle.lanes.proofs.Regions.{room-le, kept-room}
-use Rattle.layout.specs.Layout.{dyAt}
+use Rattle.layout.specs.Layout.{dyAt, lIn}
 use Rattle.layout.specs.Lists.{lindptrIn, ltindptrIn, ltindicesIn, ltmapIn}
-use Rattle.memory.specs.Planned.{lIn}
 use Rattle.eliminate.proofs.Turns.{Falls, falls-start, falls-turn, falls-end, factor-apart, back-still}
 use Rattle.eliminate.proofs.backward.Statement.{statement}
 use Rattle.eliminate.proofs.backward.Tie as tie

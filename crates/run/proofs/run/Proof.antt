@@ -6,7 +6,8 @@ use Rattle.lanes.specs.Lanes.{room}
 use Rattle.lanes.proofs.Consts.{tenth-bits, damping-bits}
 use Rattle.machine.specs.Machine.{Settings, standard}
 use Rattle.machine.proofs.Turns.{Going, start-steps}
-use Rattle.memory.specs.Planned.{problemIn, dataIn, topIn}
+use Rattle.memory.specs.Planned.{problemIn, dataIn}
+use Rattle.layout.specs.Layout.{topIn}
 use Rattle.memory.specs.Calls.{callIn, memoryIn}
 use Rattle.lane_test.specs.Measures.{Measured}
 use Rattle.step.specs.Steps.{Untouched, Told}
