@@ -3,7 +3,7 @@ use mathlib.Core.Path.{_≡_, refl, sym, ap, _∙_}
 use mathlib.Core.List.{List}
 use Prim.Native.Nat.{ℕ, suc, _+_, _-_, _≤_, _<_}
 use native.Mathlib.Omega.{arith}
-use lib.ListN.{getD, set}
+use lib.ListN.{length, getD, set}
 use lib.Ieee.{Float, binary64, div}
 use Rattle.lanes.specs.Lists.{at}
 use Rattle.lanes.specs.Lanes.{each2, cell, put, On, Width, room}
