@@ -25,8 +25,8 @@ cast-t24 c = search needs
 cast-t23 : tie.Need-cast-t23
 cast-t23 c = search needs
 
-words-at-requires : tie.Need-words-at-requires
-words-at-requires c κs = search needs
+words-requires : tie.Need-words-requires
+words-requires c κs = search needs
 
 ask-sizes-requires : tie.Need-ask-sizes-requires
 ask-sizes-requires c κs =
@@ -48,7 +48,7 @@ solve-planned-requires c κs =
     let z = c .before .before .before .before .before .before .before .before .before .before .before .plan-below .result in
     let t = c .before .before .before .before .before .before .before .before .before .before .before .plan-below .ensures .sizes in
     let k : Counted (a .offsets) (a .columns) (a .m) (z .e) (z .s) (z .d) = record { stored = t .stored; shared = t .shared; products = t .products } in
-    let w = rw (c .before .before .before .before .before .before .words-at .ensures) at (c .before .before .before .before .before .ask-sizes .ensures) in
+    let w = rw (c .before .before .before .before .before .before .words .ensures) at (c .before .before .before .before .before .ask-sizes .ensures) in
     let v = sym (ap toldAsked (c .before .before .before .enum-told .given .1)) ∙ w in
     let bound = c .before .before .before .before .before .before .before .before .before .before .before .before .before .entries-below .ensures in
     let q = asked-all a B (z .e) (z .s) (z .d) k (s .pre .0) (s .pre .1) v in (
@@ -80,7 +80,7 @@ returns c =
     let z = c .before .before .before .before .before .before .before .before .before .plan-below .result in
     let t = c .before .before .before .before .before .before .before .before .before .plan-below .ensures .sizes in
     let k : Counted (a .offsets) (a .columns) (a .m) (z .e) (z .s) (z .d) = record { stored = t .stored; shared = t .shared; products = t .products } in
-    let w = rw (c .before .before .before .before .words-at .ensures) at (c .before .before .before .ask-sizes .ensures) in
+    let w = rw (c .before .before .before .before .words .ensures) at (c .before .before .before .ask-sizes .ensures) in
     let v = sym (ap toldAsked (c .before .r .given .1)) ∙ w in
     let bound = c .before .before .before .before .before .before .before .before .before .before .before .entries-below .ensures in
     let r = c .before .r .given .0 .0 in
@@ -104,7 +104,7 @@ returns-2 c =
     let z = c .before .before .before .before .before .before .before .before .before .before .before .before .before .before .before .before .plan-below .result in
     let t = c .before .before .before .before .before .before .before .before .before .before .before .before .before .before .before .before .plan-below .ensures .sizes in
     let k : Counted (a .offsets) (a .columns) (a .m) (z .e) (z .s) (z .d) = record { stored = t .stored; shared = t .shared; products = t .products } in
-    let w = rw (c .before .before .before .before .before .before .before .before .before .before .before .words-at .ensures) at (c .before .before .before .before .before .before .before .before .before .before .ask-sizes .ensures) in
+    let w = rw (c .before .before .before .before .before .before .before .before .before .before .before .words .ensures) at (c .before .before .before .before .before .before .before .before .before .before .ask-sizes .ensures) in
     let v = sym (ap toldAsked (c .before .before .before .before .before .before .before .before .enum-told .given .1)) ∙ w in
     let bound = c .before .before .before .before .before .before .before .before .before .before .before .before .before .before .before .before .before .before .entries-below .ensures in
     let q = asked-all a B (z .e) (z .s) (z .d) k (s .pre .0) (s .pre .1) v in
@@ -118,7 +118,7 @@ solve-accepted-spec =
     plan-below-requires
     cast-t24
     cast-t23
-    words-at-requires
+    words-requires
     ask-sizes-requires
     enum-known-r
     enum-told
