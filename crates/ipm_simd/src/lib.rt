@@ -165,7 +165,10 @@ fn solve_planned(
     ensures { λ r. ⌜ Ends (given (plan .m) (plan .n) (plan .s) (now (offsets .entry)) (now (columns .entry)) (now (values .entry)) (now (b .entry)) (now (c .entry)) (now (tolerances .entry)) limit) plan (now (output .entry)) (now (work .entry)) (lent (now (output .exit)) (now (index .entry)) (now (work .exit))) r ⌝ }
 {
     let room = plan.numbers(LANES);
-    let block = Block { total: LANES, first: 0 };
+    let block = Block {
+        total: LANES,
+        first: 0,
+    };
     let outcome = run::run(
         offsets,
         columns,
@@ -236,15 +239,9 @@ fn solve_accepted(
     };
     let below = entries_below(m, n, s, lengths, limit);
     let sizes = ipm_common::plan_below(m, n, offsets, columns, index, below);
-    let plan = Plan {
-        m,
-        n,
-        s,
-        t: columns.len(),
-        stored: sizes.e as usize,
-        shared: sizes.s,
-        products: sizes.d as usize,
-    };
+    let e = sizes.e as usize;
+    let d = sizes.d as usize;
+    let plan = Plan::new(m, n, s, columns.len(), e, sizes.s, d);
     match ask_sizes(plan.words(), plan, lengths, limit) {
         Asked::Refused(r) => SolveAnswer::Refused(r),
         Asked::Good => solve_planned(
