@@ -4,6 +4,7 @@ use mathlib.Core.List.{List, [], _∷_}
 use Prim.Native.Nat.{ℕ, suc, _+_, _*_}
 use lib.ListN.{length}
 use Rattle.base.specs.Sums.{sum, one}
+use Rattle.layout.specs.Layout.{workingSize}
 use Rattle.csr.specs.Pattern.{has, row, neighbours, stored}
 
 -- how many numbers of the first list stand in the second
@@ -35,4 +36,4 @@ module _ (off cols : List ℕ) where
 
   unfoldable pub sizeF : ℕ → ℕ → ℕ → ℕ
   unfolding countE
-  sizeF m n s = 4 * (5 * n + 3 * m + 2 * s + countE m)
+  sizeF m n s = workingSize 4 m n s (countE m)

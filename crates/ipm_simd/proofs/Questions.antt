@@ -5,10 +5,11 @@ use Prim.Native.Nat.{ℕ, _+_, _-_, _*_, _/_, _≤_, _<_}
 use native.Mathlib.Omega.{arith}
 use borrow.Author.Tests.{eqb-true, leb-true, le-leb, eq-eqb}
 use lib.Dec.{eqb, leb}
+use Rattle.layout.specs.Layout.{workingSize}
 use Rattle.csr.specs.Verdict.{passed, refused}
 use Rattle.base.proofs.Bools.{and-left, and-right}
 use Rattle.machine.specs.Outcome.{largestLimit}
-use Rattle.ipm_simd.specs.Solve.{lengthsRight, roomFor, sizesVerdict}
+use Rattle.ipm_simd.specs.Solve.{lengthsRight, sizesVerdict}
 use Rattle.ipm_simd.specs.Parts.{EntriesBelow}
 use Rattle.csr.proofs.Yes.{asked}
 
@@ -27,7 +28,7 @@ pub record Sizes (W E m n s index b c tolerances output work N : ℕ) : Type 0 w
   pub c-long : c ≡ 4 * n
   pub tolerances-long : tolerances ≡ 12
   pub output-long : output ≡ 4 * n
-  pub work-long : roomFor m n s E ≤ work
+  pub work-long : workingSize 4 m n s E ≤ work
   pub from : 1 ≤ N
   pub upTo : N ≤ largestLimit
 
@@ -38,7 +39,7 @@ sizes-of W E m n s index b c tolerances output work N h =
     let h6 = asked (leb W index) _ 6 0 0 h in
     let h7 = asked (leb s m) _ 7 0 0 (h6 .1) in
     let h8 = asked (lengthsRight m n b c tolerances output) _ 8 0 0 (h7 .1) in
-    let h9 = asked (leb (roomFor m n s E) work) _ 9 0 0 (h8 .1) in
+    let h9 = asked (leb (workingSize 4 m n s E) work) _ 9 0 0 (h8 .1) in
     let h10 = asked (leb 1 N && leb N largestLimit) _ 10 0 0 (h9 .1) in
     let bct = and-left (eqb b (4 * m) && eqb c (4 * n) && eqb tolerances 12) (eqb output (4 * n)) (h8 .0) in
     let bc = and-left (eqb b (4 * m) && eqb c (4 * n)) (eqb tolerances 12) bct in
@@ -49,7 +50,7 @@ sizes-of W E m n s index b c tolerances output work N h =
       c-long = eqb-true c (4 * n) (and-right (eqb b (4 * m)) (eqb c (4 * n)) bc);
       tolerances-long = eqb-true tolerances 12 (and-right (eqb b (4 * m) && eqb c (4 * n)) (eqb tolerances 12) bct);
       output-long = eqb-true output (4 * n) (and-right (eqb b (4 * m) && eqb c (4 * n) && eqb tolerances 12) (eqb output (4 * n)) (h8 .0));
-      work-long = leb-true (roomFor m n s E) work (h9 .0);
+      work-long = leb-true (workingSize 4 m n s E) work (h9 .0);
       from = leb-true 1 N (and-left (leb 1 N) (leb N largestLimit) (h10 .0));
       upTo = leb-true N largestLimit (and-right (leb 1 N) (leb N largestLimit) (h10 .0));
     }
@@ -64,7 +65,7 @@ module _ (m n s b c tolerances output work N : ℕ) where
   below-some h l t w = record {
     yes = λ W E index i e.
         unfold sizesVerdict in
-        simp (le-leb _ _ i, le-leb _ _ h, l, le-leb (roomFor m n s E) work (omega (arith, e, w)), t);
+        simp (le-leb _ _ i, le-leb _ _ h, l, le-leb (workingSize 4 m n s E) work (omega (arith, e, w)), t);
     under = λ W E index v. omega (arith, sizes-of W E m n s index b c tolerances output work N v .work-long);
   }
 

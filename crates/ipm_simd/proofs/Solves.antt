@@ -30,7 +30,7 @@ use Rattle.plan_laws.proofs.Low.{row-cut}
 use Rattle.plan_laws.proofs.Picked.{picked-has}
 use Rattle.layout.specs.declared.Block.{Block}
 use Rattle.layout.specs.declared.Plan.{Plan}
-use Rattle.layout.specs.Layout.{lAt}
+use Rattle.layout.specs.Layout.{lAt, workingSize}
 use Rattle.memory.specs.Numbers.{Lent}
 use Rattle.layout.specs.Lists.{wordsAt}
 use Rattle.memory.specs.Planned.{Planned, Counted}
@@ -39,7 +39,7 @@ use Rattle.memory.proofs.Calls.{region-is, lanes-all}
 use Rattle.step.specs.Steps.{Untouched}
 use Rattle.ipm_simd.specs.declared.SolveAnswer.{SolveAnswer}
 use Rattle.ipm_simd.specs.declared.SolveAnswer.the-variants as answers
-use Rattle.ipm_simd.specs.Solve.{Given, lent, roomFor, call, words, room, plannedHas, toldSolve, outcomeVerdict, sizesVerdict, memoryVerdict, begun, solveVerdict, ifPassed, solveBuffers, Solved}
+use Rattle.ipm_simd.specs.Solve.{Given, lent, call, words, room, plannedHas, toldSolve, outcomeVerdict, sizesVerdict, memoryVerdict, begun, solveVerdict, ifPassed, solveBuffers, Solved}
 use Rattle.ipm_simd.specs.Parts.{Asked10, EntriesBelow, written, Finished, Continued}
 use Rattle.ipm_common.specs.Plan.{written as indexed}
 use Rattle.ipm_common.proofs.Final.{written-yes, written-other}
@@ -57,7 +57,7 @@ unfolding sizeW
 words-of off cols m n s stored shared products c = omega (arith, c .stored, c .shared, c .products)
 
 -- F, of E
-room-of : (off cols : List ℕ) (m n s e : ℕ) → e ≡ countE off cols m → roomFor m n s e ≡ sizeF off cols m n s
+room-of : (off cols : List ℕ) (m n s e : ℕ) → e ≡ countE off cols m → workingSize 4 m n s e ≡ sizeF off cols m n s
 unfolding sizeF
 room-of off cols m n s e q = omega (arith, q)
 
@@ -116,7 +116,7 @@ module _ (a : Given) {output work : List Float} {index : List ℕ} {stored share
       → Ran (call a) (a .limit) (memoryIn (planOf a stored shared products) 4 work1) o
       → toldSolve r ≡ outcomeVerdict o
       → output1 ≡ written o (take (length output) work1) output
-      → work2 ≡ replicate (roomFor (a .m) (a .n) (a .s) stored) null ++ drop (roomFor (a .m) (a .n) (a .s) stored) work1
+      → work2 ≡ replicate (workingSize 4 (a .m) (a .n) (a .s) stored) null ++ drop (workingSize 4 (a .m) (a .n) (a .s) stored) work1
       → Finished a (lent output index work) (lent output1 index1 work2) r
   finished {index1} {work1} {output1} {work2} {o} {r} ei U R er eo ew = record {
     answer = er ∙ ap outcomeVerdict (R .answer);
@@ -126,7 +126,7 @@ module _ (a : Given) {output work : List Float} {index : List ℕ} {stored share
   }
     where
       F : ℕ
-      F = roomFor (a .m) (a .n) (a .s) stored
+      F = workingSize 4 (a .m) (a .n) (a .s) stored
 
       out : output1 ≡ outputAfter (call a) (λ q. q .x) (a .n) (solved (call a) (a .limit)) output
       out = eo ∙ output-is o work1 (U .size) R ∙ ap (λ (z : Outcome). outputAfter (call a) (λ q. q .x) (a .n) z output) (R .answer)

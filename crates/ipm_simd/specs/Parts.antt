@@ -4,6 +4,7 @@ use mathlib.Core.List.{List, _++_}
 use Prim.Native.Nat.{ℕ, _+_, _*_, _<_, _≤_}
 use lib.ListN.{length, drop}
 use lib.Ieee.{Float}
+use Rattle.layout.specs.Layout.{workingSize}
 use Rattle.csr.specs.Csr.{Accepted}
 use Rattle.csr.specs.Counts.{sizeW}
 use Rattle.machine.specs.declared.Outcome.{Outcome}
@@ -14,7 +15,7 @@ use Rattle.csr.specs.Verdict.{passed, andThen}
 use Rattle.layout.specs.declared.Plan.{Plan}
 use Rattle.memory.specs.Planned.{Counted}
 use Rattle.ipm_simd.specs.declared.SolveAnswer.{SolveAnswer}
-use Rattle.ipm_simd.specs.Solve.{Given, lent, roomFor, call, words, room, plannedHas, toldSolve, outcomeVerdict, sizesVerdict, memoryVerdict, ifPassed}
+use Rattle.ipm_simd.specs.Solve.{Given, lent, call, words, room, plannedHas, toldSolve, outcomeVerdict, sizesVerdict, memoryVerdict, ifPassed}
 
 -- questions 1 to 10 got a yes, and E, S and D are counted
 pub record Asked10 (a : Given) (B : Buffers) (stored shared products : ℕ) : Type 0 where
@@ -27,7 +28,7 @@ pub record Asked10 (a : Given) (B : Buffers) (stored shared products : ℕ) : Ty
   pub c-long : length (a .c) ≡ 4 * a .n
   pub tol-long : length (a .tolerances) ≡ 12
   pub output : length (B .output) ≡ 4 * a .n
-  pub work : roomFor (a .m) (a .n) (a .s) stored ≤ length (B .work)
+  pub work : workingSize 4 (a .m) (a .n) (a .s) stored ≤ length (B .work)
   pub from : 1 ≤ a .limit
   pub upTo : a .limit ≤ largestLimit
 

@@ -6,6 +6,7 @@ use Prim.Native.Nat.{ℕ, _+_, _*_}
 use lib.Dec.{eqb, leb}
 use lib.ListN.{length}
 use lib.Ieee.{Float}
+use Rattle.layout.specs.Layout.{workingSize}
 use Rattle.csr.specs.Verdict.{Verdict, passed, planned, refused, accepted as acceptedAt, ask, andThen, refusal}
 use Rattle.csr.specs.Questions.{firstNo}
 use Rattle.csr.specs.Counts.{countE, sizeW, sizeF}
@@ -56,17 +57,13 @@ outcomeVerdict (noAt12 k) = refused 12 k 0
 abbrev pub lengthsRight : ℕ → ℕ → ℕ → ℕ → ℕ → ℕ → Bool
 lengthsRight m n b c tolerances output = eqb b (4 * m) && eqb c (4 * n) && eqb tolerances 12 && eqb output (4 * n)
 
--- F, by E: 'F = 4(5n + 3m + 2s + E)'
-abbrev pub roomFor : ℕ → ℕ → ℕ → ℕ → ℕ
-roomFor m n s E = 4 * (5 * n + 3 * m + 2 * s + E)
-
 -- questions 6 to 10, by W, E, the sizes, the lengths of the lists, and N
 unfoldable pub sizesVerdict : ℕ → ℕ → ℕ → ℕ → ℕ → ℕ → ℕ → ℕ → ℕ → ℕ → ℕ → ℕ → Verdict
 sizesVerdict W E m n s index b c tolerances output work N =
     ask (leb W index)
     (ask (leb s m)
     (ask (lengthsRight m n b c tolerances output)
-    (ask (leb (roomFor m n s E) work)
+    (ask (leb (workingSize 4 m n s E) work)
     (ask (leb 1 N && leb N largestLimit)
     passed
     (refused 10 0 0))

@@ -55,6 +55,9 @@ lIn p = lAt (p .n) (p .m) (p .s)
 abbrev pub topIn : Plan → ℕ
 topIn p = lIn p + p .stored
 
--- 'F = 4(5n + 3m + 2s + E)', for so many lanes
+-- 'F = 4(5n + 3m + 2s + E)', for K lanes
+abbrev pub workingSize : ℕ → ℕ → ℕ → ℕ → ℕ → ℕ
+workingSize K m n s E = K * (5 * n + 3 * m + 2 * s + E)
+
 abbrev pub numbersOf : Plan → ℕ → ℕ
-numbersOf p K = K * (5 * p .n + 3 * p .m + 2 * p .s + p .stored)
+numbersOf p K = workingSize K (p .m) (p .n) (p .s) (p .stored)
