@@ -165,7 +165,10 @@ fn solve_planned(
     ensures { λ r. ⌜ Ends (given (plan .m) (plan .n) (plan .s) (now (offsets .entry)) (now (columns .entry)) (now (values .entry)) (now (b .entry)) (now (c .entry)) (now (tolerances .entry)) limit) plan (now (output .entry)) (now (work .entry)) (lent (now (output .exit)) (now (index .entry)) (now (work .exit))) r ⌝ }
 {
     let room = plan.numbers(LANES);
-    let block = Block { total: LANES, first: 0 };
+    let block = Block {
+        total: LANES,
+        first: 0,
+    };
     let outcome = run::run(
         offsets,
         columns,
