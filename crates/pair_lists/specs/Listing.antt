@@ -1,6 +1,6 @@
 -- What the lists of pairs are written from, and where the writing stands. Definitions only.
 use mathlib.Core.Path.{_≡_}
-use mathlib.Core.Bool.{true}
+use mathlib.Core.Bool.{Bool, true}
 use mathlib.Core.List.{List}
 use Prim.Native.Nat.{ℕ, suc, _+_, _*_, _<_, _≤_}
 use lib.ListN.{length, getD}
@@ -11,7 +11,6 @@ use Rattle.lists.specs.Ready.{Ready}
 use Rattle.lists.specs.declared.Which.{Which}
 use Rattle.transpose.specs.Bins.{Grid}
 use Rattle.shared_columns.specs.Marked.{Marked}
-use Rattle.pair_lists.specs.declared.Pair.{Pair}
 use Rattle.pair_lists.specs.Kept.{Rows, marksRead}
 
 -- accepted lists of m rows and `wide` columns, their pattern as bits, and its rows as lists
@@ -20,20 +19,37 @@ pub record Listing (off cols : List ℕ) (m : ℕ) (p lp li : List ℕ) (wide : 
   pub rows : Rows (bit p) lp li m
   pub grid : Grid off cols m wide
 
--- row i is marked, if the list reads marks
-pub record MarksFor (w : Which) (off cols : List ℕ) (i wide : ℕ) (mark : List ℕ) : Type 0 where
+-- row i of accepted lists and their pattern, marked if the list reads marks
+pub record RowReady (w : Which) (off cols p mark : List ℕ) (i : ℕ) : Type 0 where
+  pub m : ℕ
+  pub wide : ℕ
+  pub ready : Ready off cols m p
+  pub grid : Grid off cols m wide
+  pub inside : i < m
   pub long : wide ≤ length mark
   pub marks : marksRead w ≡ true → Marked mark (getD off i 0) (row off cols i) wide
+
+-- and the rows of the pattern as lists
+pub record RowListing (w : Which) (off cols p lp li mark : List ℕ) (i : ℕ) : Type 0 where
+  pub at : RowReady w off cols p mark i
+  pub rows : Rows (bit p) lp li (at .m)
+
+-- the place t is of row r of a grid
+pub record InRow (h : ℕ → ℕ → Bool) (lp li : List ℕ) (r t : ℕ) : Type 0 where
+  pub m : ℕ
+  pub rows : Rows h lp li m
+  pub inside : r < m
+  pub first : getD lp r 0 ≤ t
+  pub last : t < getD lp (r + 1) 0
 
 -- n is what a list has counted before row i
 pub record Counting (w : Which) (off cols : List ℕ) (i n : ℕ) : Type 0 where
   pub count : n ≡ before (weight (shape off cols) w) i 0
   pub few : n ≤ 4210688 * i
 
--- a stored pair at its place, and what a list has counted up to it
-pub record AtPair (w : Which) (off cols lp li : List ℕ) (m : ℕ) (q : Pair) : Type 0 where
-  pub inside : q .i < m
-  pub first : getD lp (q .i) 0 ≤ q .t
-  pub last : q .t < getD lp (q .i + 1) 0
-  pub column : q .j ≡ getD li (q .t) 0
-  pub count : q .n ≡ before (weight (shape off cols) w) (q .i) (suc (q .j))
+-- the stored pair (i, j) at its place t, and n, what a list has counted up to it
+pub record AtPair (w : Which) (off cols lp li : List ℕ) (i j t n : ℕ) : Type 0 where
+  pub first : getD lp i 0 ≤ t
+  pub last : t < getD lp (i + 1) 0
+  pub column : j ≡ getD li t 0
+  pub count : n ≡ before (weight (shape off cols) w) i (suc j)

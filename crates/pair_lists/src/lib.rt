@@ -8,9 +8,8 @@ ghost use Rattle.base.specs.Sums.{sum};
 ghost use Rattle.base.specs.Cat.{Wrote, cat};
 ghost use Rattle.base.specs.Numbers.{Below};
 ghost use Rattle.lists.specs.Lists.{shape, walkOf, piece, weight, listOf, tenOf};
-ghost use Rattle.lists.specs.Ready.{Ready};
 ghost use Rattle.pair_lists.specs.Kept.{kept, Rows, placesOf, marksRead};
-ghost use Rattle.pair_lists.specs.Listing.{Listing, MarksFor, Counting, AtPair};
+ghost use Rattle.pair_lists.specs.Listing.{Listing, RowReady, RowListing, InRow, Counting, AtPair};
 ghost use Rattle.shared_columns.specs.Marked.{Marked};
 ghost use Rattle.transpose.specs.Bins.{Grid};
 ghost use Rattle.csr.specs.Pattern.{row};
@@ -75,14 +74,13 @@ pub fn products(
     p: &[u64],
     lp: &[u32],
     li: &[u8],
-    m: usize,
     r: usize,
     q: usize,
     t: usize,
     index: &mut [u32],
     start: usize,
 ) -> usize
-    requires { ⌜ (length (now p) ≡ 1024) × Rows (bit (now p)) (now lp) (now li) m × (r < m) × (q < 256) × (getD (now lp) r 0 ≤ t) × (t < getD (now lp) (r + 1) 0) × (start + length (walkOf (bit (now p)) r q (getD (now li) t 0) (getD (now lp) r 0)) ≤ length (now index)) ⌝ }
+    requires { ⌜ (length (now p) ≡ 1024) × InRow (bit (now p)) (now lp) (now li) r t × (q < 256) × (start + length (walkOf (bit (now p)) r q (getD (now li) t 0) (getD (now lp) r 0)) ≤ length (now index)) ⌝ }
     ensures { λ x. ⌜ Wrote (now (index .entry)) (now (index .exit)) start (walkOf (bit (now (p .entry))) r q (getD (now (li .entry)) t 0) (getD (now (lp .entry)) r 0)) x ⌝ }
 {
     let a = word_at(lp, r);
@@ -131,18 +129,16 @@ pub fn weigh(
     which: Which,
     off: &[u32],
     cols: &[u32],
-    m: usize,
     p: &[u64],
-    wide: usize,
     mark: &[u32],
     i: usize,
     j: usize,
 ) -> u32
-    requires { ⌜ Ready (now off) (now cols) m (now p) × Grid (now off) (now cols) m wide × MarksFor which (now off) (now cols) i wide (now mark) × (i < m) × (j ≤ i) ⌝ }
+    requires { ⌜ RowReady which (now off) (now cols) (now p) (now mark) i × (j ≤ i) ⌝ }
     ensures { λ r. ⌜ (r ≡ weight (shape (now (off .entry)) (now (cols .entry))) which i j) × (r ≤ 16384) ⌝ }
 {
     match which {
-        Which::AnormIndptr => count_shared(off, cols, m, wide, mark, i, j) as u32,
+        Which::AnormIndptr => count_shared(off, cols, mark, i, j) as u32,
         Which::LdecompIndptr => {
             let t = pattern::both_ones(p, i, j);
             if pattern::test(p, i, j) { t - 1 } else { t }
@@ -158,45 +154,35 @@ pub fn weigh(
     }
 }
 
-// A stored pair of rows (i, j): its place t among the stored, and n, what a list has counted up to it.
-pub struct Pair {
-    pub i: usize,
-    pub j: usize,
-    pub t: usize,
-    pub n: u32,
-}
-
-// What a stored pair adds to a list. Row i is marked where the list reads marks.
+// What the stored pair (i, j) adds to a list. t is its place among the stored, n what the list has counted.
 pub fn put_piece(
     which: Which,
     off: &[u32],
     cols: &[u32],
-    m: usize,
     p: &[u64],
     lp: &[u32],
     li: &[u8],
-    wide: usize,
     mark: &[u32],
-    pair: Pair,
+    i: usize,
+    j: usize,
+    t: usize,
+    n: u32,
     index: &mut [u32],
     at: usize,
 ) -> usize
-    requires { ⌜ Listing (now off) (now cols) m (now p) (now lp) (now li) wide × AtPair which (now off) (now cols) (now lp) (now li) m pair × MarksFor which (now off) (now cols) (pair .i) wide (now mark) × (at + length (piece (shape (now off) (now cols)) which (pair .i) (pair .j)) ≤ length (now index)) ⌝ }
-    ensures { λ r. ⌜ Wrote (now (index .entry)) (now (index .exit)) at (piece (shape (now (off .entry)) (now (cols .entry))) which (pair .i) (pair .j)) r ⌝ }
+    requires { ⌜ RowListing which (now off) (now cols) (now p) (now lp) (now li) (now mark) i × AtPair which (now off) (now cols) (now lp) (now li) i j t n × (at + length (piece (shape (now off) (now cols)) which i j) ≤ length (now index)) ⌝ }
+    ensures { λ r. ⌜ Wrote (now (index .entry)) (now (index .exit)) at (piece (shape (now (off .entry)) (now (cols .entry))) which i j) r ⌝ }
 {
-    let i = pair.i;
-    let j = pair.j;
-    let t = pair.t;
     match which {
-        Which::AnormIndptr => word(index, at, pair.n),
-        Which::AnormIndptrI => put_shared(Take::Left, off, cols, m, wide, mark, i, j, index, at),
-        Which::AnormIndptrJ => put_shared(Take::Right, off, cols, m, wide, mark, i, j, index, at),
-        Which::AnormIndices => put_shared(Take::Column, off, cols, m, wide, mark, i, j, index, at),
-        Which::LdecompIndptr => word(index, at, pair.n),
-        Which::LdecompIndptrI => products(p, lp, li, m, i, j, t, index, at),
+        Which::AnormIndptr => word(index, at, n),
+        Which::AnormIndptrI => put_shared(Take::Left, off, cols, mark, i, j, index, at),
+        Which::AnormIndptrJ => put_shared(Take::Right, off, cols, mark, i, j, index, at),
+        Which::AnormIndices => put_shared(Take::Column, off, cols, mark, i, j, index, at),
+        Which::LdecompIndptr => word(index, at, n),
+        Which::LdecompIndptrI => products(p, lp, li, i, j, t, index, at),
         Which::LdecompIndptrJ => {
             let last = word_at(lp, j + 1) - 1;
-            products(p, lp, li, m, j, i, last, index, at)
+            products(p, lp, li, j, i, last, index, at)
         }
         Which::Lindptr => keep(index, at, j == i, (t as u32) + 1),
         Which::LdiagIndptr => keep(index, at, j == i, t as u32),
@@ -215,28 +201,26 @@ pub fn fill_row(
     which: Which,
     off: &[u32],
     cols: &[u32],
-    m: usize,
     p: &[u64],
     lp: &[u32],
     li: &[u8],
-    wide: usize,
     mark: &[u32],
     i: usize,
-    spot: Spot,
+    count: u32,
     index: &mut [u32],
+    start: usize,
 ) -> Spot
-    requires { ⌜ Listing (now off) (now cols) m (now p) (now lp) (now li) wide × MarksFor which (now off) (now cols) i wide (now mark) × Counting which (now off) (now cols) i (spot .n) × (i < m) × (spot .at + length (cat (i + 1) (piece (shape (now off) (now cols)) which i)) ≤ length (now index)) ⌝ }
-    ensures { λ r. ⌜ Wrote (now (index .entry)) (now (index .exit)) (spot .at) (cat (i + 1) (piece (shape (now (off .entry)) (now (cols .entry))) which i)) (r .at) × Counting which (now (off .entry)) (now (cols .entry)) (i + 1) (r .n) ⌝ }
+    requires { ⌜ RowListing which (now off) (now cols) (now p) (now lp) (now li) (now mark) i × Counting which (now off) (now cols) i count × (start + length (cat (i + 1) (piece (shape (now off) (now cols)) which i)) ≤ length (now index)) ⌝ }
+    ensures { λ r. ⌜ Wrote (now (index .entry)) (now (index .exit)) start (cat (i + 1) (piece (shape (now (off .entry)) (now (cols .entry))) which i)) (r .at) × Counting which (now (off .entry)) (now (cols .entry)) (i + 1) (r .n) ⌝ }
 {
     let b = word_at(lp, i + 1);
-    let mut at = spot.at;
-    let mut n = spot.n;
+    let mut at = start;
+    let mut n = count;
     let mut t = word_at(lp, i);
     while t < b {
         let j = byte_at(li, t);
-        n += weigh(which, off, cols, m, p, wide, mark, i, j);
-        let pair = Pair { i, j, t, n };
-        at = put_piece(which, off, cols, m, p, lp, li, wide, mark, pair, index, at);
+        n += weigh(which, off, cols, p, mark, i, j);
+        at = put_piece(which, off, cols, p, lp, li, mark, i, j, t, n, index, at);
         t += 1;
     }
     Spot { at, n }
@@ -264,8 +248,7 @@ pub fn fill(
     let mut i: usize = 0;
     while i < m {
         mark_for(which, off, cols, m, wide, i, mark);
-        let spot = Spot { at, n };
-        let s = fill_row(which, off, cols, m, p, lp, li, wide, mark, i, spot, index);
+        let s = fill_row(which, off, cols, p, lp, li, mark, i, n, index, at);
         at = s.at;
         n = s.n;
         i += 1;

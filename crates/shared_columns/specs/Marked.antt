@@ -23,12 +23,15 @@ pub record Marked (mark : List ℕ) (lo : ℕ) (xs : List ℕ) (n : ℕ) : Type 
   pub into : (c : ℕ) → c < n → has xs c ≡ true → getD mark c 0 ≡ lo + find c xs + 1
   pub out : (c : ℕ) → c < n → has xs c ≡ false → getD mark c 0 ≤ lo
 
--- row i of the lists is marked
-pub record RowMarked (off cols : List ℕ) (m n : ℕ) (mark : List ℕ) (i : ℕ) : Type 0 where
-  pub grid : Grid off cols m n
+-- i and j are rows of the lists, and row i is marked
+pub record RowMarked (off cols mark : List ℕ) (i j : ℕ) : Type 0 where
+  pub m : ℕ
+  pub wide : ℕ
+  pub grid : Grid off cols m wide
   pub inside : i < m
-  pub long : n ≤ length mark
-  pub marks : Marked mark (getD off i 0) (row off cols i) n
+  pub other : j < m
+  pub long : wide ≤ length mark
+  pub marks : Marked mark (getD off i 0) (row off cols i) wide
 
 -- what a walk through a row writes at a column that is marked
 unfoldable pub hit : Take → List ℕ → ℕ → ℕ → ℕ → List ℕ

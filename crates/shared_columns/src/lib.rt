@@ -81,15 +81,13 @@ pub fn put_shared(
     take: Take,
     off: &[u32],
     cols: &[u32],
-    m: usize,
-    wide: usize,
     mark: &[u32],
     i: usize,
     j: usize,
     index: &mut [u32],
     start: usize,
 ) -> usize
-    requires { ⌜ RowMarked (now off) (now cols) m wide (now mark) i × (j < m) × (start + length (sharedOf (shape (now off) (now cols)) take i j) ≤ length (now index)) ⌝ }
+    requires { ⌜ RowMarked (now off) (now cols) (now mark) i j × (start + length (sharedOf (shape (now off) (now cols)) take i j) ≤ length (now index)) ⌝ }
     ensures { λ r. ⌜ Wrote (now (index .entry)) (now (index .exit)) start (sharedOf (shape (now (off .entry)) (now (cols .entry))) take i j) r ⌝ }
 {
     let lo = word_at(off, i);
@@ -116,16 +114,8 @@ fn count_marked(mark: &[u32], lo: u32, b: &[u32]) -> usize
 }
 
 // How many columns rows i and j share. Row i is marked.
-pub fn count_shared(
-    off: &[u32],
-    cols: &[u32],
-    m: usize,
-    wide: usize,
-    mark: &[u32],
-    i: usize,
-    j: usize,
-) -> usize
-    requires { ⌜ RowMarked (now off) (now cols) m wide (now mark) i × (j < m) ⌝ }
+pub fn count_shared(off: &[u32], cols: &[u32], mark: &[u32], i: usize, j: usize) -> usize
+    requires { ⌜ RowMarked (now off) (now cols) (now mark) i j ⌝ }
     ensures { λ r. ⌜ (r ≡ common (row (now (off .entry)) (now (cols .entry)) i) (row (now (off .entry)) (now (cols .entry)) j)) × (r ≤ length (now (cols .entry))) ⌝ }
 {
     let lo = word_at(off, i);

@@ -47,10 +47,11 @@ fill-row-requires c κs =
     let l = c .before .before .before .before .before .before .before .loop in
     let k = c .before .before .before .before .before .before .before .before .before .before .keep in
     let r = c .before .before .before .before .mark-for in (
-      s .pre .0,
-      record { long = omega (arith, s .pre .2, l .inv .5, r .kept .1 .1 .1 .1 .1 .1 .0); marks = r .ensures .0 },
+      record {
+        at = record { m = a .m; wide = a .wide; ready = s .pre .0 .ready; grid = s .pre .0 .grid; inside = c .before .before .before .before .before .before .loop-test .taken; long = omega (arith, s .pre .2, l .inv .5, r .kept .1 .1 .1 .1 .1 .1 .0); marks = r .ensures .0 };
+        rows = s .pre .0 .rows;
+      },
       record { count = l .inv .2; few = l .inv .3 },
-      c .before .before .before .before .before .before .loop-test .taken,
       turns.row-room (shape (a .off .now) (a .cols .now)) (a .which) (a .m) (l .i) (a .start) (length (l .index)) (k .result) (l .at) (c .before .before .before .before .before .before .loop-test .taken) (omega (arith, s .pre .1, l .inv .1, k .kept .0))
           (k .ensures .next ∙ ap (λ (t : Bool). a .start + length (pick t 0)) (c .before .before .before .before .before .before .before .before .before .before .before .has-head .ensures)) (l .inv .4 .next),
     )
@@ -69,7 +70,7 @@ loop-again c =
     let k = c .before .before .before .before .before .before .before .before .before .before .before .before .before .keep in
     let r = c .before .before .before .before .before .before .before .mark-for in
     let q = c .before .before .fill-row in
-    (omega (arith, c .before .before .before .before .before .before .before .before .before .loop-test .taken), q .kept .1 .1 .1 .1 .1 .1 .1 .1 .1 .1 .1 .0 ∙ l .inv .1, q .ensures .1 .count, q .ensures .1 .few, turns.rows-next (shape (a .off .now) (a .cols .now)) (a .which) (k .last .0) (l .index) (q .last .1 .1 .1 .1 .1 .1 .1 .1 .1 .1 .1 .0) (k .result) (l .at) (q .result .at) (l .i) (l .inv .4) (q .ensures .0), r .kept .1 .1 .1 .1 .1 .1 .0 ∙ l .inv .5, r .ensures .1)
+    (omega (arith, c .before .before .before .before .before .before .before .before .before .loop-test .taken), q .kept .1 .1 .1 .1 .1 .1 .1 .1 .1 .0 ∙ l .inv .1, q .ensures .1 .count, q .ensures .1 .few, turns.rows-next (shape (a .off .now) (a .cols .now)) (a .which) (k .last .0) (l .index) (q .last .1 .1 .1 .1 .1 .1 .1 .1 .1 .0) (k .result) (l .at) (q .result .at) (l .i) (l .inv .4) (q .ensures .0), r .kept .1 .1 .1 .1 .1 .1 .0 ∙ l .inv .5, r .ensures .1)
 
 same-length : tie.Need-same-length Inv-loop μ-loop
 same-length c = c .before .loop .inv .5

@@ -12,20 +12,20 @@ use Rattle.pair_lists.proofs.fill_row.Statement.{statement}
 use Rattle.pair_lists.proofs.fill_row.Tie as tie
 
 abbrev Inv-loop : tie.InvT-loop
-Inv-loop which off cols m p lp li wide mark i index₀ b at₀ n₀ t₀ index at n t =
+Inv-loop which off cols p lp li mark i count index₀ start b at₀ n₀ t₀ index at n t =
     (getD lp i 0 ≤ t) × (t ≤ getD lp (i + 1) 0) × (length index ≡ length index₀) × turns.Turned off cols p which i index₀ index at₀ at n₀ n (t - getD lp i 0)
 
 abbrev μ-loop : tie.MeasureT-loop
-μ-loop which off cols m p lp li wide mark i index₀ b at₀ n₀ t₀ index at n t = b - t
+μ-loop which off cols p lp li mark i count index₀ start b at₀ n₀ t₀ index at n t = b - t
 
 add-word-at : tie.Need-add-word-at Inv-loop μ-loop
-add-word-at c = let s = c .before .before .before .before .before .before .before in omega (arith, s .pre .3, s .pre .0 .rows .few)
+add-word-at c = let s = c .before .before .before .before .before .before .before in omega (arith, s .pre .0 .at .inside, s .pre .0 .rows .few)
 
 word-at-requires : tie.Need-word-at-requires Inv-loop μ-loop
-word-at-requires c κs = let s = c .before .before .before .before .before .before .before in omega (arith, s .pre .3, s .pre .0 .rows .offsets)
+word-at-requires c κs = let s = c .before .before .before .before .before .before .before in omega (arith, s .pre .0 .at .inside, s .pre .0 .rows .offsets)
 
 word-at-requires-2 : tie.Need-word-at-requires-2 Inv-loop μ-loop
-word-at-requires-2 c κs = let s = c .before .before .before .before .before .before .before .before in omega (arith, s .pre .3, s .pre .0 .rows .offsets)
+word-at-requires-2 c κs = let s = c .before .before .before .before .before .before .before .before in omega (arith, s .pre .0 .at .inside, s .pre .0 .rows .offsets)
 
 loop-holds : tie.Need-loop-holds Inv-loop μ-loop
 loop-holds c =
@@ -33,9 +33,9 @@ loop-holds c =
     let a = s .args in
     let w = c .word-at2 in (
       omega (arith, w .ensures),
-      omega (arith, w .ensures, law.rows-up (bit (a .p .now)) (a .lp .now) (a .li .now) (a .m) (s .pre .0 .rows) (a .i) (s .pre .3)),
+      omega (arith, w .ensures, law.rows-up (bit (a .p .now)) (a .lp .now) (a .li .now) (s .pre .0 .at .m) (s .pre .0 .rows) (a .i) (s .pre .0 .at .inside)),
       refl,
-      turns.turned-start (a .off .now) (a .cols .now) (a .m) (a .p .now) (s .pre .0 .ready) (a .lp .now) (a .li .now) (s .pre .0 .rows) (a .which) (a .i) (s .pre .3) (a .index .now) (a .spot .at) (a .spot .n) (w .result - getD (a .lp .now) (a .i) 0) (omega (arith, w .ensures)),
+      turns.turned-start (a .off .now) (a .cols .now) (s .pre .0 .at .m) (a .p .now) (s .pre .0 .at .ready) (a .lp .now) (a .li .now) (s .pre .0 .rows) (a .which) (a .i) (s .pre .0 .at .inside) (a .index .now) (a .start) (a .count) (w .result - getD (a .lp .now) (a .i) 0) (omega (arith, w .ensures)),
     )
 
 byte-at-requires : tie.Need-byte-at-requires Inv-loop μ-loop
@@ -43,22 +43,22 @@ byte-at-requires c κs =
     let s = c .before .before .before .before .before .before .before .before .before .before .before in
     let a = s .args in
     let l = c .before .loop in
-    thru.t-in (bit (a .p .now)) (a .lp .now) (a .li .now) (a .m) (s .pre .0 .rows) (a .i) (l .t) (s .pre .3) (l .inv .0) (omega (arith, c .loop-test .taken, c .before .before .before .word-at .ensures))
+    thru.t-in (bit (a .p .now)) (a .lp .now) (a .li .now) (s .pre .0 .at .m) (s .pre .0 .rows) (a .i) (l .t) (s .pre .0 .at .inside) (l .inv .0) (omega (arith, c .loop-test .taken, c .before .before .before .word-at .ensures))
 
 weigh-requires : tie.Need-weigh-requires Inv-loop μ-loop
 weigh-requires c κs =
     let s = c .before .before .before .before .before .before .before .before .before .before .before .before in
     let a = s .args in
     let l = c .before .before .loop in
-    (s .pre .0 .ready, s .pre .0 .grid, s .pre .1, s .pre .3, st.le (a .off .now) (a .cols .now) (a .m) (a .p .now) (s .pre .0 .ready) (a .lp .now) (a .li .now) (s .pre .0 .rows) (a .i) (c .byte-at .result) (l .t) (s .pre .3) (l .inv .0) (omega (arith, c .before .loop-test .taken, c .before .before .before .before .word-at .ensures)) (c .byte-at .ensures))
+    (s .pre .0 .at, st.le (a .off .now) (a .cols .now) (s .pre .0 .at .m) (a .p .now) (s .pre .0 .at .ready) (a .lp .now) (a .li .now) (s .pre .0 .rows) (a .i) (c .byte-at .result) (l .t) (s .pre .0 .at .inside) (l .inv .0) (omega (arith, c .before .loop-test .taken, c .before .before .before .before .word-at .ensures)) (c .byte-at .ensures))
 
 add-n : tie.Need-add-n Inv-loop μ-loop
 add-n c =
     let s = c .before .before .before .before .before .before .before .before .before .before .before .before .before in
     let a = s .args in
     let l = c .before .before .before .loop in
-    let few = turns.turn-few (a .off .now) (a .cols .now) (a .m) (a .p .now) (s .pre .0 .ready) (a .lp .now) (a .li .now) (s .pre .0 .rows) (a .which) (a .i) (s .pre .3) (l .t) (c .before .byte-at .result) (l .inv .0) (omega (arith, c .before .before .loop-test .taken, c .before .before .before .before .before .word-at .ensures)) (c .before .byte-at .ensures) (a .index .now) (l .index) (a .spot .at) (l .at) (a .spot .n) (l .n) (l .inv .3) (omega (arith, s .pre .3, s .pre .0 .rows .few)) in
-    omega (arith, few, l .inv .3 .small, s .pre .2 .few, s .pre .3, s .pre .0 .rows .few, c .weigh .ensures .1)
+    let few = turns.turn-few (a .off .now) (a .cols .now) (s .pre .0 .at .m) (a .p .now) (s .pre .0 .at .ready) (a .lp .now) (a .li .now) (s .pre .0 .rows) (a .which) (a .i) (s .pre .0 .at .inside) (l .t) (c .before .byte-at .result) (l .inv .0) (omega (arith, c .before .before .loop-test .taken, c .before .before .before .before .before .word-at .ensures)) (c .before .byte-at .ensures) (a .index .now) (l .index) (a .start) (l .at) (a .count) (l .n) (l .inv .3) (omega (arith, s .pre .0 .at .inside, s .pre .0 .rows .few)) in
+    omega (arith, few, l .inv .3 .small, s .pre .1 .few, s .pre .0 .at .inside, s .pre .0 .rows .few, c .weigh .ensures .1)
 
 put-piece-requires : tie.Need-put-piece-requires Inv-loop μ-loop
 put-piece-requires c κs =
@@ -69,14 +69,12 @@ put-piece-requires c κs =
     let up : l .t < getD (a .lp .now) (a .i + 1) 0 = omega (arith, c .before .before .before .loop-test .taken, c .before .before .before .before .before .before .word-at .ensures) in (
       s .pre .0,
       record {
-        inside = s .pre .3;
         first = l .inv .0;
         last = up;
         column = j .ensures;
-        count = turns.turn-count (a .off .now) (a .cols .now) (a .m) (a .p .now) (s .pre .0 .ready) (a .lp .now) (a .li .now) (s .pre .0 .rows) (a .which) (a .i) (s .pre .3) (l .t) (j .result) (l .inv .0) up (j .ensures) (a .index .now) (l .index) (a .spot .at) (l .at) (a .spot .n) (l .n) (l .inv .3) (c .before .weigh .result) (s .pre .2 .count) (c .before .weigh .ensures .0);
+        count = turns.turn-count (a .off .now) (a .cols .now) (s .pre .0 .at .m) (a .p .now) (s .pre .0 .at .ready) (a .lp .now) (a .li .now) (s .pre .0 .rows) (a .which) (a .i) (s .pre .0 .at .inside) (l .t) (j .result) (l .inv .0) up (j .ensures) (a .index .now) (l .index) (a .start) (l .at) (a .count) (l .n) (l .inv .3) (c .before .weigh .result) (s .pre .1 .count) (c .before .weigh .ensures .0);
       },
-      s .pre .1,
-      turns.turn-room (a .off .now) (a .cols .now) (a .m) (a .p .now) (s .pre .0 .ready) (a .lp .now) (a .li .now) (s .pre .0 .rows) (a .which) (a .i) (s .pre .3) (l .t) (j .result) (l .inv .0) up (j .ensures) (a .index .now) (l .index) (a .spot .at) (l .at) (a .spot .n) (l .n) (l .inv .3) (length (l .index)) (omega (arith, s .pre .4, l .inv .2)),
+      turns.turn-room (a .off .now) (a .cols .now) (s .pre .0 .at .m) (a .p .now) (s .pre .0 .at .ready) (a .lp .now) (a .li .now) (s .pre .0 .rows) (a .which) (a .i) (s .pre .0 .at .inside) (l .t) (j .result) (l .inv .0) up (j .ensures) (a .index .now) (l .index) (a .start) (l .at) (a .count) (l .n) (l .inv .3) (length (l .index)) (omega (arith, s .pre .2, l .inv .2)),
     )
 
 add-t : tie.Need-add-t Inv-loop μ-loop
@@ -84,7 +82,7 @@ add-t c =
     let s = c .before .before .before .before .before .before .before .before .before .before .before .before .before .before .before .before .before in
     let a = s .args in
     let l = c .before .before .before .before .before .before .before .loop in
-    omega (arith, c .before .before .before .before .before .before .loop-test .taken, c .before .before .before .before .before .before .before .before .before .word-at .ensures, law.rows-fit (bit (a .p .now)) (a .lp .now) (a .li .now) (a .m) (s .pre .0 .rows) (a .i + 1) (omega (arith, s .pre .3)), s .pre .0 .rows .short)
+    omega (arith, c .before .before .before .before .before .before .loop-test .taken, c .before .before .before .before .before .before .before .before .before .word-at .ensures, law.rows-fit (bit (a .p .now)) (a .lp .now) (a .li .now) (s .pre .0 .at .m) (s .pre .0 .rows) (a .i + 1) (omega (arith, s .pre .0 .at .inside)), s .pre .0 .rows .short)
 
 loop-less : tie.Need-loop-less Inv-loop μ-loop
 loop-less c = omega (arith, c .before .before .before .before .before .before .loop-test .taken)
@@ -99,8 +97,8 @@ loop-again c =
     let up : l .t < getD (a .lp .now) (a .i + 1) 0 = omega (arith, c .before .before .before .before .before .before .loop-test .taken, c .before .before .before .before .before .before .before .before .before .word-at .ensures) in (
       omega (arith, l .inv .0),
       omega (arith, up),
-      q .kept .1 .1 .1 .1 .1 .1 .1 .1 .1 .1 .0 ∙ l .inv .2,
-      turns.turn-next (a .off .now) (a .cols .now) (a .m) (a .p .now) (s .pre .0 .ready) (a .lp .now) (a .li .now) (s .pre .0 .rows) (a .which) (a .i) (s .pre .3) (l .t) (j .result) (l .inv .0) up (j .ensures) (a .index .now) (l .index) (a .spot .at) (l .at) (a .spot .n) (l .n) (l .inv .3) (q .last .1 .1 .1 .1 .1 .1 .1 .1 .1 .1 .0) (c .before .before .before .before .weigh .result) (q .result) (c .before .before .before .before .weigh .ensures .0) (c .before .before .before .before .weigh .ensures .1) (q .ensures),
+      q .kept .1 .1 .1 .1 .1 .1 .1 .1 .1 .1 .1 .0 ∙ l .inv .2,
+      turns.turn-next (a .off .now) (a .cols .now) (s .pre .0 .at .m) (a .p .now) (s .pre .0 .at .ready) (a .lp .now) (a .li .now) (s .pre .0 .rows) (a .which) (a .i) (s .pre .0 .at .inside) (l .t) (j .result) (l .inv .0) up (j .ensures) (a .index .now) (l .index) (a .start) (l .at) (a .count) (l .n) (l .inv .3) (q .last .1 .1 .1 .1 .1 .1 .1 .1 .1 .1 .1 .0) (c .before .before .before .before .weigh .result) (q .result) (c .before .before .before .before .weigh .ensures .0) (c .before .before .before .before .weigh .ensures .1) (q .ensures),
     )
 
 same-length : tie.Need-same-length Inv-loop μ-loop
@@ -111,7 +109,7 @@ returns c =
     let s = c .before .before .before .before .before .before .before .before .before .before .before in
     let a = s .args in
     let l = c .before .loop in
-    let r = turns.turned-end (a .off .now) (a .cols .now) (a .m) (a .p .now) (s .pre .0 .ready) (a .lp .now) (a .li .now) (s .pre .0 .rows) (a .which) (a .i) (s .pre .3) (a .index .now) (l .index) (a .spot .at) (l .at) (a .spot .n) (l .n) (l .t) (omega (arith, l .inv .1, c .loop-test .left, c .before .before .before .word-at .ensures)) (s .pre .2 .count) (s .pre .2 .few) (l .inv .3) in
+    let r = turns.turned-end (a .off .now) (a .cols .now) (s .pre .0 .at .m) (a .p .now) (s .pre .0 .at .ready) (a .lp .now) (a .li .now) (s .pre .0 .rows) (a .which) (a .i) (s .pre .0 .at .inside) (a .index .now) (l .index) (a .start) (l .at) (a .count) (l .n) (l .t) (omega (arith, l .inv .1, c .loop-test .left, c .before .before .before .word-at .ensures)) (s .pre .1 .count) (s .pre .1 .few) (l .inv .3) in
     (r .0, record { count = r .1; few = r .2 })
 
 pub fill-row-spec : {M : Type 1} → statement M

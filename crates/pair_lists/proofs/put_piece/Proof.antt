@@ -17,7 +17,7 @@ word-requires : tie.Need-word-requires
 word-requires c κs =
     let s = c .before .before .before .before .before .before .before .before .before .before in
     let t = c .before .enum-told .given .1 in
-    omega (arith, s .pre .3, ap length (law.of-AnormIndptr (s .pre .0) (s .pre .1) t))
+    omega (arith, s .pre .2, ap length (law.of-AnormIndptr (s .pre .0) (s .pre .1) t))
 
 enum-told-2 : tie.Need-enum-told-2
 enum-told-2 c = search needs
@@ -26,9 +26,8 @@ put-shared-requires : tie.Need-put-shared-requires
 put-shared-requires c κs =
     let s = c .before .before .before .before .before .before .before .before .before .before in
     let t = c .before .enum-told2 .given .1 in (
-      record { grid = s .pre .0 .grid; inside = s .pre .1 .inside; long = s .pre .2 .long; marks = s .pre .2 .marks (ap marksRead t) },
-      law.below (s .pre .0) (s .pre .1) .0,
-      omega (arith, s .pre .3, ap length (law.of-AnormIndptrI (s .pre .0) (s .pre .1) t)),
+      law.marked (s .pre .0) (s .pre .1) (ap marksRead t),
+      omega (arith, s .pre .2, ap length (law.of-AnormIndptrI (s .pre .0) (s .pre .1) t)),
     )
 
 enum-told-3 : tie.Need-enum-told-3
@@ -38,9 +37,8 @@ put-shared-requires-2 : tie.Need-put-shared-requires-2
 put-shared-requires-2 c κs =
     let s = c .before .before .before .before .before .before .before .before .before .before in
     let t = c .before .enum-told3 .given .1 in (
-      record { grid = s .pre .0 .grid; inside = s .pre .1 .inside; long = s .pre .2 .long; marks = s .pre .2 .marks (ap marksRead t) },
-      law.below (s .pre .0) (s .pre .1) .0,
-      omega (arith, s .pre .3, ap length (law.of-AnormIndptrJ (s .pre .0) (s .pre .1) t)),
+      law.marked (s .pre .0) (s .pre .1) (ap marksRead t),
+      omega (arith, s .pre .2, ap length (law.of-AnormIndptrJ (s .pre .0) (s .pre .1) t)),
     )
 
 enum-told-4 : tie.Need-enum-told-4
@@ -50,9 +48,8 @@ put-shared-requires-3 : tie.Need-put-shared-requires-3
 put-shared-requires-3 c κs =
     let s = c .before .before .before .before .before .before .before .before .before .before in
     let t = c .before .enum-told4 .given .1 in (
-      record { grid = s .pre .0 .grid; inside = s .pre .1 .inside; long = s .pre .2 .long; marks = s .pre .2 .marks (ap marksRead t) },
-      law.below (s .pre .0) (s .pre .1) .0,
-      omega (arith, s .pre .3, ap length (law.of-AnormIndices (s .pre .0) (s .pre .1) t)),
+      law.marked (s .pre .0) (s .pre .1) (ap marksRead t),
+      omega (arith, s .pre .2, ap length (law.of-AnormIndices (s .pre .0) (s .pre .1) t)),
     )
 
 enum-told-5 : tie.Need-enum-told-5
@@ -62,7 +59,7 @@ word-requires-2 : tie.Need-word-requires-2
 word-requires-2 c κs =
     let s = c .before .before .before .before .before .before .before .before .before .before in
     let t = c .before .enum-told5 .given .1 in
-    omega (arith, s .pre .3, ap length (law.of-LdecompIndptr (s .pre .0) (s .pre .1) t))
+    omega (arith, s .pre .2, ap length (law.of-LdecompIndptr (s .pre .0) (s .pre .1) t))
 
 enum-told-6 : tie.Need-enum-told-6
 enum-told-6 c = search needs
@@ -71,13 +68,10 @@ products-requires : tie.Need-products-requires
 products-requires c κs =
     let s = c .before .before .before .before .before .before .before .before .before .before in
     let t = c .before .enum-told6 .given .1 in (
-      s .pre .0 .ready .words,
-      s .pre .0 .rows,
-      s .pre .1 .inside,
+      s .pre .0 .at .ready .words,
+      record { m = s .pre .0 .at .m; rows = s .pre .0 .rows; inside = s .pre .0 .at .inside; first = s .pre .1 .first; last = s .pre .1 .last },
       omega (arith, law.left (s .pre .0) (s .pre .1), law.below (s .pre .0) (s .pre .1) .1),
-      s .pre .1 .first,
-      s .pre .1 .last,
-      omega (arith, s .pre .3, ap length (law.of-LdecompIndptrI (s .pre .0) (s .pre .1) t)),
+      omega (arith, s .pre .2, ap length (law.of-LdecompIndptrI (s .pre .0) (s .pre .1) t)),
     )
 
 enum-told-7 : tie.Need-enum-told-7
@@ -104,13 +98,10 @@ products-requires-2 c κs =
     let t = c .before .before .enum-told7 .given .1 in
     let x = c .before .word-at in
     let l = law.ends (s .pre .0) (s .pre .1) in (
-      s .pre .0 .ready .words,
-      s .pre .0 .rows,
-      law.below (s .pre .0) (s .pre .1) .0,
+      s .pre .0 .at .ready .words,
+      record { m = s .pre .0 .at .m; rows = s .pre .0 .rows; inside = law.below (s .pre .0) (s .pre .1) .0; first = omega (arith, l .low, x .ensures); last = omega (arith, l .high, l .some, x .ensures) },
       law.below (s .pre .0) (s .pre .1) .1,
-      omega (arith, l .low, x .ensures),
-      omega (arith, l .high, l .some, x .ensures),
-      omega (arith, s .pre .3, ap length (law.of-LdecompIndptrJ (s .pre .0) (s .pre .1) t (x .result - 1) (ap (λ (y : ℕ). y - 1) (x .ensures)))),
+      omega (arith, s .pre .2, ap length (law.of-LdecompIndptrJ (s .pre .0) (s .pre .1) t (x .result - 1) (ap (λ (y : ℕ). y - 1) (x .ensures)))),
     )
 
 enum-told-8 : tie.Need-enum-told-8
@@ -130,7 +121,7 @@ keep-requires : tie.Need-keep-requires
 keep-requires c κs =
     let s = c .before .before .before .before .before .before .before .before .before .before in
     let t = c .before .enum-told8 .given .1 in
-    omega (arith, s .pre .3, ap length (law.of-Lindptr (s .pre .0) (s .pre .1) t))
+    omega (arith, s .pre .2, ap length (law.of-Lindptr (s .pre .0) (s .pre .1) t))
 
 enum-told-9 : tie.Need-enum-told-9
 enum-told-9 c = search needs
@@ -144,7 +135,7 @@ keep-requires-2 : tie.Need-keep-requires-2
 keep-requires-2 c κs =
     let s = c .before .before .before .before .before .before .before .before .before .before in
     let t = c .before .enum-told9 .given .1 in
-    omega (arith, s .pre .3, ap length (law.of-LdiagIndptr (s .pre .0) (s .pre .1) t))
+    omega (arith, s .pre .2, ap length (law.of-LdiagIndptr (s .pre .0) (s .pre .1) t))
 
 enum-told-10 : tie.Need-enum-told-10
 enum-told-10 c = search needs
@@ -158,7 +149,7 @@ word-requires-3 : tie.Need-word-requires-3
 word-requires-3 c κs =
     let s = c .before .before .before .before .before .before .before .before .before .before in
     let t = c .before .enum-told10 .given .1 in
-    omega (arith, s .pre .3, ap length (law.of-Lindices (s .pre .0) (s .pre .1) t))
+    omega (arith, s .pre .2, ap length (law.of-Lindices (s .pre .0) (s .pre .1) t))
 
 same-length : tie.Need-same-length
 same-length c = search needs

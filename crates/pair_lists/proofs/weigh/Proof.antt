@@ -14,25 +14,25 @@ enum-told : tie.Need-enum-told
 enum-told c = search needs
 
 count-shared-requires : tie.Need-count-shared-requires
-count-shared-requires c κs = let s = c .before .before .before .before .before .before in (record { grid = s .pre .1; inside = s .pre .3; long = s .pre .2 .long; marks = s .pre .2 .marks (ap marksRead (c .enum-told .given .1)) }, omega (arith, s .pre .3, s .pre .4))
+count-shared-requires c κs = let s = c .before .before .before .before .before .before in let g = s .pre .0 in record { m = g .m; wide = g .wide; grid = g .grid; inside = g .inside; other = omega (arith, g .inside, s .pre .1); long = g .long; marks = g .marks (ap marksRead (c .enum-told .given .1)) }
 
 cast-result : tie.Need-cast-result
-cast-result c = omega (arith, c .count-shared .ensures .1, c .before .before .before .before .before .before .before .pre .0 .csr .nnz)
+cast-result c = omega (arith, c .count-shared .ensures .1, c .before .before .before .before .before .before .before .pre .0 .ready .csr .nnz)
 
 enum-told-2 : tie.Need-enum-told-2
 enum-told-2 c = search needs
 
 both-ones-requires : tie.Need-both-ones-requires
-both-ones-requires c κs = let s = c .before .before .before .before .before .before in (s .pre .0 .words, omega (arith, s .pre .3, s .pre .0 .csr .few), omega (arith, s .pre .3, s .pre .4, s .pre .0 .csr .few))
+both-ones-requires c κs = let s = c .before .before .before .before .before .before in (s .pre .0 .ready .words, omega (arith, s .pre .0 .inside, s .pre .0 .ready .csr .few), omega (arith, s .pre .0 .inside, s .pre .1, s .pre .0 .ready .csr .few))
 
 test-requires : tie.Need-test-requires
-test-requires c κs = let s = c .before .before .before .before .before .before .before in (s .pre .0 .words, omega (arith, s .pre .3, s .pre .0 .csr .few), omega (arith, s .pre .3, s .pre .4, s .pre .0 .csr .few))
+test-requires c κs = let s = c .before .before .before .before .before .before .before in (s .pre .0 .ready .words, omega (arith, s .pre .0 .inside, s .pre .0 .ready .csr .few), omega (arith, s .pre .0 .inside, s .pre .1, s .pre .0 .ready .csr .few))
 
 sub-result : tie.Need-sub-result
 sub-result c =
     let s = c .before .before .before .before .before .before .before .before .before in
     let b = ap one (sym (c .before .test .ensures) ∙ c .if1 .taken) in
-    omega (arith, b, both-weight (s .args .off .now) (s .args .cols .now) (s .args .m) (s .args .p .now) (s .pre .0) (s .args .i) (s .args .j) (s .pre .3) (s .pre .4), c .before .before .both-ones .ensures .0)
+    omega (arith, b, both-weight (s .args .off .now) (s .args .cols .now) (s .pre .0 .m) (s .args .p .now) (s .pre .0 .ready) (s .args .i) (s .args .j) (s .pre .0 .inside) (s .pre .1), c .before .before .both-ones .ensures .0)
 
 enum-told-3 : tie.Need-enum-told-3
 enum-told-3 c = search needs
@@ -63,7 +63,7 @@ unfolding weight
 returns c =
     let s = c .before .before .before .before .before .before .before in (
       c .count-shared .ensures .0 ∙ ap (λ (w : Which). weight (shape (s .args .off .now) (s .args .cols .now)) w (s .args .i) (s .args .j)) (sym (c .before .enum-told .given .1)),
-      omega (arith, c .count-shared .ensures .1, s .pre .0 .csr .nnz),
+      omega (arith, c .count-shared .ensures .1, s .pre .0 .ready .csr .nnz),
     )
 
 returns-2 : tie.Need-returns-2
@@ -71,14 +71,14 @@ returns-2 c =
     let s = c .before .before .before .before .before .before .before .before .before in
     let e = ap (λ (w : Which). weight (shape (s .args .off .now) (s .args .cols .now)) w (s .args .i) (s .args .j)) (c .before .before .before .enum-told2 .given .1) in
     let b = ap one (sym (c .before .test .ensures) ∙ c .if1 .taken) in
-    (omega (arith, e, b, both-weight (s .args .off .now) (s .args .cols .now) (s .args .m) (s .args .p .now) (s .pre .0) (s .args .i) (s .args .j) (s .pre .3) (s .pre .4), c .before .before .both-ones .ensures .0), omega (arith, c .before .before .both-ones .ensures .1))
+    (omega (arith, e, b, both-weight (s .args .off .now) (s .args .cols .now) (s .pre .0 .m) (s .args .p .now) (s .pre .0 .ready) (s .args .i) (s .args .j) (s .pre .0 .inside) (s .pre .1), c .before .before .both-ones .ensures .0), omega (arith, c .before .before .both-ones .ensures .1))
 
 returns-3 : tie.Need-returns-3
 returns-3 c =
     let s = c .before .before .before .before .before .before .before .before .before in
     let e = ap (λ (w : Which). weight (shape (s .args .off .now) (s .args .cols .now)) w (s .args .i) (s .args .j)) (c .before .before .before .enum-told2 .given .1) in
     let b = ap one (sym (c .before .test .ensures) ∙ c .if1 .left) in
-    (omega (arith, e, b, both-weight (s .args .off .now) (s .args .cols .now) (s .args .m) (s .args .p .now) (s .pre .0) (s .args .i) (s .args .j) (s .pre .3) (s .pre .4), c .before .before .both-ones .ensures .0), omega (arith, c .before .before .both-ones .ensures .1))
+    (omega (arith, e, b, both-weight (s .args .off .now) (s .args .cols .now) (s .pre .0 .m) (s .args .p .now) (s .pre .0 .ready) (s .args .i) (s .args .j) (s .pre .0 .inside) (s .pre .1), c .before .before .both-ones .ensures .0), omega (arith, c .before .before .both-ones .ensures .1))
 
 returns-4 : tie.Need-returns-4
 unfolding weight
