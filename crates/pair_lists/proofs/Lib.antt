@@ -4,3 +4,4 @@ pub mod Through
 pub mod Stored
 pub mod Pieces
 pub mod Turns
+pub mod Diagonal

@@ -1,6 +1,6 @@
 -- The turns of a row's loop over its stored pairs. Assumes nothing.
 use mathlib.Core.Path.{_≡_, refl, sym, ap, ap₂, _∙_, subst}
-use mathlib.Core.Bool.{Bool, false}
+use mathlib.Core.Bool.{Bool, true, false}
 use mathlib.Core.List.{List, [], _∷_, _++_}
 use Prim.Native.Nat.{ℕ, suc, _+_, _-_, _*_, _<_, _≤_}
 use native.Mathlib.Omega.{arith}
@@ -15,7 +15,10 @@ use Rattle.lists.specs.Ready.{Ready}
 use Rattle.lists.specs.declared.Which.{Which}
 use Rattle.base.proofs.Write.{cat-room, wrote-join, wrote-as, pairs-next}
 use Rattle.lists.proofs.Counts.{bit-held, before-next, before-row}
-use Rattle.pair_lists.specs.Kept.{kept, Rows}
+use Rattle.base.proofs.Sums.{sum-zero}
+use Rattle.pair_lists.specs.Kept.{kept, Rows, diagonalOnly}
+use Rattle.pair_lists.proofs.Stored.{Last, last-of}
+use Rattle.pair_lists.proofs.Diagonal.{cat-none, left-silent, left-weightless}
 use Rattle.pair_lists.proofs.Lists.{rows-up, kept-short}
 use Rattle.pair_lists.proofs.Through.{over, total, over-snoc, total-snoc, over-kept, total-kept, q-in, entry-is, entry-below, part-kept, silent, weightless}
 
@@ -87,6 +90,27 @@ module _ (off cols : List ℕ) (m : ℕ) (p : List ℕ) (ready : Ready off cols 
         counted = omega (arith, u .counted, ap (λ (y : List ℕ). total y c) one-more, total-snoc (take (t - getD lp i 0) l) j c);
         small = omega (arith, u .small);
       }
+
+  -- in a row from its last stored pair on, if the list has the diagonal alone
+  turned-last : (a : List ℕ) (start n t : ℕ) → diagonalOnly w ≡ true → t ≡ getD lp (i + 1) 0 - 1 → Turned off cols p w i a a start start n n (t - getD lp i 0)
+  turned-last a start n t d z =
+      let s = last-of off cols m p ready lp li v i hi in
+      let lo : getD lp i 0 ≤ t = omega (arith, s .low) in
+      let up : t < getD lp (i + 1) 0 = omega (arith, s .high) in
+      let e : i ≡ getD li t 0 = sym (s .is) ∙ ap (λ (x : ℕ). getD li x 0) (sym z) in
+      record {
+        wrote = wrote-as a a start start _ _ (sym (so-far t i lo up e ∙ cat-none i f (λ k b. left-silent off cols i k b w d))) (record { is = refl; next = omega arith });
+        counted = omega (arith, so-much t i lo up e, sum-zero i c (λ k b. left-weightless off cols i k b w d));
+        small = omega arith;
+      }
+
+  pub turned-from : (a : List ℕ) (start n t : ℕ) → (diagonalOnly w ≡ true → t ≡ getD lp (i + 1) 0 - 1) → (diagonalOnly w ≡ false → t ≡ getD lp i 0)
+      → (getD lp i 0 ≤ t) × (t ≤ getD lp (i + 1) 0) × Turned off cols p w i a a start start n n (t - getD lp i 0)
+  turned-from a start n t x y = go (diagonalOnly w) refl
+    where
+      go : (b : Bool) → diagonalOnly w ≡ b → (getD lp i 0 ≤ t) × (t ≤ getD lp (i + 1) 0) × Turned off cols p w i a a start start n n (t - getD lp i 0)
+      go true d = (omega (arith, x d, last-of off cols m p ready lp li v i hi .low), omega (arith, x d), turned-last a start n t d (x d))
+      go false d = (omega (arith, y d), omega (arith, y d, rows-up (bit p) lp li m v i hi), turned-start a start n (t - getD lp i 0) (omega (arith, y d)))
 
   pub turned-end : (a b : List ℕ) (start at n₀ n t : ℕ) → t ≡ getD lp (i + 1) 0 → n₀ ≡ before (weight (shape off cols) w) i 0 → n₀ ≤ 4210688 * i → Turned off cols p w i a b start at n₀ n (t - getD lp i 0)
       → Wrote a b start (cat (i + 1) f) at × (n ≡ before (weight (shape off cols) w) (i + 1) 0) × (n ≤ 4210688 * (i + 1))

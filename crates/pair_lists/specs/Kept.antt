@@ -45,3 +45,16 @@ marksRead LdecompIndptrJ = false
 marksRead Lindptr = false
 marksRead LdiagIndptr = false
 marksRead Lindices = false
+
+-- the lists that have a word for each diagonal entry alone
+abbrev pub diagonalOnly : Which → Bool
+diagonalOnly AnormIndptr = false
+diagonalOnly AnormIndptrI = false
+diagonalOnly AnormIndptrJ = false
+diagonalOnly AnormIndices = false
+diagonalOnly LdecompIndptr = false
+diagonalOnly LdecompIndptrI = false
+diagonalOnly LdecompIndptrJ = false
+diagonalOnly Lindptr = true
+diagonalOnly LdiagIndptr = true
+diagonalOnly Lindices = false

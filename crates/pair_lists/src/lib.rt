@@ -1,14 +1,14 @@
 // The ten lists that are written pair by pair, for the stored pairs of the factor.
 ghost use mathlib.Core.Path.{_≡_};
 ghost use mathlib.Core.Bool.{true, false};
-ghost use Prim.Native.Nat.{ℕ, suc, _+_, _<_, _≤_};
+ghost use Prim.Native.Nat.{ℕ, suc, _+_, _-_, _<_, _≤_};
 ghost use lib.ListN.{length, getD};
 ghost use Rattle.pattern.specs.Word.{bit};
 ghost use Rattle.base.specs.Sums.{sum};
 ghost use Rattle.base.specs.Cat.{Wrote, cat};
 ghost use Rattle.base.specs.Numbers.{Below};
 ghost use Rattle.lists.specs.Lists.{shape, walkOf, piece, weight, listOf, tenOf};
-ghost use Rattle.pair_lists.specs.Kept.{kept, Rows, placesOf, marksRead};
+ghost use Rattle.pair_lists.specs.Kept.{kept, Rows, placesOf, marksRead, diagonalOnly};
 ghost use Rattle.pair_lists.specs.Listing.{Listing, RowReady, RowListing, InRow, Counting, AtPair};
 ghost use Rattle.shared_columns.specs.Marked.{Marked};
 ghost use Rattle.transpose.specs.Bins.{Grid};
@@ -190,6 +190,37 @@ pub fn put_piece(
     }
 }
 
+// Does a list have the diagonal alone?
+fn on_diagonal(which: Which) -> bool
+    ensures { λ r. ⌜ r ≡ diagonalOnly which ⌝ }
+{
+    match which {
+        Which::AnormIndptr => false,
+        Which::AnormIndptrI => false,
+        Which::AnormIndptrJ => false,
+        Which::AnormIndices => false,
+        Which::LdecompIndptr => false,
+        Which::LdecompIndptrI => false,
+        Which::LdecompIndptrJ => false,
+        Which::Lindptr => true,
+        Which::LdiagIndptr => true,
+        Which::Lindices => false,
+    }
+}
+
+// The first stored pair of row i that a list looks at. The diagonal is the row's last.
+fn row_first(which: Which, lp: &[u32], i: usize) -> usize
+    requires { ⌜ (i + 1 < length (now lp)) × (1 ≤ getD (now lp) (i + 1) 0) ⌝ }
+    ensures last { λ r. ⌜ (diagonalOnly which ≡ true → r ≡ getD (now (lp .entry)) (i + 1) 0 - 1) ⌝ }
+    ensures first { λ r. ⌜ (diagonalOnly which ≡ false → r ≡ getD (now (lp .entry)) i 0) ⌝ }
+{
+    if on_diagonal(which) {
+        word_at(lp, i + 1) - 1
+    } else {
+        word_at(lp, i)
+    }
+}
+
 // Where a list goes on, and what it has counted.
 pub struct Spot {
     pub at: usize,
@@ -216,7 +247,7 @@ pub fn fill_row(
     let b = word_at(lp, i + 1);
     let mut at = start;
     let mut n = count;
-    let mut t = word_at(lp, i);
+    let mut t = row_first(which, lp, i);
     while t < b {
         let j = byte_at(li, t);
         n += weigh(which, off, cols, p, mark, i, j);

@@ -24,19 +24,19 @@ add-word-at c = let s = c .before .before .before .before .before .before .befor
 word-at-requires : tie.Need-word-at-requires Inv-loop μ-loop
 word-at-requires c κs = let s = c .before .before .before .before .before .before .before in omega (arith, s .pre .0 .at .inside, s .pre .0 .rows .offsets)
 
-word-at-requires-2 : tie.Need-word-at-requires-2 Inv-loop μ-loop
-word-at-requires-2 c κs = let s = c .before .before .before .before .before .before .before .before in omega (arith, s .pre .0 .at .inside, s .pre .0 .rows .offsets)
+row-first-requires : tie.Need-row-first-requires Inv-loop μ-loop
+row-first-requires c κs =
+    let s = c .before .before .before .before .before .before .before .before in
+    let a = s .args in
+    (omega (arith, s .pre .0 .at .inside, s .pre .0 .rows .offsets), st.last-of (a .off .now) (a .cols .now) (s .pre .0 .at .m) (a .p .now) (s .pre .0 .at .ready) (a .lp .now) (a .li .now) (s .pre .0 .rows) (a .i) (s .pre .0 .at .inside) .some)
 
 loop-holds : tie.Need-loop-holds Inv-loop μ-loop
 loop-holds c =
     let s = c .before .before .before .before .before .before .before .before .before in
     let a = s .args in
-    let w = c .word-at2 in (
-      omega (arith, w .ensures),
-      omega (arith, w .ensures, law.rows-up (bit (a .p .now)) (a .lp .now) (a .li .now) (s .pre .0 .at .m) (s .pre .0 .rows) (a .i) (s .pre .0 .at .inside)),
-      refl,
-      turns.turned-start (a .off .now) (a .cols .now) (s .pre .0 .at .m) (a .p .now) (s .pre .0 .at .ready) (a .lp .now) (a .li .now) (s .pre .0 .rows) (a .which) (a .i) (s .pre .0 .at .inside) (a .index .now) (a .start) (a .count) (w .result - getD (a .lp .now) (a .i) 0) (omega (arith, w .ensures)),
-    )
+    let w = c .row-first in
+    let h = turns.turned-from (a .off .now) (a .cols .now) (s .pre .0 .at .m) (a .p .now) (s .pre .0 .at .ready) (a .lp .now) (a .li .now) (s .pre .0 .rows) (a .which) (a .i) (s .pre .0 .at .inside) (a .index .now) (a .start) (a .count) (w .result) (w .ensures .0) (w .ensures .1) in
+    (h .0, h .1, refl, h .2)
 
 byte-at-requires : tie.Need-byte-at-requires Inv-loop μ-loop
 byte-at-requires c κs =
@@ -120,7 +120,7 @@ fill-row-spec =
     μ-loop
     add-word-at
     word-at-requires
-    word-at-requires-2
+    row-first-requires
     loop-holds
     byte-at-requires
     weigh-requires
