@@ -16,7 +16,7 @@ use Rattle.csr.specs.Counts.{common, isStored, countE, countS, countD, sizeW}
 use Rattle.base.proofs.Sums.{sum-ext, sum-add, sum-zero, sum-plus, sum-swap, sum-ones, sum-once}
 use Rattle.csr.proofs.Rows.{row-is}
 use Rattle.base.specs.Cat.{cat, pick, pairs}
-use Rattle.lists.specs.Ready.{Accepted}
+use Rattle.csr.specs.Csr.{Accepted}
 use Rattle.lists.specs.Lists.{shape, weight, lplace, place, before, piece, listOf, shared, products, holds, entry, inColumn, column, columnEnds, columns, endsOf, columnsOf, sideOf, tenOf, planOf, field}
 use Rattle.lists.proofs.Whole.{plan-parts, three-length, side-is}
 use Rattle.lists.specs.declared.Which.{Which}

@@ -18,7 +18,7 @@ use Rattle.transpose.specs.Bins.{Grid}
 use Rattle.lists.specs.declared.Take.{Take}
 use Rattle.lists.proofs.Merge.{both-eq, both-lt, both-gt, both-nil}
 use Rattle.base.proofs.Numbers.{find-at, below-at, length-takes, below-more}
-use Rattle.lists.proofs.Pieces.{map-join, map-pick}
+use Rattle.base.proofs.Maps.{map-join, map-pick}
 use Rattle.csr.proofs.Has.{has-last}
 use Rattle.shared_columns.specs.Marked.{alongOf, Marked, hit}
 use Rattle.base.proofs.Bools.{or-nil, or-true}

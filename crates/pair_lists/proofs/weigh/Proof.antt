@@ -5,7 +5,7 @@ use Rattle.base.specs.Sums.{one}
 use Rattle.lists.specs.declared.Which.{Which}
 use Rattle.pair_lists.specs.Kept.{marksRead}
 use Rattle.lists.specs.Lists.{weight, shape}
-use Rattle.lists.proofs.Counts.{both-weight}
+use Rattle.pair_lists.proofs.Bits.{both-weight}
 use borrow.Author.Needs.{needs}
 use Rattle.pair_lists.proofs.weigh.Statement.{statement}
 use Rattle.pair_lists.proofs.weigh.Tie as tie

@@ -4,9 +4,8 @@ use mathlib.Core.List.{List}
 use Prim.Native.Nat.{ℕ, _<_}
 use lib.ListN.{length}
 use Rattle.csr.specs.Csr.{Csr}
-pub use Rattle.csr.specs.Csr.{Accepted}
 use Rattle.csr.specs.Pattern.{neighbours}
 use Rattle.pattern.specs.Word.{Done}
 
 pub record Ready (off cols : List ℕ) (m : ℕ) (p : List ℕ) : Type 0 where
   pub csr : Csr off cols m
