@@ -176,12 +176,14 @@ module _ (h : ℕ → ℕ → Bool) (lindptr lindices : List ℕ) (m : ℕ) (v :
 
   pub rows-grid : Grid lindptr lindices m m
   rows-grid = record {
-    offsets = v .offsets;
-    few = v .few;
-    order = λ i l. omega (arith, rows-up i l);
-    ends = rows-fit;
-    rising = λ i l. subst Rising (sym (v .rows i l)) (kept-rising (h i) (i + 1));
-    nnz = v .short;
+    csr = record {
+      offsets = v .offsets;
+      few = v .few;
+      order = λ i l. omega (arith, rows-up i l);
+      ends = rows-fit;
+      rising = λ i l. subst Rising (sym (v .rows i l)) (kept-rising (h i) (i + 1));
+    };
+    short = v .short;
     wide = omega (arith, v .few);
     within = λ i l. subst (Below m) (sym (v .rows i l)) (kept-in (h i) (i + 1) m (omega arith));
   }
