@@ -31,8 +31,30 @@ pub fn put_plan(
     ensures { λ r. ⌜ Wrote (now (index .entry)) (now (index .exit)) 0 (planOf (shape (now (off .entry)) (now (cols .entry))) m n) r ⌝ }
 {
     let a = pair_lists::put_ten(off, cols, m, p, lindptr, lindices, n, mark, index, 0);
-    let b = transpose::transpose(Side::Factor, lindptr, cols, lindices, m, m, next, again, index, a);
-    transpose::transpose(Side::Matrix, off, cols, lindices, m, n, next, again, index, b)
+    let b = transpose::transpose(
+        Side::Factor,
+        lindptr,
+        cols,
+        lindices,
+        m,
+        m,
+        next,
+        again,
+        index,
+        a,
+    );
+    transpose::transpose(
+        Side::Matrix,
+        off,
+        cols,
+        lindices,
+        m,
+        n,
+        next,
+        again,
+        index,
+        b,
+    )
 }
 
 // E, S and D.
@@ -105,7 +127,19 @@ fn plan_in(
     if index.len() < words(m, n, columns.len(), t) {
         return t;
     }
-    put_plan(offsets, columns, m, n, &p, lindptr, lindices, mark, next, again, index);
+    put_plan(
+        offsets,
+        columns,
+        m,
+        n,
+        &p,
+        lindptr,
+        lindices,
+        mark,
+        next,
+        again,
+        index,
+    );
     t
 }
 

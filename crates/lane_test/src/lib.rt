@@ -249,6 +249,17 @@ pub fn test(
     let atindices = plan.atindices(index);
     let atmap = plan.atmap(index);
     let r = primal_feasibility(off, cols, vals, b, block, work, width, mem, rdiv);
-    let q = dual_feasibility(atindptr, atindices, atmap, vals, c, block, work, width, mem, qdiv);
+    let q = dual_feasibility(
+        atindptr,
+        atindices,
+        atmap,
+        vals,
+        c,
+        block,
+        work,
+        width,
+        mem,
+        qdiv,
+    );
     judge4(r, q, gap_in(g, nx, ny), mu, tol, block, width)
 }

@@ -5,6 +5,7 @@ use mathlib.Core.List.{List}
 use Prim.Native.Nat.{ℕ, suc, _*_, _<_, _≤_}
 use native.Mathlib.Omega.{arith}
 use native.Mathlib.Nat.{mul-le-mul-right}
+use lib.ListN.{length}
 use Rattle.base.specs.Sums.{sum, one}
 use Rattle.base.proofs.Sums.{sum-le, sum-times, sum-more, count-le}
 use Rattle.csr.specs.Pattern.{row}

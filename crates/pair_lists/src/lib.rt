@@ -251,7 +251,21 @@ pub fn fill_row(
     while t < b {
         let j = byte_at(lindices, t);
         n += weigh(which, off, cols, p, mark, i, j);
-        at = put_piece(which, off, cols, p, lindptr, lindices, mark, i, j, t, n, index, at);
+        at = put_piece(
+            which,
+            off,
+            cols,
+            p,
+            lindptr,
+            lindices,
+            mark,
+            i,
+            j,
+            t,
+            n,
+            index,
+            at,
+        );
         t += 1;
     }
     Spot { at, n }
@@ -279,7 +293,19 @@ pub fn fill(
     let mut i: usize = 0;
     while i < m {
         mark_for(which, off, cols, m, wide, i, mark);
-        let s = fill_row(which, off, cols, p, lindptr, lindices, mark, i, n, index, at);
+        let s = fill_row(
+            which,
+            off,
+            cols,
+            p,
+            lindptr,
+            lindices,
+            mark,
+            i,
+            n,
+            index,
+            at,
+        );
         at = s.at;
         n = s.n;
         i += 1;

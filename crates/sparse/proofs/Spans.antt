@@ -39,10 +39,10 @@ module _ {m n i : ℕ} {off cols : List ℕ} {vals : List Float} (R : Rows m n o
   pub row-lent : (length (span off vals i) ≡ length (span off cols i)) × ((k : ℕ) → k < length (span off cols i) → getD (span off cols i) k 0 < n)
   row-lent = (span-same (R .csr) i h vals (R .sizes), span-all (R .csr) i h cols (λ (e : ℕ). e < n) refl (R .csr .below))
 
-module _ {n m e : ℕ} {atindptr atindices atmap : List ℕ} {vals : List Float} (C : Cols n m atindptr atindices atmap vals) (h : e < n) where
-  pub col-ends : Ends atindptr e (length atindices) (length atmap)
+module _ {n m e : ℕ} {toff rows places : List ℕ} {vals : List Float} (C : Cols n m toff rows places vals) (h : e < n) where
+  pub col-ends : Ends toff e (length rows) (length places)
   col-ends = record { rises = C .csr .rises e h; first = C .csr .ends e h; second = omega (arith, C .csr .ends e h, C .sizes) }
 
-  pub col-lent : (length (span atindptr atmap e) ≡ length (span atindptr atindices e)) × ((k : ℕ) → k < length (span atindptr atindices e) → getD (span atindptr atindices e) k 0 < m)
-      × ((k : ℕ) → k < length (span atindptr atmap e) → getD (span atindptr atmap e) k 0 < length vals)
-  col-lent = (span-same (C .csr) e h atmap (C .sizes), span-all (C .csr) e h atindices (λ (i : ℕ). i < m) refl (C .csr .below), span-all (C .csr) e h atmap (λ (p : ℕ). p < length vals) (C .sizes) (C .range))
+  pub col-lent : (length (span toff places e) ≡ length (span toff rows e)) × ((k : ℕ) → k < length (span toff rows e) → getD (span toff rows e) k 0 < m)
+      × ((k : ℕ) → k < length (span toff places e) → getD (span toff places e) k 0 < length vals)
+  col-lent = (span-same (C .csr) e h places (C .sizes), span-all (C .csr) e h rows (λ (i : ℕ). i < m) refl (C .csr .below), span-all (C .csr) e h places (λ (p : ℕ). p < length vals) (C .sizes) (C .range))

@@ -20,18 +20,18 @@ lessRow off cols vals u i v = lessAll (span off cols i) (at (span off vals i)) u
 -- v plus, or less, each a·y_i of column e, by the transposed lists
 unfoldable pub plusCol : List ℕ → List ℕ → List ℕ → List Float → List Float → ℕ → Float → Float
 unfolding plusAll
-plusCol atindptr atindices atmap vals y e v = plusAll (span atindptr atindices e) (λ k. at vals (getD (span atindptr atmap e) k 0)) y v
+plusCol toff rows places vals y e v = plusAll (span toff rows e) (λ k. at vals (getD (span toff places e) k 0)) y v
 
 unfoldable pub lessCol : List ℕ → List ℕ → List ℕ → List Float → List Float → ℕ → Float → Float
 unfolding lessAll
-lessCol atindptr atindices atmap vals y e v = lessAll (span atindptr atindices e) (λ k. at vals (getD (span atindptr atmap e) k 0)) y v
+lessCol toff rows places vals y e v = lessAll (span toff rows e) (λ k. at vals (getD (span toff places e) k 0)) y v
 
 -- the ranges of the two
 pub record Rows (m n : ℕ) (off cols : List ℕ) (vals : List Float) : Type 0 where
   pub csr : Ranges m n off cols
   pub sizes : length vals ≡ length cols
 
-pub record Cols (n m : ℕ) (atindptr atindices atmap : List ℕ) (vals : List Float) : Type 0 where
-  pub csr : Ranges n m atindptr atindices
-  pub sizes : length atmap ≡ length atindices
-  pub range : (k : ℕ) → k < length atmap → getD atmap k 0 < length vals
+pub record Cols (n m : ℕ) (toff rows places : List ℕ) (vals : List Float) : Type 0 where
+  pub csr : Ranges n m toff rows
+  pub sizes : length places ≡ length rows
+  pub range : (k : ℕ) → k < length places → getD places k 0 < length vals

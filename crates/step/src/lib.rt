@@ -52,7 +52,18 @@ fn normal_eqn_rhs(
     let atindptr = plan.atindptr(index);
     let atindices = plan.atindices(index);
     let atmap = plan.atmap(index);
-    rhs_u(atindptr, atindices, atmap, vals, c, block, work, width, mem, mu);
+    rhs_u(
+        atindptr,
+        atindices,
+        atmap,
+        vals,
+        c,
+        block,
+        work,
+        width,
+        mem,
+        mu,
+    );
     rhs_f(off, cols, vals, b, block, work, width, mem, mu);
 }
 
