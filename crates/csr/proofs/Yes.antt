@@ -121,12 +121,11 @@ module _ (m n : ℕ) (off cols : List ℕ) where
 
   csr-of : (values : ℕ) → Rows values → Csr off cols m
   csr-of values r = record {
-    offsets = r .offsets .count;
+    offsets = omega (arith, r .offsets .count);
     few = r .rows .1;
     order = r .offsets .rises;
     ends = inside (r .offsets);
     rising = λ i l. rising (row off cols i) (steps n (row off cols i) (r .good i l));
-    nnz = r .offsets .few;
   }
 
   -- A YES TO QUESTIONS 1 TO 5 IS AN ACCEPTED MATRIX

@@ -6,14 +6,13 @@ use lib.ListN.{getD, length}
 use Rattle.csr.specs.Pattern.{row}
 use Rattle.base.specs.Numbers.{Below, Rising}
 
--- the lists of m rows, each with rising columns
+-- the lists of m rows, each with rising columns: the matrix's, or the factor's
 pub record Csr (off cols : List ℕ) (m : ℕ) : Type 0 where
-  pub offsets : length off ≡ m + 1
+  pub offsets : m < length off
   pub few : m ≤ 256
   pub order : (i : ℕ) → i < m → getD off i 0 ≤ getD off (i + 1) 0
   pub ends : (i : ℕ) → i ≤ m → getD off i 0 ≤ length cols
   pub rising : (i : ℕ) → i < m → Rising (row off cols i)
-  pub nnz : length cols ≤ 16384
 
 -- what a yes at question 3 says of the offsets of m rows with t entries
 pub record Offsets (m : ℕ) (off : List ℕ) (t : ℕ) : Type 0 where

@@ -49,7 +49,7 @@ small-then (refused q p l) w h g = h
 pub words-small : (off cols : List ℕ) (m n : ℕ) → Accepted off cols m n → sizeW off cols m n < 2 ^ 32
 unfolding sizeW
 words-small off cols m n ok =
-    omega (arith, ok .csr .few, ok .csr .nnz, ok .wide, few-stored off cols m (ok .csr), few-shared off cols m (ok .csr), few-products off cols m (ok .csr))
+    omega (arith, ok .csr .few, ok .offsets .few, ok .wide, few-stored off cols m (ok .csr), few-shared off cols m (ok .csr) (ok .offsets .few), few-products off cols m (ok .csr))
 
 first-one : (b : Bool) (i x f : ℕ) → x ≤ suc i + f → cond b i x ≤ i + suc f
 first-one true i x f h = omega arith

@@ -13,7 +13,7 @@ use Rattle.pattern.specs.Word.{bit}
 use Rattle.base.proofs.Sums.{sum-ext, sum-cut}
 use Rattle.pattern.proofs.Whole.{count-D}
 use Rattle.base.specs.Cat.{cat, pick}
-use Rattle.lists.specs.Ready.{Ready}
+use Rattle.pattern.specs.Ready.{Ready}
 use Rattle.pair_lists.specs.Kept.{kept, Rows}
 use Rattle.pair_lists.proofs.Lists.{kept-has, kept-none}
 
@@ -32,7 +32,7 @@ unfolding kept cat sum common
 common-kept h zero zs = refl
 common-kept h (suc n) zs = common-join (kept h n) (pick (h n) n) zs ∙ ap₂ _+_ (common-kept h n zs) (common-pick (h n) n zs)
 
-module _ (off cols : List ℕ) (m : ℕ) (p lp li : List ℕ) (ready : Ready off cols m p) (v : Rows (bit p) lp li m) where
+module _ (off cols : List ℕ) (m : ℕ) (p lindptr lindices : List ℕ) (ready : Ready off cols m p) (v : Rows (bit p) lindptr lindices m) where
   -- past its diagonal a row holds nothing
   past : (i k : ℕ) → i < m → i < k → k < 256 → bit p i k ≡ false
   past i k hi l h = ready .rows i hi k h ∙ ap (λ (t : Bool). t && stored (neighbours off cols) i k) (lt-leb k i l)
@@ -44,7 +44,7 @@ module _ (off cols : List ℕ) (m : ℕ) (p lp li : List ℕ) (ready : Ready off
       go (yes l) = kept-has (bit p j) (j + 1) k l
       go (no n) = kept-none (bit p j) (j + 1) k (omega arith) ∙ sym (past j k hj (omega arith) h)
 
-  pair : (i j : ℕ) → i < m → j < m → common (row lp li i) (row lp li j) ≡ sum 256 (λ k. one (bit p i k && bit p j k))
+  pair : (i j : ℕ) → i < m → j < m → common (row lindptr lindices i) (row lindptr lindices j) ≡ sum 256 (λ k. one (bit p i k && bit p j k))
   pair i j hi hj =
       ap₂ common (v .rows i hi) (v .rows j hj)
       ∙ common-kept (bit p i) (i + 1) (kept (bit p j) (j + 1))
@@ -53,9 +53,9 @@ module _ (off cols : List ℕ) (m : ℕ) (p lp li : List ℕ) (ready : Ready off
       (λ k l h. ap (λ (t : Bool). one (t && bit p j k)) (past i k hi (omega arith) h)))
 
   -- THE FACTOR'S ROWS SHARE D + E
-  pub factor-pairs : countS lp li m ≡ countD off cols m + countE off cols m
+  pub factor-pairs : countS lindptr lindices m ≡ countD off cols m + countE off cols m
   unfolding countS
   factor-pairs =
-      sum-ext m (λ i. sum (suc i) (λ j. common (row lp li i) (row lp li j))) (λ i. sum (suc i) (λ j. sum 256 (λ k. one (bit p i k && bit p j k))))
-      (λ i l. sum-ext (suc i) (λ j. common (row lp li i) (row lp li j)) (λ j. sum 256 (λ k. one (bit p i k && bit p j k))) (λ j h. pair i j l (omega arith)))
+      sum-ext m (λ i. sum (suc i) (λ j. common (row lindptr lindices i) (row lindptr lindices j))) (λ i. sum (suc i) (λ j. sum 256 (λ k. one (bit p i k && bit p j k))))
+      (λ i l. sum-ext (suc i) (λ j. common (row lindptr lindices i) (row lindptr lindices j)) (λ j. sum 256 (λ k. one (bit p i k && bit p j k))) (λ j h. pair i j l (omega arith)))
       ∙ count-D off cols p m (v .few) (ready .rows)

@@ -13,7 +13,7 @@ use Rattle.pattern.specs.Word.{bit}
 use Rattle.base.specs.Cat.{Wrote}
 use Rattle.lists.specs.Lists.{shape, tenOf, sideOf, planOf, planWords}
 use Rattle.lists.proofs.Whole.{plan-parts, three, three-length}
-use Rattle.lists.specs.Ready.{Ready}
+use Rattle.pattern.specs.Ready.{Ready}
 use Rattle.lists.specs.declared.Side.the-variants.{Factor, Matrix}
 use Rattle.base.proofs.Write.{wrote-as}
 use Rattle.transpose.specs.Bins.{sideIn}
@@ -21,17 +21,17 @@ use Rattle.pair_lists.specs.Kept.{Rows}
 use Rattle.pair_lists.proofs.Factor.{side-same}
 use Rattle.base.proofs.Bools.{and-false}
 
-module _ (off cols : List ℕ) (m n : ℕ) (p lp li : List ℕ) (ready : Ready off cols m p) (v : Rows (bit p) lp li m) where
-  pub plan-long : length (planOf (shape off cols) m n) ≡ length (tenOf (shape off cols) m 10) + length (sideIn lp li m m) + length (sideIn off cols m n)
+module _ (off cols : List ℕ) (m n : ℕ) (p lindptr lindices : List ℕ) (ready : Ready off cols m p) (v : Rows (bit p) lindptr lindices m) where
+  pub plan-long : length (planOf (shape off cols) m n) ≡ length (tenOf (shape off cols) m 10) + length (sideIn lindptr lindices m m) + length (sideIn off cols m n)
   plan-long =
       ap length (plan-parts (shape off cols) m n)
       ∙ three-length (tenOf (shape off cols) m 10) (sideOf (shape off cols) Factor m m) (sideOf (shape off cols) Matrix m n)
-      ∙ ap (λ (k : ℕ). length (tenOf (shape off cols) m 10) + k + length (sideIn off cols m n)) (sym (ap length (side-same off cols m p ready lp li v)))
+      ∙ ap (λ (k : ℕ). length (tenOf (shape off cols) m 10) + k + length (sideIn off cols m n)) (sym (ap length (side-same off cols m p ready lindptr lindices v)))
 
-  pub plan-wrote : (a b c d : List ℕ) (s t u : ℕ) → Wrote a b 0 (tenOf (shape off cols) m 10) s → Wrote b c s (sideIn lp li m m) t → Wrote c d t (sideIn off cols m n) u → Wrote a d 0 (planOf (shape off cols) m n) u
+  pub plan-wrote : (a b c d : List ℕ) (s t u : ℕ) → Wrote a b 0 (tenOf (shape off cols) m 10) s → Wrote b c s (sideIn lindptr lindices m m) t → Wrote c d t (sideIn off cols m n) u → Wrote a d 0 (planOf (shape off cols) m n) u
   plan-wrote a b c d s t u x y z =
       wrote-as a d 0 u _ _ (sym (plan-parts (shape off cols) m n))
-      (three a b c d 0 s t u _ _ _ x (wrote-as b c s t _ _ (side-same off cols m p ready lp li v) y) z)
+      (three a b c d 0 s t u _ _ _ x (wrote-as b c s t _ _ (side-same off cols m p ready lindptr lindices v) y) z)
 
 -- W, from E, S and D
 pub words-are : (off cols : List ℕ) (m n e s d : ℕ) → Tallied off cols m e s d → 5 * e + 3 * s + 2 * d + 3 * m + n + 2 * length cols + 5 ≡ sizeW off cols m n

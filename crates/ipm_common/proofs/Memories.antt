@@ -10,9 +10,9 @@ use Rattle.ipm_common.specs.Plan.{Memories}
 
 -- memories for so many rows and columns do for fewer
 pub memories-for : (rows columns entries : ℕ) → sum rows suc ≡ entries → entries ≤ 65536 → rows ≤ columns → (m n : ℕ) → m ≤ rows → n ≤ columns
-    → (lp li mark next again : List ℕ) → length lp ≡ rows + 1 → length li ≡ entries → length mark ≡ columns + 1 → length next ≡ columns + 1 → length again ≡ columns + 1
-    → Memories m n lp li mark next again
-memories-for rows columns entries e f g m n hm hn lp li mark next again a b c d h = record {
+    → (lindptr lindices mark next again : List ℕ) → length lindptr ≡ rows + 1 → length lindices ≡ entries → length mark ≡ columns + 1 → length next ≡ columns + 1 → length again ≡ columns + 1
+    → Memories m n lindptr lindices mark next again
+memories-for rows columns entries e f g m n hm hn lindptr lindices mark next again a b c d h = record {
   starts = omega arith;
   columns = omega (arith, sum-more m rows suc hm);
   short = omega arith;

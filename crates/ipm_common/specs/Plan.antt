@@ -49,10 +49,10 @@ pub record Room (m n : ℕ) (s : List ℕ) : Type 0 where
   pub columns : n < length s
 
 -- what a plan of m rows and n columns is made in: the factor's rows as lists, and three memories over the columns
-pub record Memories (m n : ℕ) (lp li mark next again : List ℕ) : Type 0 where
-  pub starts : m < length lp
-  pub columns : sum m suc ≤ length li
-  pub short : length li ≤ 65536
+pub record Memories (m n : ℕ) (lindptr lindices mark next again : List ℕ) : Type 0 where
+  pub starts : m < length lindptr
+  pub columns : sum m suc ≤ length lindices
+  pub short : length lindices ≤ 65536
   pub marks : n ≤ length mark
   pub counts : Room m n next
   pub firsts : Room m n again

@@ -5,7 +5,8 @@ ghost use lib.ListN.{length};
 ghost use Rattle.pattern.specs.Word.{bit};
 ghost use Rattle.base.specs.Cat.{Wrote};
 ghost use Rattle.lists.specs.Lists.{shape, planOf};
-ghost use Rattle.lists.specs.Ready.{Ready, Accepted};
+ghost use Rattle.pattern.specs.Ready.{Ready};
+ghost use Rattle.csr.specs.Csr.{Accepted};
 ghost use Rattle.pair_lists.specs.Kept.{Rows};
 ghost use Rattle.ipm_common.specs.Plan.{Room, Memories, toldPlan, planVerdict, planIndex, Answered, Tallied, Counted};
 use csr::Asked;
@@ -19,19 +20,41 @@ pub fn put_plan(
     m: usize,
     n: usize,
     p: &[u64],
-    lp: &[u32],
-    li: &[u8],
+    lindptr: &[u32],
+    lindices: &[u8],
     mark: &mut [u32],
     next: &mut [u32],
     again: &mut [u32],
     index: &mut [u32],
 ) -> usize
-    requires { ⌜ Accepted (now off) (now cols) m n × Ready (now off) (now cols) m (now p) × Rows (bit (now p)) (now lp) (now li) m × (length (planOf (shape (now off) (now cols)) m n) ≤ length (now index)) × (n ≤ length (now mark)) × Room m n (now next) × Room m n (now again) ⌝ }
+    requires { ⌜ Accepted (now off) (now cols) m n × Ready (now off) (now cols) m (now p) × Rows (bit (now p)) (now lindptr) (now lindices) m × (length (planOf (shape (now off) (now cols)) m n) ≤ length (now index)) × (n ≤ length (now mark)) × Room m n (now next) × Room m n (now again) ⌝ }
     ensures { λ r. ⌜ Wrote (now (index .entry)) (now (index .exit)) 0 (planOf (shape (now (off .entry)) (now (cols .entry))) m n) r ⌝ }
 {
-    let a = pair_lists::put_ten(off, cols, m, p, lp, li, n, mark, index, 0);
-    let b = transpose::transpose(Side::Factor, lp, cols, li, m, m, next, again, index, a);
-    transpose::transpose(Side::Matrix, off, cols, li, m, n, next, again, index, b)
+    let a = pair_lists::put_ten(off, cols, m, p, lindptr, lindices, n, mark, index, 0);
+    let b = transpose::transpose(
+        Side::Factor,
+        lindptr,
+        cols,
+        lindices,
+        m,
+        m,
+        next,
+        again,
+        index,
+        a,
+    );
+    transpose::transpose(
+        Side::Matrix,
+        off,
+        cols,
+        lindices,
+        m,
+        n,
+        next,
+        again,
+        index,
+        b,
+    )
 }
 
 // E, S and D.
@@ -48,18 +71,18 @@ pub fn count_all(
     offsets: &[u32],
     columns: &[u32],
     p: &[u64],
-    lp: &[u32],
-    li: &[u8],
+    lindptr: &[u32],
+    lindices: &[u8],
     next: &mut [u32],
 ) -> Counts
-    requires { ⌜ Accepted (now offsets) (now columns) m n × Ready (now offsets) (now columns) m (now p) × Rows (bit (now p)) (now lp) (now li) m × Room m n (now next) ⌝ }
+    requires { ⌜ Accepted (now offsets) (now columns) m n × Ready (now offsets) (now columns) m (now p) × Rows (bit (now p)) (now lindptr) (now lindices) m × Room m n (now next) ⌝ }
     ensures { λ r. ⌜ Tallied (now (offsets .entry)) (now (columns .entry)) m (r .e) (r .s) (r .d) ⌝ }
 {
     let e = pattern::count(p, m);
     base::clear(next, n);
-    let s = transpose::count_rows(Side::Matrix, offsets, columns, li, m, n, next);
+    let s = transpose::count_rows(Side::Matrix, offsets, columns, lindices, m, n, next);
     base::clear(next, m);
-    let b = transpose::count_rows(Side::Factor, lp, columns, li, m, m, next);
+    let b = transpose::count_rows(Side::Factor, lindptr, columns, lindices, m, m, next);
     Counts {
         e,
         s,
@@ -83,28 +106,40 @@ fn plan_in(
     n: usize,
     offsets: &[u32],
     columns: &[u32],
-    lp: &mut [u32],
-    li: &mut [u8],
+    lindptr: &mut [u32],
+    lindices: &mut [u8],
     mark: &mut [u32],
     next: &mut [u32],
     again: &mut [u32],
     index: &mut [u32],
     below: usize,
 ) -> Counts
-    requires { ⌜ Accepted (now offsets) (now columns) m n × Memories m n (now lp) (now li) (now mark) (now next) (now again) ⌝ }
+    requires { ⌜ Accepted (now offsets) (now columns) m n × Memories m n (now lindptr) (now lindices) (now mark) (now next) (now again) ⌝ }
     ensures { λ r. ⌜ Counted m n (now (offsets .entry)) (now (columns .entry)) below (now (index .entry)) (now (index .exit)) (r .e) (r .s) (r .d) ⌝ }
 {
     let mut p = [0u64; 1024];
     pattern::pattern(offsets, columns, m, &mut p);
-    pair_lists::list_rows(&p, m, lp, li);
-    let t = count_all(m, n, offsets, columns, &p, lp, li, next);
+    pair_lists::list_rows(&p, m, lindptr, lindices);
+    let t = count_all(m, n, offsets, columns, &p, lindptr, lindices, next);
     if below <= t.e as usize {
         return t;
     }
     if index.len() < words(m, n, columns.len(), t) {
         return t;
     }
-    put_plan(offsets, columns, m, n, &p, lp, li, mark, next, again, index);
+    put_plan(
+        offsets,
+        columns,
+        m,
+        n,
+        &p,
+        lindptr,
+        lindices,
+        mark,
+        next,
+        again,
+        index,
+    );
     t
 }
 
@@ -125,8 +160,8 @@ fn plan_few(
     requires { ⌜ Accepted (now offsets) (now columns) m n × (m ≤ 16) × (n ≤ 32) ⌝ }
     ensures { λ r. ⌜ Counted m n (now (offsets .entry)) (now (columns .entry)) below (now (index .entry)) (now (index .exit)) (r .e) (r .s) (r .d) ⌝ }
 {
-    let mut lp = [0u32; 17];
-    let mut li = [0u8; 136];
+    let mut lindptr = [0u32; 17];
+    let mut lindices = [0u8; 136];
     let mut mark = [0u32; 33];
     let mut next = [0u32; 33];
     let mut again = [0u32; 33];
@@ -135,8 +170,8 @@ fn plan_few(
         n,
         offsets,
         columns,
-        &mut lp,
-        &mut li,
+        &mut lindptr,
+        &mut lindices,
         &mut mark,
         &mut next,
         &mut again,
@@ -157,8 +192,8 @@ fn plan_many(
     requires { ⌜ Accepted (now offsets) (now columns) m n ⌝ }
     ensures { λ r. ⌜ Counted m n (now (offsets .entry)) (now (columns .entry)) below (now (index .entry)) (now (index .exit)) (r .e) (r .s) (r .d) ⌝ }
 {
-    let mut lp = [0u32; 257];
-    let mut li = [0u8; 32896];
+    let mut lindptr = [0u32; 257];
+    let mut lindices = [0u8; 32896];
     let mut mark = [0u32; 1025];
     let mut next = [0u32; 1025];
     let mut again = [0u32; 1025];
@@ -167,8 +202,8 @@ fn plan_many(
         n,
         offsets,
         columns,
-        &mut lp,
-        &mut li,
+        &mut lindptr,
+        &mut lindices,
         &mut mark,
         &mut next,
         &mut again,

@@ -49,12 +49,12 @@ module _ (A : Problem) (H : Settings) (d : LaneData) (q : State) where
       ap (λ (v : Float). v ⊘ (H .divisorR) A d q)
       (squares (A .m) (rAt (A .off) (A .cols) (A .vals) (A .s) (d .b) (q .x) (q .w)) (primalResidual A H d q) (λ i h. unfold rAt primalResidual in row-less A rows i h (q .x) _))
 
-  q-machine : (toff rows places : List ℕ) → ColsOf A toff rows places
-      → √ (Σ (A .n) (λ e. qAt toff rows places (A .vals) (d .c) (q .z) (q .y) e ⊗ qAt toff rows places (A .vals) (d .c) (q .z) (q .y) e)) ⊘ (H .divisorQ) A d q ≡ Q A H d q
+  q-machine : (atindptr atindices atmap : List ℕ) → ColsOf A atindptr atindices atmap
+      → √ (Σ (A .n) (λ e. qAt atindptr atindices atmap (A .vals) (d .c) (q .z) (q .y) e ⊗ qAt atindptr atindices atmap (A .vals) (d .c) (q .z) (q .y) e)) ⊘ (H .divisorQ) A d q ≡ Q A H d q
   unfolding Q
-  q-machine toff rows places C =
+  q-machine atindptr atindices atmap C =
       ap (λ (v : Float). v ⊘ (H .divisorQ) A d q)
-      (squares (A .n) (qAt toff rows places (A .vals) (d .c) (q .z) (q .y)) (dualResidual A H d q) (λ e h. unfold qAt dualResidual in col-less A toff rows places C e h (q .y) _))
+      (squares (A .n) (qAt atindptr atindices atmap (A .vals) (d .c) (q .z) (q .y)) (dualResidual A H d q) (λ e h. unfold qAt dualResidual in col-less A atindptr atindices atmap C e h (q .y) _))
 
 -- ---- what the test and the step both read
 module _ (width m n s : ℕ) (centring : Float) (work : List Float) (slack : s ≤ m) where
@@ -94,12 +94,12 @@ module _ (width : ℕ) (A : Problem) (H : Settings) (d : ℕ → LaneData) (work
   unfolding mu
   mu-lane l b = M .centred l b ∙ rw (g-lane l b)
 
-  module _ (toff rows places : List ℕ) (rs : RowsOf A) (C : ColsOf A toff rows places) where
+  module _ (atindptr atindices atmap : List ℕ) (rs : RowsOf A) (C : ColsOf A atindptr atindices atmap) where
     abbrev rSum : ℕ → Float
     rSum t = Σ (A .m) (λ i. rAt (A .off) (A .cols) (A .vals) (A .s) (d t .b) (q t .x) (q t .w) i ⊗ rAt (A .off) (A .cols) (A .vals) (A .s) (d t .b) (q t .x) (q t .w) i)
 
     abbrev qSum : ℕ → Float
-    qSum t = Σ (A .n) (λ e. qAt toff rows places (A .vals) (d t .c) (q t .z) (q t .y) e ⊗ qAt toff rows places (A .vals) (d t .c) (q t .z) (q t .y) e)
+    qSum t = Σ (A .n) (λ e. qAt atindptr atindices atmap (A .vals) (d t .c) (q t .z) (q t .y) e ⊗ qAt atindptr atindices atmap (A .vals) (d t .c) (q t .z) (q t .y) e)
 
     pub tested : {br bq r qs gg : List Float} {k : Status} → Divided width A H d work br bq
         → On width r (λ t. √ (rSum t) ⊘ at br t) → On width qs (λ t. √ (qSum t) ⊘ at bq t) → On width gg (λ t. at gs t ⊘ (one ⊕ at nx t ⊕ at ny t))
@@ -112,7 +112,7 @@ module _ (width : ℕ) (A : Problem) (H : Settings) (d : ℕ → LaneData) (work
         re = er .lane l b ∙ rw (D .primal l b) (r-machine A H (d l) (q l) rs)
 
         qe : at qs l ≡ Q A H (d l) (q l)
-        qe = eq .lane l b ∙ rw (D .dual l b) (q-machine A H (d l) (q l) toff rows places C)
+        qe = eq .lane l b ∙ rw (D .dual l b) (q-machine A H (d l) (q l) atindptr atindices atmap C)
 
         he : at gg l ≡ G A H (d l) (q l)
         he = eh .lane l b ∙ rw (g-lane l b, M .x-norm l b, M .y-norm l b) (unfold G in refl)

@@ -60,17 +60,17 @@ module _ (A : Problem) where
     row-less u v = row-sum (λ e a r. r ⊖ a ⊗ at u e) v
 
   -- ---- columns
-  module _ (toff rows places : List ℕ) (C : ColsOf A toff rows places) (e : ℕ) (h : e < A .n) where
+  module _ (atindptr atindices atmap : List ℕ) (C : ColsOf A atindptr atindices atmap) (e : ℕ) (h : e < A .n) where
     col-sum : (F : ℕ → Float → Float → Float) (v : Float)
-        → fold (length (span toff rows e)) (λ j r. F (getD (span toff rows e) j 0) (at (A .vals) (getD (span toff places e) j 0)) r) v
+        → fold (length (span atindptr atindices e)) (λ j r. F (getD (span atindptr atindices e) j 0) (at (A .vals) (getD (span atindptr atmap e) j 0)) r) v
         ≡ each (A .m) (λ i. holds A i e) (λ i r. F i (entry A i e) r) v
-    col-sum F v = listed (A .m) (λ i. holds A i e) (span toff rows e) (λ j. at (A .vals) (getD (span toff places e) j 0)) (λ i. entry A i e) F v (C .rising e h) (C .holding e h) (C .entries e h)
+    col-sum F v = listed (A .m) (λ i. holds A i e) (span atindptr atindices e) (λ j. at (A .vals) (getD (span atindptr atmap e) j 0)) (λ i. entry A i e) F v (C .rising e h) (C .holding e h) (C .entries e h)
 
-    pub col-plus : (y : List Float) → plusCol toff rows places (A .vals) y e null ≡ columnProduct A y e
+    pub col-plus : (y : List Float) → plusCol atindptr atindices atmap (A .vals) y e null ≡ columnProduct A y e
     unfolding plusCol plusAll columnProduct
     col-plus y = col-sum (λ i a r. r ⊕ a ⊗ at y i) null
 
-    pub col-less : (y : List Float) (v : Float) → lessCol toff rows places (A .vals) y e v ≡ each (A .m) (λ i. holds A i e) (λ i r. r ⊖ entry A i e ⊗ at y i) v
+    pub col-less : (y : List Float) (v : Float) → lessCol atindptr atindices atmap (A .vals) y e v ≡ each (A .m) (λ i. holds A i e) (λ i r. r ⊖ entry A i e ⊗ at y i) v
     unfolding lessCol lessAll
     col-less y v = col-sum (λ i a r. r ⊖ a ⊗ at y i) v
 

@@ -67,9 +67,9 @@ fn primal_feasibility(
 
 // Q, given its divisors.
 fn dual_feasibility(
-    toff: &[u32],
-    rows: &[u32],
-    places: &[u32],
+    atindptr: &[u32],
+    atindices: &[u32],
+    atmap: &[u32],
     vals: &[f64],
     c: &[f64],
     block: Block,
@@ -78,11 +78,11 @@ fn dual_feasibility(
     mem: Regions,
     by: [f64; 4],
 ) -> [f64; 4]
-    requires { ⌜ Cols (mem .n) (mem .m) (now toff) (now rows) (now places) (now vals) × Laid width mem (now work) × Within block width (mem .n) (now c) ⌝ }
-    ensures { λ r. ⌜ On width r (λ l. √ (dualSum width mem (now (toff .entry)) (now (rows .entry)) (now (places .entry)) (now (vals .entry)) block (now (c .entry)) (now (work .entry)) l) ⊘ at by l) ⌝ }
+    requires { ⌜ Cols (mem .n) (mem .m) (now atindptr) (now atindices) (now atmap) (now vals) × Laid width mem (now work) × Within block width (mem .n) (now c) ⌝ }
+    ensures { λ r. ⌜ On width r (λ l. √ (dualSum width mem (now (atindptr .entry)) (now (atindices .entry)) (now (atmap .entry)) (now (vals .entry)) block (now (c .entry)) (now (work .entry)) l) ⊘ at by l) ⌝ }
 {
     root_over(
-        dual_squares(toff, rows, places, vals, c, block, work, width, mem),
+        dual_squares(atindptr, atindices, atmap, vals, c, block, work, width, mem),
         by,
     )
 }
@@ -245,10 +245,21 @@ pub fn test(
     let g = sums.g;
     let mu = sums.mu;
     let mem = plan.regions();
-    let toff = plan.atindptr(index);
-    let rows = plan.atindices(index);
-    let places = plan.atmap(index);
+    let atindptr = plan.atindptr(index);
+    let atindices = plan.atindices(index);
+    let atmap = plan.atmap(index);
     let r = primal_feasibility(off, cols, vals, b, block, work, width, mem, rdiv);
-    let q = dual_feasibility(toff, rows, places, vals, c, block, work, width, mem, qdiv);
+    let q = dual_feasibility(
+        atindptr,
+        atindices,
+        atmap,
+        vals,
+        c,
+        block,
+        work,
+        width,
+        mem,
+        qdiv,
+    );
     judge4(r, q, gap_in(g, nx, ny), mu, tol, block, width)
 }

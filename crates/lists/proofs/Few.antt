@@ -5,6 +5,7 @@ use mathlib.Core.List.{List}
 use Prim.Native.Nat.{ℕ, suc, _*_, _<_, _≤_}
 use native.Mathlib.Omega.{arith}
 use native.Mathlib.Nat.{mul-le-mul-right}
+use lib.ListN.{length}
 use Rattle.base.specs.Sums.{sum, one}
 use Rattle.base.proofs.Sums.{sum-le, sum-times, sum-more, count-le}
 use Rattle.csr.specs.Pattern.{row}
@@ -49,11 +50,11 @@ module _ (off cols : List ℕ) (m : ℕ) (ok : Csr off cols m) where
   pub few-stored : countE off cols m ≤ 32896
   few-stored = omega (arith, stored-few off cols m, sum-more m 256 suc (ok .few), pairs-256)
 
-  pub few-shared : countS off cols m ≤ 256 * (256 * 16384)
+  pub few-shared : length cols ≤ 16384 → countS off cols m ≤ 256 * (256 * 16384)
   unfolding countS
-  few-shared =
+  few-shared short =
       pairs-le m 16384 (λ i j. common (row off cols i) (row off cols j)) (ok .few)
-      (λ i j b d. omega (arith, common-le (row off cols i) (row off cols j), ok .nnz, row-le off cols i))
+      (λ i j b d. omega (arith, common-le (row off cols i) (row off cols j), short, row-le off cols i))
 
   pub few-products : countD off cols m ≤ 256 * (256 * 256)
   unfolding countD

@@ -18,7 +18,7 @@ use Rattle.base.specs.Numbers.{find}
 use Rattle.lists.specs.declared.Which.{Which}
 use Rattle.lists.specs.declared.Which.the-variants.{AnormIndptr, AnormIndptrI, AnormIndptrJ, AnormIndices, LdecompIndptr, LdecompIndptrI, LdecompIndptrJ, Lindptr, LdiagIndptr, Lindices}
 use Rattle.base.proofs.Write.{cat-ext, cat-add}
-use Rattle.lists.proofs.Pieces.{map-cat, map-pick}
+use Rattle.base.proofs.Maps.{map-cat, map-pick}
 
 before-ext : (v w : ℕ → ℕ → ℕ) (i j : ℕ) → ((a b : ℕ) → a ≤ i → b ≤ a → v a b ≡ w a b) → j ≤ suc i → before v i j ≡ before w i j
 unfolding before

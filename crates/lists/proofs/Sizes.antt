@@ -14,9 +14,9 @@ use Rattle.base.specs.Numbers.{Below, Rising}
 use Rattle.base.specs.Sums.{sum, one}
 use Rattle.csr.specs.Counts.{common, isStored, countE, countS, countD, sizeW}
 use Rattle.base.proofs.Sums.{sum-ext, sum-add, sum-zero, sum-plus, sum-swap, sum-ones, sum-once}
-use Rattle.csr.proofs.Rows.{row-is}
+use Rattle.csr.proofs.Rows.{row-length}
 use Rattle.base.specs.Cat.{cat, pick, pairs}
-use Rattle.lists.specs.Ready.{Accepted}
+use Rattle.csr.specs.Csr.{Accepted}
 use Rattle.lists.specs.Lists.{shape, weight, lplace, place, before, piece, listOf, shared, products, holds, entry, inColumn, column, columnEnds, columns, endsOf, columnsOf, sideOf, tenOf, planOf, field}
 use Rattle.lists.proofs.Whole.{plan-parts, three-length, side-is}
 use Rattle.lists.specs.declared.Which.{Which}
@@ -26,7 +26,6 @@ use Rattle.lists.specs.declared.Side.the-variants.{Factor, Matrix}
 use Rattle.lists.specs.declared.What.the-variants.{Numbers, Places}
 use Rattle.base.proofs.Write.{length-cat, length-pick}
 use Rattle.lists.proofs.Merge.{length-both}
-use Rattle.lists.proofs.Spans.{row-span}
 use Rattle.csr.proofs.Has.{absent}
 
 -- ---- pairs
@@ -146,8 +145,7 @@ module _ (off cols : List ℕ) (m n : ℕ) (ok : Accepted off cols m n) where
   unfolding sum
   rows-long zero h = sym (ok .offsets .first)
   rows-long (suc i) h =
-      let s = row-span off cols m i (getD off i 0) (getD off (i + 1) 0) (ok .csr) (omega arith) refl refl in
-      omega (arith, rows-long i (omega arith), s .order, s .size, ap length (row-is off cols i (getD off i 0) (getD off (i + 1) 0) refl refl), ap (λ (k : ℕ). getD off k 0) (add-one i))
+      omega (arith, rows-long i (omega arith), ok .csr .order i (omega arith), row-length off cols i (ok .csr .ends (i + 1) (omega arith)), ap (λ (k : ℕ). getD off k 0) (add-one i))
 
   pub matrix-entries : sum m (λ i. sum n (λ e. one (has (row off cols i) e))) ≡ length cols
   matrix-entries =

@@ -27,7 +27,7 @@ module _ {off cols : List ℕ} {vals : List Float} {p : Plan} {index : List ℕ}
       let k = P .ok .csr in
       record {
         room = omega (arith, c .stored, c .shared, c .products, P .entries, plan-size off cols (p .m) (p .n) (P .ok), ap length (P .plan), length-append (planWords off cols (p .m) (p .n)) (P .rest));
-        fits = omega (arith, c .stored, c .shared, c .products, P .entries, few-stored off cols (p .m) k, few-shared off cols (p .m) k, few-products off cols (p .m) k, k .few, k .nnz, P .ok .wide);
+        fits = omega (arith, c .stored, c .shared, c .products, P .entries, few-stored off cols (p .m) k, few-shared off cols (p .m) k (P .ok .offsets .few), few-products off cols (p .m) k, k .few, P .ok .offsets .few, P .ok .wide);
       }
 
   -- the sixteen lists, cut out between their bounds, are the plan's

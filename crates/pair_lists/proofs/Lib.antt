@@ -1,3 +1,5 @@
+pub mod Bits
+pub mod Adds
 pub mod Lists
 pub mod Factor
 pub mod Through

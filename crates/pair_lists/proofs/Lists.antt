@@ -109,35 +109,35 @@ module _ (h : ℕ → ℕ → Bool) where
   all-short (suc i) = omega (arith, all-short i, length-append (keptRows h i) (kept (h i) (i + 1)), kept-short (h i) (i + 1))
 
   -- the rows before i are written, and their offsets stored
-  pub record Listing (li₀ li lp : List ℕ) (at i : ℕ) : Type 0 where
-    pub wrote : Wrote li₀ li 0 (keptRows h i) at
-    pub starts : (k : ℕ) → k ≤ i → getD lp k 0 ≡ length (keptRows h k)
+  pub record Listing (li₀ lindices lindptr : List ℕ) (at i : ℕ) : Type 0 where
+    pub wrote : Wrote li₀ lindices 0 (keptRows h i) at
+    pub starts : (k : ℕ) → k ≤ i → getD lindptr k 0 ≡ length (keptRows h k)
 
-  pub listing-start : (li lp lp′ : List ℕ) → 0 < length lp → lp′ ≡ set lp 0 0 → Listing li li lp′ 0 0
+  pub listing-start : (lindices lindptr lp′ : List ℕ) → 0 < length lindptr → lp′ ≡ set lindptr 0 0 → Listing lindices lindices lp′ 0 0
   unfolding keptRows cat
-  listing-start li lp lp′ l e = record {
+  listing-start lindices lindptr lp′ l e = record {
     wrote = record { is = refl; next = refl };
-    starts = λ k b. let z : k ≡ 0 = omega arith in ap₂ (λ (x : List ℕ) (y : ℕ). getD x y 0) e z ∙ getD-set-same lp 0 0 0 l ∙ ap (λ (y : ℕ). length (keptRows h y)) (sym z);
+    starts = λ k b. let z : k ≡ 0 = omega arith in ap₂ (λ (x : List ℕ) (y : ℕ). getD x y 0) e z ∙ getD-set-same lindptr 0 0 0 l ∙ ap (λ (y : ℕ). length (keptRows h y)) (sym z);
   }
 
-  module _ (li₀ li lp : List ℕ) (at i : ℕ) (v : Listing li₀ li lp at i) where
+  module _ (li₀ lindices lindptr : List ℕ) (at i : ℕ) (v : Listing li₀ lindices lindptr at i) where
     pub listing-room : (l m : ℕ) → i < m → sum m suc ≤ l → at + i + 1 ≤ l
     listing-room l m b r = omega (arith, v .wrote .next, all-short i, sum-room m i suc b)
 
     pub listing-small : i ≤ 256 → at ≤ 32896
     listing-small b = omega (arith, v .wrote .next, all-short i, sum-more i 256 suc b, pairs-256)
 
-    pub listing-next : (li′ lp′ : List ℕ) (r x : ℕ) → i + 1 < length lp → Wrote li li′ at (kept (h i) (i + 1)) r → x ≡ r → lp′ ≡ set lp (i + 1) x → Listing li₀ li′ lp′ r (i + 1)
+    pub listing-next : (li′ lp′ : List ℕ) (r x : ℕ) → i + 1 < length lindptr → Wrote lindices li′ at (kept (h i) (i + 1)) r → x ≡ r → lp′ ≡ set lindptr (i + 1) x → Listing li₀ li′ lp′ r (i + 1)
     listing-next li′ lp′ r x l w q e = record { wrote = u; starts = λ k b. ap (λ (y : List ℕ). getD y k 0) e ∙ go k b (ℕ-discrete k (i + 1)) }
       where
         u : Wrote li₀ li′ 0 (keptRows h (i + 1)) r
-        u = wrote-as li₀ li′ 0 r _ _ (sym (all-next i)) (wrote-join li₀ li li′ 0 at r _ _ (v .wrote) w)
+        u = wrote-as li₀ li′ 0 r _ _ (sym (all-next i)) (wrote-join li₀ lindices li′ 0 at r _ _ (v .wrote) w)
 
-        go : (k : ℕ) → k ≤ i + 1 → Dec (k ≡ i + 1) → getD (set lp (i + 1) x) k 0 ≡ length (keptRows h k)
-        go k b (yes z) = ap (λ (y : ℕ). getD (set lp (i + 1) x) y 0) z ∙ getD-set-same lp (i + 1) x 0 l ∙ omega (arith, q, u .next) ∙ ap (λ (y : ℕ). length (keptRows h y)) (sym z)
-        go k b (no z) = getD-set-other lp (i + 1) k x 0 z ∙ v .starts k (omega arith)
+        go : (k : ℕ) → k ≤ i + 1 → Dec (k ≡ i + 1) → getD (set lindptr (i + 1) x) k 0 ≡ length (keptRows h k)
+        go k b (yes z) = ap (λ (y : ℕ). getD (set lindptr (i + 1) x) y 0) z ∙ getD-set-same lindptr (i + 1) x 0 l ∙ omega (arith, q, u .next) ∙ ap (λ (y : ℕ). length (keptRows h y)) (sym z)
+        go k b (no z) = getD-set-other lindptr (i + 1) k x 0 z ∙ v .starts k (omega arith)
 
-    pub listing-end : (m : ℕ) → i ≡ m → m ≤ 256 → m < length lp → sum m suc ≤ length li₀ → length li ≡ length li₀ → length li ≤ 65536 → Rows h lp li m
+    pub listing-end : (m : ℕ) → i ≡ m → m ≤ 256 → m < length lindptr → sum m suc ≤ length li₀ → length lindices ≡ length li₀ → length lindices ≤ 65536 → Rows h lindptr lindices m
     unfolding row keptRows
     listing-end m e b l r len few = record {
       offsets = l;
@@ -148,40 +148,42 @@ module _ (h : ℕ → ℕ → Bool) where
       short = few;
     }
       where
-        whole : li ≡ keptRows h m ++ drop (0 + length (keptRows h m)) li₀
+        whole : lindices ≡ keptRows h m ++ drop (0 + length (keptRows h m)) li₀
         whole =
             v .wrote .is ∙ ap (λ (k : ℕ). sets li₀ 0 (keptRows h k)) e
             ∙ sets-eq (keptRows h m) li₀ 0 (omega (arith, all-short m))
 
-        rows : (k : ℕ) → k < m → row lp li k ≡ kept (h k) (k + 1)
+        rows : (k : ℕ) → k < m → row lindptr lindices k ≡ kept (h k) (k + 1)
         rows k q =
             let after = cat (m - suc k) (λ a. kept (h (suc k + a)) (suc k + a + 1)) in
             let tail : List ℕ = drop (0 + length (keptRows h m)) li₀ in
-            ap₂ (λ (x y : ℕ). take (x - y) (drop y li)) (v .starts (k + 1) (omega arith)) (v .starts k (omega arith))
+            ap₂ (λ (x y : ℕ). take (x - y) (drop y lindices)) (v .starts (k + 1) (omega arith)) (v .starts k (omega arith))
             ∙ ap (cut (length (keptRows h k)) (length (keptRows h (k + 1))))
             (whole ∙ ap (λ (x : List ℕ). x ++ tail) (cat-split m k (λ a. kept (h a) (a + 1)) q) ∙ append-assoc (keptRows h k) (kept (h k) (k + 1) ++ after) tail ∙ ap (λ (x : List ℕ). keptRows h k ++ x) (append-assoc (kept (h k) (k + 1)) after tail))
             ∙ cut-part (keptRows h k) (kept (h k) (k + 1)) (after ++ tail) (length (keptRows h k)) (length (keptRows h (k + 1))) refl (ap length (all-next k) ∙ length-append (keptRows h k) (kept (h k) (k + 1)))
 
 -- ---- the lists are a grid
-module _ (h : ℕ → ℕ → Bool) (lp li : List ℕ) (m : ℕ) (v : Rows h lp li m) where
-  pub rows-up : (i : ℕ) → i < m → getD lp (i + 1) 0 ≡ getD lp i 0 + length (kept (h i) (i + 1))
+module _ (h : ℕ → ℕ → Bool) (lindptr lindices : List ℕ) (m : ℕ) (v : Rows h lindptr lindices m) where
+  pub rows-up : (i : ℕ) → i < m → getD lindptr (i + 1) 0 ≡ getD lindptr i 0 + length (kept (h i) (i + 1))
   rows-up i l = omega (arith, v .starts (i + 1) (omega arith), v .starts i (omega arith), ap length (all-next h i), length-append (keptRows h i) (kept (h i) (i + 1)))
 
-  up-to : (i k : ℕ) → i + k ≤ m → getD lp i 0 ≤ getD lp (i + k) 0
-  up-to i zero l = let e : i + 0 ≡ i = omega arith in omega (arith, ap (λ (x : ℕ). getD lp x 0) e)
-  up-to i (suc k) l = let e : i + suc k ≡ i + k + 1 = omega arith in omega (arith, ap (λ (x : ℕ). getD lp x 0) e, up-to i k (omega arith), rows-up (i + k) (omega arith))
+  up-to : (i k : ℕ) → i + k ≤ m → getD lindptr i 0 ≤ getD lindptr (i + k) 0
+  up-to i zero l = let e : i + 0 ≡ i = omega arith in omega (arith, ap (λ (x : ℕ). getD lindptr x 0) e)
+  up-to i (suc k) l = let e : i + suc k ≡ i + k + 1 = omega arith in omega (arith, ap (λ (x : ℕ). getD lindptr x 0) e, up-to i k (omega arith), rows-up (i + k) (omega arith))
 
-  pub rows-fit : (i : ℕ) → i ≤ m → getD lp i 0 ≤ length li
-  rows-fit i l = let e : i + (m - i) ≡ m = omega arith in omega (arith, up-to i (m - i) (omega arith), ap (λ (x : ℕ). getD lp x 0) e, v .fits)
+  pub rows-fit : (i : ℕ) → i ≤ m → getD lindptr i 0 ≤ length lindices
+  rows-fit i l = let e : i + (m - i) ≡ m = omega arith in omega (arith, up-to i (m - i) (omega arith), ap (λ (x : ℕ). getD lindptr x 0) e, v .fits)
 
-  pub rows-grid : Grid lp li m m
+  pub rows-grid : Grid lindptr lindices m m
   rows-grid = record {
-    offsets = v .offsets;
-    few = v .few;
-    order = λ i l. omega (arith, rows-up i l);
-    ends = rows-fit;
-    rising = λ i l. subst Rising (sym (v .rows i l)) (kept-rising (h i) (i + 1));
-    nnz = v .short;
+    csr = record {
+      offsets = v .offsets;
+      few = v .few;
+      order = λ i l. omega (arith, rows-up i l);
+      ends = rows-fit;
+      rising = λ i l. subst Rising (sym (v .rows i l)) (kept-rising (h i) (i + 1));
+    };
+    short = v .short;
     wide = omega (arith, v .few);
     within = λ i l. subst (Below m) (sym (v .rows i l)) (kept-in (h i) (i + 1) m (omega arith));
   }

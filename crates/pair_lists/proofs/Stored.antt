@@ -17,17 +17,18 @@ use Rattle.pattern.specs.Word.{bit}
 use Rattle.base.proofs.Sums.{sum-ext}
 use Rattle.base.specs.Cat.{pick}
 use Rattle.lists.specs.Lists.{shape, weight, lplace, before, piece, walkOf}
-use Rattle.lists.specs.Ready.{Ready}
+use Rattle.pattern.specs.Ready.{Ready}
 use Rattle.lists.specs.declared.Which.the-variants.{AnormIndptr, LdecompIndptr, LdecompIndptrI, LdecompIndptrJ, Lindptr, LdiagIndptr, Lindices}
-use Rattle.lists.proofs.Pieces as old
-use Rattle.lists.proofs.Counts.{bit-held, held-stored, lplace-from}
+use Rattle.pair_lists.proofs.Adds as adds
+use Rattle.pair_lists.proofs.Bits.{bit-held}
+use Rattle.lists.proofs.Counts.{held-stored, lplace-from}
 use Rattle.pair_lists.specs.Kept.{kept, Rows}
 use Rattle.pair_lists.proofs.Lists.{kept-next, kept-long, rows-up}
 use Rattle.pair_lists.proofs.Through.{q-in, t-in, entry-is, entry-below, entry-holds, part-kept}
 use Rattle.pair_lists.proofs.Factor.{start-is}
 
-module _ (off cols : List ℕ) (m : ℕ) (p : List ℕ) (ready : Ready off cols m p) (lp li : List ℕ) (v : Rows (bit p) lp li m) where
-  pub first-is : (i : ℕ) → i ≤ m → getD lp i 0 ≡ lplace (shape off cols) i 0
+module _ (off cols : List ℕ) (m : ℕ) (p : List ℕ) (ready : Ready off cols m p) (lindptr lindices : List ℕ) (v : Rows (bit p) lindptr lindices m) where
+  pub first-is : (i : ℕ) → i ≤ m → getD lindptr i 0 ≡ lplace (shape off cols) i 0
   first-is i l = v .starts i l ∙ start-is off cols m p ready i l
 
   diag : (j : ℕ) → j < m → bit p j j ≡ true
@@ -36,51 +37,51 @@ module _ (off cols : List ℕ) (m : ℕ) (p : List ℕ) (ready : Ready off cols 
   row-ends : (j : ℕ) → j < m → kept (bit p j) (j + 1) ≡ kept (bit p j) j ++ (j ∷ [])
   row-ends j l = kept-next (bit p j) j ∙ ap (λ (t : Bool). kept (bit p j) j ++ pick t j) (diag j l)
 
-  row-len : (j : ℕ) → j < m → getD lp (j + 1) 0 ≡ getD lp j 0 + length (kept (bit p j) j) + 1
-  row-len j l = omega (arith, rows-up (bit p) lp li m v j l, ap length (row-ends j l), length-append (kept (bit p j) j) (j ∷ []))
+  row-len : (j : ℕ) → j < m → getD lindptr (j + 1) 0 ≡ getD lindptr j 0 + length (kept (bit p j) j) + 1
+  row-len j l = omega (arith, rows-up (bit p) lindptr lindices m v j l, ap length (row-ends j l), length-append (kept (bit p j) j) (j ∷ []))
 
   -- the last of a row is its diagonal
   pub record Last (j : ℕ) : Type 0 where
-    pub low : getD lp j 0 ≤ getD lp (j + 1) 0 - 1
-    pub high : getD lp (j + 1) 0 - 1 < getD lp (j + 1) 0
-    pub some : 1 ≤ getD lp (j + 1) 0
-    pub is : getD li (getD lp (j + 1) 0 - 1) 0 ≡ j
+    pub low : getD lindptr j 0 ≤ getD lindptr (j + 1) 0 - 1
+    pub high : getD lindptr (j + 1) 0 - 1 < getD lindptr (j + 1) 0
+    pub some : 1 ≤ getD lindptr (j + 1) 0
+    pub is : getD lindices (getD lindptr (j + 1) 0 - 1) 0 ≡ j
 
   pub last-of : (j : ℕ) → j < m → Last j
   last-of j l =
-      let lo : getD lp j 0 ≤ getD lp (j + 1) 0 - 1 = omega (arith, row-len j l) in
-      let hi : getD lp (j + 1) 0 - 1 < getD lp (j + 1) 0 = omega (arith, row-len j l) in
-      let z : getD lp (j + 1) 0 - 1 - getD lp j 0 ≡ length (kept (bit p j) j) = omega (arith, row-len j l) in
+      let lo : getD lindptr j 0 ≤ getD lindptr (j + 1) 0 - 1 = omega (arith, row-len j l) in
+      let hi : getD lindptr (j + 1) 0 - 1 < getD lindptr (j + 1) 0 = omega (arith, row-len j l) in
+      let z : getD lindptr (j + 1) 0 - 1 - getD lindptr j 0 ≡ length (kept (bit p j) j) = omega (arith, row-len j l) in
       record {
         low = lo;
         high = hi;
         some = omega (arith, row-len j l);
         is =
-            sym (entry-is (bit p) lp li m v j (getD lp (j + 1) 0 - 1) l lo hi)
+            sym (entry-is (bit p) lindptr lindices m v j (getD lindptr (j + 1) 0 - 1) l lo hi)
             ∙ ap₂ (λ (x : List ℕ) (y : ℕ). getD x y 0) (row-ends j l) z
             ∙ getD-append-seam (kept (bit p j) j) j [] 0;
       }
 
-  module _ (i j t : ℕ) (hi : i < m) (lo : getD lp i 0 ≤ t) (up : t < getD lp (i + 1) 0) (e : j ≡ getD li t 0) where
+  module _ (i j t : ℕ) (hi : i < m) (lo : getD lindptr i 0 ≤ t) (up : t < getD lindptr (i + 1) 0) (e : j ≡ getD lindices t 0) where
     pub le : j ≤ i
-    le = omega (arith, entry-below (bit p) lp li m v i t hi lo up)
+    le = omega (arith, entry-below (bit p) lindptr lindices m v i t hi lo up)
 
     pub on : true ≡ bit p i j
-    on = sym (ap (bit p i) e ∙ entry-holds (bit p) lp li m v i t hi lo up)
+    on = sym (ap (bit p i) e ∙ entry-holds (bit p) lindptr lindices m v i t hi lo up)
 
     held : (shape off cols) .held i j ≡ true
     held = sym (on ∙ bit-held off cols m p ready i j hi (omega (arith, le, v .few)))
 
     pub t-small : t < 65536
-    t-small = omega (arith, t-in (bit p) lp li m v i t hi lo up, v .short)
+    t-small = omega (arith, t-in (bit p) lindptr lindices m v i t hi lo up, v .short)
 
-    rank : t ≡ getD lp i 0 + length (kept (bit p i) j)
+    rank : t ≡ getD lindptr i 0 + length (kept (bit p i) j)
     rank =
         omega (
           arith,
-          ap length (part-kept (bit p) lp li m v i t hi lo up),
-          length-take (t - getD lp i 0) (kept (bit p i) (i + 1)),
-          q-in (bit p) lp li m v i t hi lo up,
+          ap length (part-kept (bit p) lindptr lindices m v i t hi lo up),
+          length-take (t - getD lindptr i 0) (kept (bit p i) (i + 1)),
+          q-in (bit p) lindptr lindices m v i t hi lo up,
           ap (λ (k : ℕ). length (kept (bit p i) k)) e,
         )
 
@@ -91,18 +92,18 @@ module _ (off cols : List ℕ) (m : ℕ) (p : List ℕ) (ready : Ready off cols 
         ∙ sym (lplace-from (shape off cols) i j)
 
     pub of-AnormIndptr : (n : ℕ) → n ≡ before (weight (shape off cols) AnormIndptr) i (suc j) → piece (shape off cols) AnormIndptr i j ≡ n ∷ []
-    of-AnormIndptr n q = old.of-AnormIndptr off cols m p ready i j hi le true n on q
+    of-AnormIndptr n q = adds.of-AnormIndptr off cols m p ready i j hi le true n on q
 
     pub of-LdecompIndptr : (n : ℕ) → n ≡ before (weight (shape off cols) LdecompIndptr) i (suc j) → piece (shape off cols) LdecompIndptr i j ≡ n ∷ []
-    of-LdecompIndptr n q = old.of-LdecompIndptr off cols m p ready i j hi le true n on q
+    of-LdecompIndptr n q = adds.of-LdecompIndptr off cols m p ready i j hi le true n on q
 
-    pub of-LdecompIndptrI : piece (shape off cols) LdecompIndptrI i j ≡ walkOf (bit p) i j (getD li t 0) (getD lp i 0)
-    of-LdecompIndptrI = old.of-LdecompIndptrI off cols m p ready i j hi le (getD lp i 0) (first-is i (omega arith)) ∙ ap (λ (b : ℕ). walkOf (bit p) i j b (getD lp i 0)) e
+    pub of-LdecompIndptrI : piece (shape off cols) LdecompIndptrI i j ≡ walkOf (bit p) i j (getD lindices t 0) (getD lindptr i 0)
+    of-LdecompIndptrI = adds.of-LdecompIndptrI off cols m p ready i j hi le (getD lindptr i 0) (first-is i (omega arith)) ∙ ap (λ (b : ℕ). walkOf (bit p) i j b (getD lindptr i 0)) e
 
-    pub of-LdecompIndptrJ : (u : ℕ) → u ≡ getD lp (j + 1) 0 - 1 → piece (shape off cols) LdecompIndptrJ i j ≡ walkOf (bit p) j i (getD li u 0) (getD lp j 0)
+    pub of-LdecompIndptrJ : (u : ℕ) → u ≡ getD lindptr (j + 1) 0 - 1 → piece (shape off cols) LdecompIndptrJ i j ≡ walkOf (bit p) j i (getD lindices u 0) (getD lindptr j 0)
     of-LdecompIndptrJ u q =
-        old.of-LdecompIndptrJ off cols m p ready i j hi le (getD lp j 0) (first-is j (omega (arith, le)))
-        ∙ ap (λ (b : ℕ). walkOf (bit p) j i b (getD lp j 0)) (sym (ap (λ (x : ℕ). getD li x 0) q ∙ last-of j (omega (arith, le)) .is))
+        adds.of-LdecompIndptrJ off cols m p ready i j hi le (getD lindptr j 0) (first-is j (omega (arith, le)))
+        ∙ ap (λ (b : ℕ). walkOf (bit p) j i b (getD lindptr j 0)) (sym (ap (λ (x : ℕ). getD lindices x 0) q ∙ last-of j (omega (arith, le)) .is))
 
     pick-when : (t′ : Bool) (x y : ℕ) → (t′ ≡ true → x ≡ y) → pick t′ x ≡ pick t′ y
     pick-when true x y f = ap (λ (z : ℕ). z ∷ []) (f refl)

@@ -105,31 +105,31 @@ module _ (h : ℕ → Bool) where
       go false e (no b) ih m = absurd (omega (arith, length-append (kept h n) []))
 
 -- ---- a part of the lists
-module _ (h : ℕ → ℕ → Bool) (lp li : List ℕ) (m : ℕ) (v : Rows h lp li m) (i t : ℕ) (hi : i < m) (lo : getD lp i 0 ≤ t) (hi2 : t < getD lp (i + 1) 0) where
-  pub q-in : t - getD lp i 0 < length (kept (h i) (i + 1))
-  q-in = omega (arith, rows-up h lp li m v i hi)
+module _ (h : ℕ → ℕ → Bool) (lindptr lindices : List ℕ) (m : ℕ) (v : Rows h lindptr lindices m) (i t : ℕ) (hi : i < m) (lo : getD lindptr i 0 ≤ t) (hi2 : t < getD lindptr (i + 1) 0) where
+  pub q-in : t - getD lindptr i 0 < length (kept (h i) (i + 1))
+  q-in = omega (arith, rows-up h lindptr lindices m v i hi)
 
-  pub t-in : t < length li
-  t-in = omega (arith, rows-fit h lp li m v (i + 1) (omega arith))
+  pub t-in : t < length lindices
+  t-in = omega (arith, rows-fit h lindptr lindices m v (i + 1) (omega arith))
 
-  pub entry-is : getD (kept (h i) (i + 1)) (t - getD lp i 0) 0 ≡ getD li t 0
+  pub entry-is : getD (kept (h i) (i + 1)) (t - getD lindptr i 0) 0 ≡ getD lindices t 0
   unfolding row
   entry-is =
-      let z : getD lp i 0 + (t - getD lp i 0) ≡ t = omega arith in
-      ap (λ (l : List ℕ). getD l (t - getD lp i 0) 0) (sym (v .rows i hi))
-      ∙ getD-take (getD lp (i + 1) 0 - getD lp i 0) (drop (getD lp i 0) li) (t - getD lp i 0) 0 (omega arith) ∙ getD-drop (getD lp i 0) li (t - getD lp i 0) 0
-      ∙ ap (λ (x : ℕ). getD li x 0) z
+      let z : getD lindptr i 0 + (t - getD lindptr i 0) ≡ t = omega arith in
+      ap (λ (l : List ℕ). getD l (t - getD lindptr i 0) 0) (sym (v .rows i hi))
+      ∙ getD-take (getD lindptr (i + 1) 0 - getD lindptr i 0) (drop (getD lindptr i 0) lindices) (t - getD lindptr i 0) 0 (omega arith) ∙ getD-drop (getD lindptr i 0) lindices (t - getD lindptr i 0) 0
+      ∙ ap (λ (x : ℕ). getD lindices x 0) z
 
-  at-here : Here (h i) (i + 1) (t - getD lp i 0)
-  at-here = here (h i) (i + 1) (t - getD lp i 0) q-in
+  at-here : Here (h i) (i + 1) (t - getD lindptr i 0)
+  at-here = here (h i) (i + 1) (t - getD lindptr i 0) q-in
 
-  pub entry-below : getD li t 0 ≤ i
+  pub entry-below : getD lindices t 0 ≤ i
   entry-below = omega (arith, at-here .below, entry-is)
 
-  pub entry-holds : h i (getD li t 0) ≡ true
+  pub entry-holds : h i (getD lindices t 0) ≡ true
   entry-holds = ap (h i) (sym entry-is) ∙ at-here .holds
 
-  pub part-kept : take (t - getD lp i 0) (kept (h i) (i + 1)) ≡ kept (h i) (getD li t 0)
+  pub part-kept : take (t - getD lindptr i 0) (kept (h i) (i + 1)) ≡ kept (h i) (getD lindices t 0)
   part-kept = at-here .part ∙ ap (kept (h i)) entry-is
 
   take-take : (a b : ℕ) (l : List ℕ) → a ≤ b → take a (take b l) ≡ take a l
@@ -138,11 +138,11 @@ module _ (h : ℕ → ℕ → Bool) (lp li : List ℕ) (m : ℕ) (v : Rows h lp 
   take-take (suc a) (suc b) [] q = refl
   take-take (suc a) (suc b) (x ∷ l) q = ap (λ (y : List ℕ). x ∷ y) (take-take a b l (omega arith))
 
-  pub slice-kept : take (t - getD lp i 0) (drop (getD lp i 0) li) ≡ kept (h i) (getD li t 0)
+  pub slice-kept : take (t - getD lindptr i 0) (drop (getD lindptr i 0) lindices) ≡ kept (h i) (getD lindices t 0)
   unfolding row
   slice-kept =
-      sym (take-take (t - getD lp i 0) (getD lp (i + 1) 0 - getD lp i 0) (drop (getD lp i 0) li) (omega arith))
-      ∙ ap (take (t - getD lp i 0)) (v .rows i hi) ∙ part-kept
+      sym (take-take (t - getD lindptr i 0) (getD lindptr (i + 1) 0 - getD lindptr i 0) (drop (getD lindptr i 0) lindices) (omega arith))
+      ∙ ap (take (t - getD lindptr i 0)) (v .rows i hi) ∙ part-kept
 
 -- ---- places in a list
 module _ (h : ℕ → Bool) where
@@ -259,18 +259,18 @@ module _ (off cols : List ℕ) (i j : ℕ) (hj : j ≤ i) (no : (shape off cols)
   weightless Lindices = refl
 
 -- ---- the part of row r before its entry at t
-module _ (p lp li : List ℕ) (m r q t a : ℕ) (v : Rows (bit p) lp li m) (hr : r < m) (lo : getD lp r 0 ≤ t) (hi : t < getD lp (r + 1) 0) (e : a ≡ getD lp r 0) where
-  pub cut-is : take (t - a) (drop a li) ≡ kept (bit p r) (getD li t 0)
-  cut-is = ap (λ (x : ℕ). take (t - x) (drop x li)) e ∙ slice-kept (bit p) lp li m v r t hr lo hi
+module _ (p lindptr lindices : List ℕ) (m r q t a : ℕ) (v : Rows (bit p) lindptr lindices m) (hr : r < m) (lo : getD lindptr r 0 ≤ t) (hi : t < getD lindptr (r + 1) 0) (e : a ≡ getD lindptr r 0) where
+  pub cut-is : take (t - a) (drop a lindices) ≡ kept (bit p r) (getD lindices t 0)
+  cut-is = ap (λ (x : ℕ). take (t - x) (drop x lindices)) e ∙ slice-kept (bit p) lindptr lindices m v r t hr lo hi
 
-  pub cut-below : Below 256 (take (t - a) (drop a li))
-  cut-below = subst (Below 256) (sym cut-is) (kept-in (bit p r) (getD li t 0) 256 (omega (arith, entry-below (bit p) lp li m v r t hr lo hi, v .few)))
+  pub cut-below : Below 256 (take (t - a) (drop a lindices))
+  cut-below = subst (Below 256) (sym cut-is) (kept-in (bit p r) (getD lindices t 0) 256 (omega (arith, entry-below (bit p) lindptr lindices m v r t hr lo hi, v .few)))
 
-  pub cut-short : a + length (take (t - a) (drop a li)) ≤ 65536
-  cut-short = omega (arith, length-take (t - a) (drop a li), t-in (bit p) lp li m v r t hr lo hi, v .short)
+  pub cut-short : a + length (take (t - a) (drop a lindices)) ≤ 65536
+  cut-short = omega (arith, length-take (t - a) (drop a lindices), t-in (bit p) lindptr lindices m v r t hr lo hi, v .short)
 
-  pub cut-fits : a ≤ t × (t < length li) × (t ≤ 65536)
-  cut-fits = (omega arith, t-in (bit p) lp li m v r t hr lo hi, omega (arith, t-in (bit p) lp li m v r t hr lo hi, v .short))
+  pub cut-fits : a ≤ t × (t < length lindices) × (t ≤ 65536)
+  cut-fits = (omega arith, t-in (bit p) lindptr lindices m v r t hr lo hi, omega (arith, t-in (bit p) lindptr lindices m v r t hr lo hi, v .short))
 
-  pub cut-walk : placesOf (bit p q) a (take (t - a) (drop a li)) ≡ walkOf (bit p) r q (getD li t 0) (getD lp r 0)
-  cut-walk = ap₂ (λ (x : ℕ) (l : List ℕ). placesOf (bit p q) x l) e cut-is ∙ places-walk (bit p) r q (getD li t 0) (getD lp r 0)
+  pub cut-walk : placesOf (bit p q) a (take (t - a) (drop a lindices)) ≡ walkOf (bit p) r q (getD lindices t 0) (getD lindptr r 0)
+  cut-walk = ap₂ (λ (x : ℕ) (l : List ℕ). placesOf (bit p q) x l) e cut-is ∙ places-walk (bit p) r q (getD lindices t 0) (getD lindptr r 0)

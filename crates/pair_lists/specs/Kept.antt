@@ -19,14 +19,14 @@ unfoldable pub keptRows : (ℕ → ℕ → Bool) → ℕ → List ℕ
 unfolding kept
 keptRows h i = cat i (λ a. kept (h a) (a + 1))
 
--- lp and li are the row offsets and the columns of m rows of the grid
-pub record Rows (h : ℕ → ℕ → Bool) (lp li : List ℕ) (m : ℕ) : Type 0 where
-  pub offsets : m < length lp
+-- lindptr and lindices are the row offsets and the columns of m rows of the grid
+pub record Rows (h : ℕ → ℕ → Bool) (lindptr lindices : List ℕ) (m : ℕ) : Type 0 where
+  pub offsets : m < length lindptr
   pub few : m ≤ 256
-  pub starts : (i : ℕ) → i ≤ m → getD lp i 0 ≡ length (keptRows h i)
-  pub rows : (i : ℕ) → i < m → row lp li i ≡ kept (h i) (i + 1)
-  pub fits : getD lp m 0 ≤ length li
-  pub short : length li ≤ 65536
+  pub starts : (i : ℕ) → i ≤ m → getD lindptr i 0 ≡ length (keptRows h i)
+  pub rows : (i : ℕ) → i < m → row lindptr lindices i ≡ kept (h i) (i + 1)
+  pub fits : getD lindptr m 0 ≤ length lindices
+  pub short : length lindices ≤ 65536
 
 -- the places in a list, from base on, of the k that h holds
 unfoldable pub placesOf : (ℕ → Bool) → ℕ → List ℕ → List ℕ

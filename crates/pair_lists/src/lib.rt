@@ -26,31 +26,31 @@ use shared_columns::mark_row;
 use shared_columns::put_shared;
 
 // Row i of the pattern as a list of bytes.
-pub fn list_row(p: &[u64], i: usize, li: &mut [u8], start: usize) -> usize
-    requires { ⌜ (length (now p) ≡ 1024) × (i < 256) × (start + i + 1 ≤ length (now li)) ⌝ }
-    ensures { λ r. ⌜ Wrote (now (li .entry)) (now (li .exit)) start (kept (bit (now (p .entry)) i) (i + 1)) r ⌝ }
+pub fn list_row(p: &[u64], i: usize, lindices: &mut [u8], start: usize) -> usize
+    requires { ⌜ (length (now p) ≡ 1024) × (i < 256) × (start + i + 1 ≤ length (now lindices)) ⌝ }
+    ensures { λ r. ⌜ Wrote (now (lindices .entry)) (now (lindices .exit)) start (kept (bit (now (p .entry)) i) (i + 1)) r ⌝ }
 {
     let mut at = start;
     let mut k: usize = 0;
     while k <= i {
-        at = keep_byte(li, at, pattern::test(p, i, k), k as u8);
+        at = keep_byte(lindices, at, pattern::test(p, i, k), k as u8);
         k += 1;
     }
     at
 }
 
 // The rows of the pattern as lists: their offsets and their columns.
-pub fn list_rows(p: &[u64], m: usize, lp: &mut [u32], li: &mut [u8])
-    requires { ⌜ (length (now p) ≡ 1024) × (m ≤ 256) × (m < length (now lp)) × (sum m suc ≤ length (now li)) × (length (now li) ≤ 65536) ⌝ }
-    ensures { λ _. ⌜ Rows (bit (now (p .entry))) (now (lp .exit)) (now (li .exit)) m ⌝ }
+pub fn list_rows(p: &[u64], m: usize, lindptr: &mut [u32], lindices: &mut [u8])
+    requires { ⌜ (length (now p) ≡ 1024) × (m ≤ 256) × (m < length (now lindptr)) × (sum m suc ≤ length (now lindices)) × (length (now lindices) ≤ 65536) ⌝ }
+    ensures { λ _. ⌜ Rows (bit (now (p .entry))) (now (lindptr .exit)) (now (lindices .exit)) m ⌝ }
 {
-    store(lp, 0, 0);
+    store(lindptr, 0, 0);
     let mut at: usize = 0;
     let mut i: usize = 0;
     while i < m {
-        at = list_row(p, i, li, at);
+        at = list_row(p, i, lindices, at);
         i += 1;
-        store(lp, i, at as u32);
+        store(lindptr, i, at as u32);
     }
 }
 
@@ -72,19 +72,19 @@ pub fn places(p: &[u64], q: usize, l: &[u8], base: u32, index: &mut [u32], start
 // What stands in row r before its entry at t, and in row q too, by its place.
 pub fn products(
     p: &[u64],
-    lp: &[u32],
-    li: &[u8],
+    lindptr: &[u32],
+    lindices: &[u8],
     r: usize,
     q: usize,
     t: usize,
     index: &mut [u32],
     start: usize,
 ) -> usize
-    requires { ⌜ (length (now p) ≡ 1024) × InRow (bit (now p)) (now lp) (now li) r t × (q < 256) × (start + length (walkOf (bit (now p)) r q (getD (now li) t 0) (getD (now lp) r 0)) ≤ length (now index)) ⌝ }
-    ensures { λ x. ⌜ Wrote (now (index .entry)) (now (index .exit)) start (walkOf (bit (now (p .entry))) r q (getD (now (li .entry)) t 0) (getD (now (lp .entry)) r 0)) x ⌝ }
+    requires { ⌜ (length (now p) ≡ 1024) × InRow (bit (now p)) (now lindptr) (now lindices) r t × (q < 256) × (start + length (walkOf (bit (now p)) r q (getD (now lindices) t 0) (getD (now lindptr) r 0)) ≤ length (now index)) ⌝ }
+    ensures { λ x. ⌜ Wrote (now (index .entry)) (now (index .exit)) start (walkOf (bit (now (p .entry))) r q (getD (now (lindices .entry)) t 0) (getD (now (lindptr .entry)) r 0)) x ⌝ }
 {
-    let a = word_at(lp, r);
-    places(p, q, &li[a..t], a as u32, index, start)
+    let a = word_at(lindptr, r);
+    places(p, q, &lindices[a..t], a as u32, index, start)
 }
 
 // Does a list read the marks of a row?
@@ -160,8 +160,8 @@ pub fn put_piece(
     off: &[u32],
     cols: &[u32],
     p: &[u64],
-    lp: &[u32],
-    li: &[u8],
+    lindptr: &[u32],
+    lindices: &[u8],
     mark: &[u32],
     i: usize,
     j: usize,
@@ -170,7 +170,7 @@ pub fn put_piece(
     index: &mut [u32],
     at: usize,
 ) -> usize
-    requires { ⌜ RowListing which (now off) (now cols) (now p) (now lp) (now li) (now mark) i × AtPair which (now off) (now cols) (now lp) (now li) i j t n × (at + length (piece (shape (now off) (now cols)) which i j) ≤ length (now index)) ⌝ }
+    requires { ⌜ RowListing which (now off) (now cols) (now p) (now lindptr) (now lindices) (now mark) i × AtPair which (now off) (now cols) (now lindptr) (now lindices) i j t n × (at + length (piece (shape (now off) (now cols)) which i j) ≤ length (now index)) ⌝ }
     ensures { λ r. ⌜ Wrote (now (index .entry)) (now (index .exit)) at (piece (shape (now (off .entry)) (now (cols .entry))) which i j) r ⌝ }
 {
     match which {
@@ -179,10 +179,10 @@ pub fn put_piece(
         Which::AnormIndptrJ => put_shared(Take::Right, off, cols, mark, i, j, index, at),
         Which::AnormIndices => put_shared(Take::Column, off, cols, mark, i, j, index, at),
         Which::LdecompIndptr => word(index, at, n),
-        Which::LdecompIndptrI => products(p, lp, li, i, j, t, index, at),
+        Which::LdecompIndptrI => products(p, lindptr, lindices, i, j, t, index, at),
         Which::LdecompIndptrJ => {
-            let last = word_at(lp, j + 1) - 1;
-            products(p, lp, li, j, i, last, index, at)
+            let last = word_at(lindptr, j + 1) - 1;
+            products(p, lindptr, lindices, j, i, last, index, at)
         }
         Which::Lindptr => keep(index, at, j == i, (t as u32) + 1),
         Which::LdiagIndptr => keep(index, at, j == i, t as u32),
@@ -209,15 +209,15 @@ fn on_diagonal(which: Which) -> bool
 }
 
 // The first stored pair of row i that a list looks at. The diagonal is the row's last.
-fn row_first(which: Which, lp: &[u32], i: usize) -> usize
-    requires { ⌜ (i + 1 < length (now lp)) × (1 ≤ getD (now lp) (i + 1) 0) ⌝ }
-    ensures last { λ r. ⌜ (diagonalOnly which ≡ true → r ≡ getD (now (lp .entry)) (i + 1) 0 - 1) ⌝ }
-    ensures first { λ r. ⌜ (diagonalOnly which ≡ false → r ≡ getD (now (lp .entry)) i 0) ⌝ }
+fn row_first(which: Which, lindptr: &[u32], i: usize) -> usize
+    requires { ⌜ (i + 1 < length (now lindptr)) × (1 ≤ getD (now lindptr) (i + 1) 0) ⌝ }
+    ensures last { λ r. ⌜ (diagonalOnly which ≡ true → r ≡ getD (now (lindptr .entry)) (i + 1) 0 - 1) ⌝ }
+    ensures first { λ r. ⌜ (diagonalOnly which ≡ false → r ≡ getD (now (lindptr .entry)) i 0) ⌝ }
 {
     if on_diagonal(which) {
-        word_at(lp, i + 1) - 1
+        word_at(lindptr, i + 1) - 1
     } else {
-        word_at(lp, i)
+        word_at(lindptr, i)
     }
 }
 
@@ -233,25 +233,39 @@ pub fn fill_row(
     off: &[u32],
     cols: &[u32],
     p: &[u64],
-    lp: &[u32],
-    li: &[u8],
+    lindptr: &[u32],
+    lindices: &[u8],
     mark: &[u32],
     i: usize,
     count: u32,
     index: &mut [u32],
     start: usize,
 ) -> Spot
-    requires { ⌜ RowListing which (now off) (now cols) (now p) (now lp) (now li) (now mark) i × Counting which (now off) (now cols) i count × (start + length (cat (i + 1) (piece (shape (now off) (now cols)) which i)) ≤ length (now index)) ⌝ }
+    requires { ⌜ RowListing which (now off) (now cols) (now p) (now lindptr) (now lindices) (now mark) i × Counting which (now off) (now cols) i count × (start + length (cat (i + 1) (piece (shape (now off) (now cols)) which i)) ≤ length (now index)) ⌝ }
     ensures { λ r. ⌜ Wrote (now (index .entry)) (now (index .exit)) start (cat (i + 1) (piece (shape (now (off .entry)) (now (cols .entry))) which i)) (r .at) × Counting which (now (off .entry)) (now (cols .entry)) (i + 1) (r .n) ⌝ }
 {
-    let b = word_at(lp, i + 1);
+    let b = word_at(lindptr, i + 1);
     let mut at = start;
     let mut n = count;
-    let mut t = row_first(which, lp, i);
+    let mut t = row_first(which, lindptr, i);
     while t < b {
-        let j = byte_at(li, t);
+        let j = byte_at(lindices, t);
         n += weigh(which, off, cols, p, mark, i, j);
-        at = put_piece(which, off, cols, p, lp, li, mark, i, j, t, n, index, at);
+        at = put_piece(
+            which,
+            off,
+            cols,
+            p,
+            lindptr,
+            lindices,
+            mark,
+            i,
+            j,
+            t,
+            n,
+            index,
+            at,
+        );
         t += 1;
     }
     Spot { at, n }
@@ -264,14 +278,14 @@ pub fn fill(
     cols: &[u32],
     m: usize,
     p: &[u64],
-    lp: &[u32],
-    li: &[u8],
+    lindptr: &[u32],
+    lindices: &[u8],
     wide: usize,
     mark: &mut [u32],
     index: &mut [u32],
     start: usize,
 ) -> usize
-    requires { ⌜ Listing (now off) (now cols) m (now p) (now lp) (now li) wide × (start + length (listOf (shape (now off) (now cols)) which m) ≤ length (now index)) × (wide ≤ length (now mark)) × ((c : ℕ) → c < wide → getD (now mark) c 0 ≤ getD (now off) 0 0) ⌝ }
+    requires { ⌜ Listing (now off) (now cols) m (now p) (now lindptr) (now lindices) wide × (start + length (listOf (shape (now off) (now cols)) which m) ≤ length (now index)) × (wide ≤ length (now mark)) × ((c : ℕ) → c < wide → getD (now mark) c 0 ≤ getD (now off) 0 0) ⌝ }
     ensures { λ r. ⌜ Wrote (now (index .entry)) (now (index .exit)) start (listOf (shape (now (off .entry)) (now (cols .entry))) which m) r ⌝ }
 {
     let mut at = keep(index, start, lists::has_head(which), 0);
@@ -279,7 +293,19 @@ pub fn fill(
     let mut i: usize = 0;
     while i < m {
         mark_for(which, off, cols, m, wide, i, mark);
-        let s = fill_row(which, off, cols, p, lp, li, mark, i, n, index, at);
+        let s = fill_row(
+            which,
+            off,
+            cols,
+            p,
+            lindptr,
+            lindices,
+            mark,
+            i,
+            n,
+            index,
+            at,
+        );
         at = s.at;
         n = s.n;
         i += 1;
@@ -296,14 +322,14 @@ pub fn put_ten(
     cols: &[u32],
     m: usize,
     p: &[u64],
-    lp: &[u32],
-    li: &[u8],
+    lindptr: &[u32],
+    lindices: &[u8],
     wide: usize,
     mark: &mut [u32],
     index: &mut [u32],
     start: usize,
 ) -> usize
-    requires { ⌜ Listing (now off) (now cols) m (now p) (now lp) (now li) wide × (start + length (tenOf (shape (now off) (now cols)) m 10) ≤ length (now index)) × (wide ≤ length (now mark)) ⌝ }
+    requires { ⌜ Listing (now off) (now cols) m (now p) (now lindptr) (now lindices) wide × (start + length (tenOf (shape (now off) (now cols)) m 10) ≤ length (now index)) × (wide ≤ length (now mark)) ⌝ }
     ensures { λ r. ⌜ Wrote (now (index .entry)) (now (index .exit)) start (tenOf (shape (now (off .entry)) (now (cols .entry))) m 10) r ⌝ }
 {
     let mut at = start;
@@ -316,8 +342,8 @@ pub fn put_ten(
             cols,
             m,
             p,
-            lp,
-            li,
+            lindptr,
+            lindices,
             wide,
             mark,
             index,

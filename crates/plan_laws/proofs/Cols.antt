@@ -12,7 +12,7 @@ use Rattle.base.specs.Sums.{sum}
 use Rattle.base.proofs.Sums.{sum-ext, sum-more}
 use Rattle.base.specs.Cat.{cat}
 use Rattle.lists.specs.Lists.{Shape, shape, place, inColumn, column, columnEnds, columns, endsOf, columnsOf}
-use Rattle.lists.specs.Ready.{Accepted}
+use Rattle.csr.specs.Csr.{Accepted}
 use Rattle.lists.specs.declared.Side.the-variants.{Matrix}
 use Rattle.lists.specs.declared.What.the-variants.{Numbers, Places}
 use Rattle.base.proofs.Write.{length-cat, cat-split}

@@ -8,7 +8,7 @@ use lib.Seq.{take-at, drop-at, drop-drop}
 use lib.Ieee.{Float}
 use Rattle.csr.specs.Counts.{countE, countS, countD}
 use Rattle.lists.specs.Lists.{Shape, shape, holds, entry, listOf, endsOf, columnsOf, planOf, planWords}
-use Rattle.lists.specs.Ready.{Accepted}
+use Rattle.csr.specs.Csr.{Accepted}
 use Rattle.lists.specs.declared.Which.the-variants.{AnormIndptr, AnormIndptrI, AnormIndptrJ, AnormIndices, LdecompIndptr, LdecompIndptrI, LdecompIndptrJ, Lindptr, LdiagIndptr, Lindices}
 use Rattle.lists.specs.declared.Side.{Side}
 use Rattle.lists.specs.declared.Side.the-variants.{Factor, Matrix}

@@ -13,7 +13,7 @@ use Rattle.base.specs.Sums.{one}
 use Rattle.base.specs.Cat.{pick}
 use Rattle.lists.specs.Lists.{Shape, shape, place, lplace, before, weight, products, shared, piece, listOf}
 use Rattle.base.specs.Numbers.{find}
-use Rattle.lists.specs.Ready.{Accepted}
+use Rattle.csr.specs.Csr.{Accepted}
 use Rattle.lists.specs.declared.Which.the-variants.{AnormIndptr, AnormIndptrI, AnormIndptrJ, AnormIndices, LdecompIndptr, LdecompIndptrI, LdecompIndptrJ}
 use Rattle.base.proofs.Write.{length-cat, length-pick}
 use Rattle.lists.proofs.Merge.{length-both}

@@ -8,7 +8,7 @@ use native.Mathlib.Decide.{decLt}
 use lib.ListN.{length, getD}
 use lib.Ieee.{Float}
 use Rattle.csr.specs.Pattern.{row}
-use Rattle.lists.specs.Ready.{Accepted}
+use Rattle.csr.specs.Csr.{Accepted}
 use Rattle.machine.specs.Work.{problemOf}
 use Rattle.plan_laws.proofs.Picks.{between}
 use Rattle.plan_laws.specs.Meaning.{RowsOf}

@@ -10,7 +10,7 @@ use lib.Dec.{eqb, ltb}
 use lib.ListN.{length, getD}
 use lib.Ieee.{Float, binary64, div}
 use Rattle.lists.specs.Lists.{Shape, shape, lplace, before, weight, piece, listOf}
-use Rattle.lists.specs.Ready.{Accepted}
+use Rattle.csr.specs.Csr.{Accepted}
 use Rattle.lists.specs.declared.Which.the-variants.{AnormIndptr, AnormIndptrI, AnormIndptrJ, AnormIndices, LdecompIndptr, LdecompIndptrI, LdecompIndptrJ, LdiagIndptr}
 use Rattle.lanes.specs.Lanes.{cell as here, room}
 use Rattle.lanes.specs.Region.{reg}

@@ -20,16 +20,16 @@ module _ (A : Problem) where
     pub rising : (i : ℕ) → i < A .m → Between 0 (A .n) (span (A .off) (A .cols) i)
 
   -- the transposed lists: for each column its rows rising, and where those entries stand
-  pub record ColsOf (toff rows places : List ℕ) : Type 0 where
-    pub ranges : Cols (A .n) (A .m) toff rows places (A .vals)
-    pub rising : (e : ℕ) → e < A .n → Between 0 (A .m) (span toff rows e)
-    pub holding : (e : ℕ) → e < A .n → (i : ℕ) → i < A .m → holds A i e ≡ has (span toff rows e) i
+  pub record ColsOf (atindptr atindices atmap : List ℕ) : Type 0 where
+    pub ranges : Cols (A .n) (A .m) atindptr atindices atmap (A .vals)
+    pub rising : (e : ℕ) → e < A .n → Between 0 (A .m) (span atindptr atindices e)
+    pub holding : (e : ℕ) → e < A .n → (i : ℕ) → i < A .m → holds A i e ≡ has (span atindptr atindices e) i
     pub entries :
         (e : ℕ)
         → e < A .n
         → (k : ℕ)
-        → k < length (span toff rows e)
-        → at (A .vals) (getD (span toff places e) k 0) ≡ entry A (getD (span toff rows e) k 0) e
+        → k < length (span atindptr atindices e)
+        → at (A .vals) (getD (span atindptr atmap e) k 0) ≡ entry A (getD (span atindptr atindices e) k 0) e
 
   -- the factor's rows: in each the lower ones rising, and last its own
   pub record LowOf (ptr ind : List ℕ) : Type 0 where

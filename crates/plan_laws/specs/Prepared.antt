@@ -5,7 +5,7 @@ use Prim.Native.Nat.{ℕ, _≤_}
 use lib.ListN.{length}
 use lib.Ieee.{Float}
 use Rattle.lists.specs.Lists.{shape, listOf, endsOf, columnsOf}
-use Rattle.lists.specs.Ready.{Accepted}
+use Rattle.csr.specs.Csr.{Accepted}
 use Rattle.lists.specs.declared.Which.the-variants.{AnormIndptr, AnormIndptrI, AnormIndptrJ, AnormIndices, LdecompIndptr, LdecompIndptrI, LdecompIndptrJ, Lindptr, LdiagIndptr, Lindices}
 use Rattle.lists.specs.declared.Side.the-variants.{Factor, Matrix}
 use Rattle.lists.specs.declared.What.the-variants.{Numbers, Places}

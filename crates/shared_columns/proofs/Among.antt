@@ -57,4 +57,4 @@ module _ (off cols : List ℕ) (m n : ℕ) (g : Grid off cols m n) (mark : List 
   count-common =
       ap₂ (λ (x : ℕ) (l : List ℕ). countOf (marked mark x) l) e eb
       ∙ count-has mark (getD off i 0) n (row off cols i) k (row off cols j) (g .within j hj)
-      ∙ common-sym (row off cols j) (row off cols i) (g .rising j hj) (g .rising i hi)
+      ∙ common-sym (row off cols j) (row off cols i) (g .csr .rising j hj) (g .csr .rising i hi)

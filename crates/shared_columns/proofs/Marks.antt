@@ -18,7 +18,7 @@ use Rattle.transpose.specs.Bins.{Grid}
 use Rattle.lists.specs.declared.Take.{Take}
 use Rattle.lists.proofs.Merge.{both-eq, both-lt, both-gt, both-nil}
 use Rattle.base.proofs.Numbers.{find-at, below-at, length-takes, below-more}
-use Rattle.lists.proofs.Pieces.{map-join, map-pick}
+use Rattle.base.proofs.Maps.{map-join, map-pick}
 use Rattle.csr.proofs.Has.{has-last}
 use Rattle.shared_columns.specs.Marked.{alongOf, Marked, hit}
 use Rattle.base.proofs.Bools.{or-nil, or-true}
@@ -179,7 +179,7 @@ hit-no t mark lo y v l = ap (λ (b : Bool). pick b (chosen t (getD mark v 0 - 1)
 module _ (t : Take) (off cols : List ℕ) (m n : ℕ) (g : Grid off cols m n) (mark : List ℕ) (i j : ℕ) (hi : i < m) (hj : j < m) (long : n ≤ length mark)
     (k : Marked mark (getD off i 0) (row off cols i) n) (a b : ℕ) (ea : a ≡ getD off j 0) (eb : b ≡ getD off (j + 1) 0) where
   pub span-order : (a ≤ b) × (b ≤ length cols) × (length cols ≤ 65536)
-  span-order = (omega (arith, g .order j hj), omega (arith, g .ends (j + 1) (omega arith)), g .nnz)
+  span-order = (omega (arith, g .csr .order j hj), omega (arith, g .csr .ends (j + 1) (omega arith)), g .short)
 
   pub span-below : Below (length mark) (take (b - a) (drop a cols))
   span-below = subst (Below (length mark)) (sym (row-is off cols j a b ea eb)) (below-more n (length mark) (row off cols j) long (g .within j hj))
@@ -192,4 +192,4 @@ module _ (t : Take) (off cols : List ℕ) (m n : ℕ) (g : Grid off cols m n) (m
   span-is lo el =
       ap (λ (x : ℕ). alongOf (hit t mark x) a (take (b - a) (drop a cols))) el
       ∙ ap₂ (λ (x : ℕ) (l : List ℕ). alongOf (hit t mark (getD off i 0)) x l) ea (row-is off cols j a b ea eb)
-      ∙ along-shared t mark (getD off i 0) n (row off cols i) k (getD off j 0) (row off cols j) (g .rising j hj) (g .within j hj) (g .rising i hi)
+      ∙ along-shared t mark (getD off i 0) n (row off cols i) k (getD off j 0) (row off cols j) (g .csr .rising j hj) (g .within j hj) (g .csr .rising i hi)

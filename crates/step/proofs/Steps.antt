@@ -41,20 +41,20 @@ largestRatio-front width ws k n t w dw r dr l =
     (λ e h v. rw (reg-front width ws dr k n t e h l, reg-front width ws r k n t e h l))
 
 module _ (width : ℕ) (A : Problem) (H : Settings) (d : LaneData) (q : State) where
-  module _ (toff rows places : List ℕ) (C : ColsOf A toff rows places) where
-    costs-machine : vec (A .n) (costAt toff rows places (A .vals) (d .c) (q .y)) ≡ reducedCosts width A d q
+  module _ (atindptr atindices atmap : List ℕ) (C : ColsOf A atindptr atindices atmap) where
+    costs-machine : vec (A .n) (costAt atindptr atindices atmap (A .vals) (d .c) (q .y)) ≡ reducedCosts width A d q
     unfolding costAt
-    costs-machine = vec-same (A .n) _ _ (λ e h. rw (col-plus A toff rows places C e h (q .y)))
+    costs-machine = vec-same (A .n) _ _ (λ e h. rw (col-plus A atindptr atindices atmap C e h (q .y)))
 
-    u-machine : (mu : Float) → vec (A .n) (uAt toff rows places (A .vals) (d .c) mu (q .x) (q .z) (q .y)) ≡ uOf A H d q mu
+    u-machine : (mu : Float) → vec (A .n) (uAt atindptr atindices atmap (A .vals) (d .c) mu (q .x) (q .z) (q .y)) ≡ uOf A H d q mu
     unfolding uAt costAt uOf
-    u-machine mu = vec-same (A .n) _ _ (λ e h. rw (col-plus A toff rows places C e h (q .y)))
+    u-machine mu = vec-same (A .n) _ _ (λ e h. rw (col-plus A atindptr atindices atmap C e h (q .y)))
 
-    dx-machine : (mu : Float) (dy : List Float) → vec (A .n) (dxAt toff rows places (A .vals) (reducedCosts width A d q) (muOverX width A mu q) (q .x) (q .z) dy) ≡ dxOf A H d q mu dy
+    dx-machine : (mu : Float) (dy : List Float) → vec (A .n) (dxAt atindptr atindices atmap (A .vals) (reducedCosts width A d q) (muOverX width A mu q) (q .x) (q .z) dy) ≡ dxOf A H d q mu dy
     unfolding dxAt dxOf
     dx-machine mu dy =
         vec-same (A .n) _ _
-        (λ e h. rw (vec-at (A .n) (λ e. at (d .c) e ⊖ columnProduct A (q .y) e) e h, vec-at (A .n) (λ e. mu ⊘ at (q .x) e) e h, col-plus A toff rows places C e h dy))
+        (λ e h. rw (vec-at (A .n) (λ e. at (d .c) e ⊖ columnProduct A (q .y) e) e h, vec-at (A .n) (λ e. mu ⊘ at (q .x) e) e h, col-plus A atindptr atindices atmap C e h dy))
 
   f-machine : RowsOf A → (mu : Float) → vec (A .m) (fAt (A .off) (A .cols) (A .vals) (A .s) (d .b) mu (q .x) (q .y) (uOf A H d q mu)) ≡ fOf A H d q mu
   unfolding fAt fOf vOf rowProduct
@@ -124,10 +124,10 @@ module _ (width : ℕ) (A : Problem) where
 
   module _ (H : Settings) (d : ℕ → LaneData) (mu : List Float) where
     -- ---- the right-hand side: u, then f
-    module _ (toff rows places : List ℕ) (R : RowsOf A) (C : ColsOf A toff rows places) where
+    module _ (atindptr atindices atmap : List ℕ) (R : RowsOf A) (C : ColsOf A atindptr atindices atmap) where
       pub right-side : {w0 w1 w2 : List Float}
-          → FillsThree width (2 * n) (3 * n) (4 * n) n (λ t. vec n (costAt toff rows places (A .vals) (d t .c) (reg width w0 (yAt n) m t))) (λ t. muOverX width A (at mu t) (numbersIn width A w0 t))
-          (λ t. vec n (uAt toff rows places (A .vals) (d t .c) (at mu t) (reg width w0 0 n t) (reg width w0 n n t) (reg width w0 (yAt n) m t))) w0 w1
+          → FillsThree width (2 * n) (3 * n) (4 * n) n (λ t. vec n (costAt atindptr atindices atmap (A .vals) (d t .c) (reg width w0 (yAt n) m t))) (λ t. muOverX width A (at mu t) (numbersIn width A w0 t))
+          (λ t. vec n (uAt atindptr atindices atmap (A .vals) (d t .c) (at mu t) (reg width w0 0 n t) (reg width w0 n n t) (reg width w0 (yAt n) m t))) w0 w1
           → Fills width (rhsAt n m) m (λ t. vec m (fAt (A .off) (A .cols) (A .vals) s (d t .b) (at mu t) (reg width w1 0 n t) (reg width w1 (yAt n) m t) (reg width w1 (4 * n) n t))) w1 w2
           → RightSide width A H d mu w0 w2
       right-side {w0} {w1} {w2} F1 F2 = record { still = still-on s1 s2; rhs = f; ready = record { costs = costs; quotients = quotients } }
@@ -139,7 +139,7 @@ module _ (width : ℕ) (A : Problem) where
           s2 = nums-kept (lAt n m s) (F2 .kept) (omega arith) (before (omega arith)) (before (omega arith)) (before (omega arith)) (after (omega arith))
 
           u : (t : ℕ) → t < width → reg width w1 (4 * n) n t ≡ uOf A H (d t) (numbersIn width A w0 t) (at mu t)
-          u t b = F1 .third t b ∙ u-machine width A H (d t) (numbersIn width A w0 t) toff rows places C (at mu t)
+          u t b = F1 .third t b ∙ u-machine width A H (d t) (numbersIn width A w0 t) atindptr atindices atmap C (at mu t)
 
           f : (t : ℕ) → t < width → reg width w2 (rhsAt n m) m t ≡ fOf A H (d t) (numbersIn width A w0 t) (at mu t)
           f t b =
@@ -152,17 +152,17 @@ module _ (width : ℕ) (A : Problem) where
           costs t b =
               same (2 * n) n (F2 .kept) (before (omega arith)) t b
               ∙ F1 .first t b
-              ∙ costs-machine width A H (d t) (numbersIn width A w0 t) toff rows places C
+              ∙ costs-machine width A H (d t) (numbersIn width A w0 t) atindptr atindices atmap C
               ∙ ap (reducedCosts width A (d t)) (sym (still-on s1 s2 .kept t b))
 
           quotients : (t : ℕ) → t < width → reg width w2 (3 * n) n t ≡ muOverX width A (at mu t) (numbersIn width A w2 t)
           quotients t b = same (3 * n) n (F2 .kept) (before (omega arith)) t b ∙ F1 .second t b ∙ ap (muOverX width A (at mu t)) (sym (still-on s1 s2 .kept t b))
 
     -- ---- dx, dz and dw of dy, and theta
-    module _ (toff rows places : List ℕ) (C : ColsOf A toff rows places) (slack : s ≤ m) where
+    module _ (atindptr atindices atmap : List ℕ) (C : ColsOf A atindptr atindices atmap) (slack : s ≤ m) where
       pub changed : {w0 w1 w2 r1 r2 r : List Float}
           → Ready width A d mu w0
-          → FillsTwo width (2 * n) (3 * n) n (λ t. vec n (dxAt toff rows places (A .vals) (reg width w0 (2 * n) n t) (reg width w0 (3 * n) n t) (reg width w0 0 n t) (reg width w0 n n t) (reg width w0 (dyAt n m) m t)))
+          → FillsTwo width (2 * n) (3 * n) n (λ t. vec n (dxAt atindptr atindices atmap (A .vals) (reg width w0 (2 * n) n t) (reg width w0 (3 * n) n t) (reg width w0 0 n t) (reg width w0 n n t) (reg width w0 (dyAt n m) m t)))
           (λ t. complement n (at mu t) (reg width w0 n n t) (reg width w0 0 n t) (reg width w1 (2 * n) n t)) w0 w1
           → On width r1 (λ t. largestRatio n (reg width w1 0 n t) (reg width w1 (2 * n) n t) (reg width w1 n n t) (reg width w1 (3 * n) n t))
           → Fills width (dwAt n m s) s (λ t. complement s (at mu t) (reg width w1 (wAt n m) s t) (reg width w1 (yAt n) s t) (reg width w1 (dyAt n m) s t)) w1 w2
@@ -191,7 +191,7 @@ module _ (width : ℕ) (A : Problem) where
           column o h t b = same o n (F2 .kept) (before (omega arith)) t b
 
           dx1 : (t : ℕ) → t < width → reg width w1 (2 * n) n t ≡ dxOf A H (d t) (numbersIn width A w0 t) (at mu t) (reg width w0 (dyAt n m) m t)
-          dx1 t b = F1 .first t b ∙ rw (R .costs t b, R .quotients t b) (dx-machine width A H (d t) (numbersIn width A w0 t) toff rows places C (at mu t) (reg width w0 (dyAt n m) m t))
+          dx1 t b = F1 .first t b ∙ rw (R .costs t b, R .quotients t b) (dx-machine width A H (d t) (numbersIn width A w0 t) atindptr atindices atmap C (at mu t) (reg width w0 (dyAt n m) m t))
 
           dx : (t : ℕ) → t < width → reg width w2 (2 * n) n t ≡ dxOf A H (d t) (numbersIn width A w0 t) (at mu t) (reg width w0 (dyAt n m) m t)
           dx t b = column (2 * n) (omega arith) t b ∙ dx1 t b

@@ -49,10 +49,21 @@ fn normal_eqn_rhs(
     ensures { λ _. ⌜ ((H : Settings) (tol : List Float) → RightSide width (problemIn plan (now (off .entry)) (now (cols .entry)) (now (vals .entry))) H (dataIn plan block (now (b .entry)) (now (c .entry)) tol) mu (now (work .entry)) (now (work .exit))) ⌝ }
 {
     let mem = plan.regions();
-    let cp = plan.atindptr(index);
-    let ci = plan.atindices(index);
-    let cm = plan.atmap(index);
-    rhs_u(cp, ci, cm, vals, c, block, work, width, mem, mu);
+    let atindptr = plan.atindptr(index);
+    let atindices = plan.atindices(index);
+    let atmap = plan.atmap(index);
+    rhs_u(
+        atindptr,
+        atindices,
+        atmap,
+        vals,
+        c,
+        block,
+        work,
+        width,
+        mem,
+        mu,
+    );
     rhs_f(off, cols, vals, b, block, work, width, mem, mu);
 }
 
@@ -69,10 +80,10 @@ fn compute_dx_dz_dw(
     ensures { λ r. ⌜ ((off cols : List ℕ) (H : Settings) (d : ℕ → LaneData) → Planned off cols (now (vals .entry)) plan (now (index .entry)) → Ready width (problemIn plan off cols (now (vals .entry))) d mu (now (work .entry)) → Changed width (problemIn plan off cols (now (vals .entry))) H d mu (now (work .entry)) (now (work .exit)) r) ⌝ }
 {
     let mem = plan.regions();
-    let cp = plan.atindptr(index);
-    let ci = plan.atindices(index);
-    let cm = plan.atmap(index);
-    let p = column_changes(cp, ci, cm, vals, work, width, mem, mu);
+    let atindptr = plan.atindptr(index);
+    let atindices = plan.atindices(index);
+    let atmap = plan.atmap(index);
+    let p = column_changes(atindptr, atindices, atmap, vals, work, width, mem, mu);
     let q = slack_changes(work, width, mem, mu);
     larger4(p, q)
 }

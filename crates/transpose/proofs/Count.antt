@@ -74,7 +74,7 @@ module _ (off cols : List ℕ) (m n i : ℕ) (ok : Grid off cols m n) (hi : i < 
         let z : k - getD off i 0 + 1 ≡ k + 1 - getD off i 0 = omega arith in
         subst (λ (y : ℕ). Tally (set next e (getD next e 0 + 1)) n (inRow off cols Numbers i y)) z
         (tally-ext _ n (putIn e i (inRow off cols Numbers i (k - getD off i 0))) (inRow off cols Numbers i (k - getD off i 0 + 1))
-        (in-step off cols Numbers i (k - getD off i 0) e i (ok .rising i hi) (in-q off cols m n i ok hi Numbers k e i lo hk he refl) (e-at off cols m n i ok hi Numbers k e i lo hk he refl) refl)
+        (in-step off cols Numbers i (k - getD off i 0) e i (ok .csr .rising i hi) (in-q off cols m n i ok hi Numbers k e i lo hk he refl) (e-at off cols m n i ok hi Numbers k e i lo hk he refl) refl)
         (tally-put next n (inRow off cols Numbers i (k - getD off i 0)) e i e-in (omega (arith, e-in)) b))
 
     pub count-asks : (e < length next) × (getD next e 0 < 256)
@@ -83,9 +83,9 @@ module _ (off cols : List ℕ) (m n i : ℕ) (ok : Grid off cols m n) (hi : i < 
       omega (
         arith,
         b .count e e-in,
-        in-room off cols Numbers i (k - getD off i 0) e i (ok .rising i hi) (in-q off cols m n i ok hi Numbers k e i lo hk he refl) (e-at off cols m n i ok hi Numbers k e i lo hk he refl) refl m hi,
+        in-room off cols Numbers i (k - getD off i 0) e i (ok .csr .rising i hi) (in-q off cols m n i ok hi Numbers k e i lo hk he refl) (e-at off cols m n i ok hi Numbers k e i lo hk he refl) refl m hi,
         room-few off cols m e,
-        ok .few,
+        ok .csr .few,
       ),
     )
 

@@ -7,12 +7,8 @@ use Rattle.transpose.specs.Bins.{Grid}
 
 pub accepted-grid : (off cols : List ℕ) (m n : ℕ) → Accepted off cols m n → Grid off cols m n
 accepted-grid off cols m n a = record {
-  offsets = omega (arith, a .csr .offsets);
-  few = a .csr .few;
-  order = a .csr .order;
-  ends = a .csr .ends;
-  rising = a .csr .rising;
-  nnz = omega (arith, a .csr .nnz);
+  csr = a .csr;
+  short = omega (arith, a .offsets .few);
   wide = a .wide;
   within = a .within;
 }

@@ -24,10 +24,10 @@ place-of off cols i e k q f g = g ∙ ap (λ (y : ℕ). getD off i 0 + y) (sym f
 
 module _ (off cols : List ℕ) (m n i : ℕ) (ok : Grid off cols m n) (hi : i < m) where
   pub row-long : length (row off cols i) ≡ getD off (i + 1) 0 - getD off i 0
-  row-long = row-length off cols i (ok .ends (i + 1) (omega arith))
+  row-long = row-length off cols i (ok .csr .ends (i + 1) (omega arith))
 
   pub ends-in : (k : ℕ) → k < getD off (i + 1) 0 → (k < length cols) × (length cols ≤ 65536)
-  ends-in k h = (omega (arith, ok .ends (i + 1) (omega arith)), ok .nnz)
+  ends-in k h = (omega (arith, ok .csr .ends (i + 1) (omega arith)), ok .short)
 
   module _ (w : What) (k e x : ℕ) (lo : getD off i 0 ≤ k) (hk : k < getD off (i + 1) 0) (he : e ≡ getD cols k 0) (hx : x ≡ byWhat w i k) where
     pub in-q : k - getD off i 0 < length (row off cols i)
@@ -46,7 +46,7 @@ module _ (off cols : List ℕ) (m n i : ℕ) (ok : Grid off cols m n) (hi : i < 
       where
         go : (v : What) → byWhat v i k ≡ entry (shape off cols) Matrix v i e
         go Numbers = refl
-        go Places = place-of off cols i e k (k - getD off i 0) (ap (λ (y : ℕ). find y (row off cols i)) e-at ∙ find-at (row off cols i) (k - getD off i 0) (ok .rising i hi) in-q) (omega arith)
+        go Places = place-of off cols i e k (k - getD off i 0) (ap (λ (y : ℕ). find y (row off cols i)) e-at ∙ find-at (row off cols i) (k - getD off i 0) (ok .csr .rising i hi) in-q) (omega arith)
 
     module _ (index next : List ℕ) (start : ℕ) (long : n ≤ length next) (room : start + sum n (roomOf off cols m) ≤ length index)
         (b : Bins index next start n (roomOf off cols m) (inRow off cols w i (k - getD off i 0))) where
@@ -54,10 +54,10 @@ module _ (off cols : List ℕ) (m n i : ℕ) (ok : Grid off cols m n) (hi : i < 
       row-turn =
           let z : k - getD off i 0 + 1 ≡ k + 1 - getD off i 0 = omega arith in
           subst (λ (y : ℕ). Bins (set index (start + getD next e 0) x) (set next e (getD next e 0 + 1)) start n (roomOf off cols m) (inRow off cols w i y)) z
-          (turn off cols w i (k - getD off i 0) e x (ok .rising i hi) in-q e-at x-is index next start n m hi e-below (omega (arith, e-below)) room b)
+          (turn off cols w i (k - getD off i 0) e x (ok .csr .rising i hi) in-q e-at x-is index next start n m hi e-below (omega (arith, e-below)) room b)
 
       spot-in : start + getD next e 0 < start + sum n (roomOf off cols m)
-      spot-in = omega (arith, b .cursor e e-below, in-room off cols w i (k - getD off i 0) e x (ok .rising i hi) in-q e-at x-is m hi, sum-room n e (roomOf off cols m) e-below)
+      spot-in = omega (arith, b .cursor e e-below, in-room off cols w i (k - getD off i 0) e x (ok .csr .rising i hi) in-q e-at x-is m hi, sum-room n e (roomOf off cols m) e-below)
 
       pub turn-asks : sum n (roomOf off cols m) ≤ 262144 → (e < length next) × (start + getD next e 0 < length index) × (getD next e 0 < 262144)
       turn-asks f = (omega (arith, e-below), omega (arith, spot-in), omega (arith, spot-in))

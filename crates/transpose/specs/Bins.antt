@@ -7,8 +7,9 @@ use lib.Dec.{eqb}
 use lib.ListN.{length, getD, take}
 use Rattle.csr.specs.Counts.{common}
 use Rattle.csr.specs.Pattern.{has, row}
+use Rattle.csr.specs.Csr.{Csr}
 use Rattle.base.specs.Cat.{pick, cat}
-use Rattle.base.specs.Numbers.{Below, Rising}
+use Rattle.base.specs.Numbers.{Below}
 use Rattle.lists.specs.Lists.{shape, holds, entry, column, inColumn, sideOf}
 use Rattle.lists.specs.declared.What.{What}
 use Rattle.lists.specs.declared.What.the-variants.{Numbers}
@@ -52,12 +53,8 @@ pub record Outside (old new : List ℕ) (start end : ℕ) : Type 0 where
 
 -- lists of rows, rising, columns below n: the matrix's, or the factor's
 pub record Grid (off cols : List ℕ) (m n : ℕ) : Type 0 where
-  pub offsets : m < length off
-  pub few : m ≤ 256
-  pub order : (i : ℕ) → i < m → getD off i 0 ≤ getD off (i + 1) 0
-  pub ends : (i : ℕ) → i ≤ m → getD off i 0 ≤ length cols
-  pub rising : (i : ℕ) → i < m → Rising (row off cols i)
-  pub nnz : length cols ≤ 65536
+  pub csr : Csr off cols m
+  pub short : length cols ≤ 65536
   pub wide : n ≤ 1024
   pub within : (i : ℕ) → i < m → Below n (row off cols i)
 

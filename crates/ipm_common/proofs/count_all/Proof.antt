@@ -28,7 +28,7 @@ count-rows-requires-2 : tie.Need-count-rows-requires-2
 count-rows-requires-2 c κs =
     let s = c .before .before .before .before .before .before .before .before .before .before .before .before .before .before .before .before .before .before .before .before in
     let a = s .args in
-    (rows-grid (bit (a .p .now)) (a .lp .now) (a .li .now) (a .m) (s .pre .2), omega (arith, s .pre .3 .rows, c .before .before .before .before .before .before .before .before .before .before .before .clear .kept .0, c .before .before .before .before .before .before .before .count-rows .kept .1 .1 .1 .1 .1 .1 .0, c .before .before .before .clear2 .kept .0), c .before .before .before .clear2 .ensures)
+    (rows-grid (bit (a .p .now)) (a .lindptr .now) (a .lindices .now) (a .m) (s .pre .2), omega (arith, s .pre .3 .rows, c .before .before .before .before .before .before .before .before .before .before .before .clear .kept .0, c .before .before .before .before .before .before .before .count-rows .kept .1 .1 .1 .1 .1 .1 .0, c .before .before .before .clear2 .kept .0), c .before .before .before .clear2 .ensures)
 
 cast-t22 : tie.Need-cast-t22
 cast-t22 c = omega (arith, c .before .before .count-rows2 .ensures .2)
@@ -38,7 +38,7 @@ sub-t23 c =
     let s = c .before .before .before .before .before .before .before .before .before .before .before .before .before .before .before .before .before .before .before .before .before .before .before in
     let a = s .args in
     let e = count-E (a .offsets .now) (a .columns .now) (a .p .now) (a .m) (s .pre .0 .csr .few) (s .pre .1 .rows) in
-    let d = factor-pairs (a .offsets .now) (a .columns .now) (a .m) (a .p .now) (a .lp .now) (a .li .now) (s .pre .1) (s .pre .2) in
+    let d = factor-pairs (a .offsets .now) (a .columns .now) (a .m) (a .p .now) (a .lindptr .now) (a .lindices .now) (s .pre .1) (s .pre .2) in
     omega (arith, c .before .before .before .before .before .before .before .before .before .before .before .before .before .before .before .before .count .ensures, e, c .before .before .count-rows2 .ensures .1, d)
 
 same-length : tie.Need-same-length
@@ -49,7 +49,7 @@ returns c =
     let s = c .before .before .before .before .before .before .before .before .before .before .before .before .before .before .before .before .before .before .before .before .before .before .before in
     let a = s .args in
     let e = count-E (a .offsets .now) (a .columns .now) (a .p .now) (a .m) (s .pre .0 .csr .few) (s .pre .1 .rows) in
-    let d = factor-pairs (a .offsets .now) (a .columns .now) (a .m) (a .p .now) (a .lp .now) (a .li .now) (s .pre .1) (s .pre .2) in
+    let d = factor-pairs (a .offsets .now) (a .columns .now) (a .m) (a .p .now) (a .lindptr .now) (a .lindices .now) (s .pre .1) (s .pre .2) in
     record {
       stored = c .before .before .before .before .before .before .before .before .before .before .before .before .before .before .before .before .count .ensures ∙ e;
       shared = c .before .before .before .before .before .before .before .before .before .before .count-rows .ensures .1;

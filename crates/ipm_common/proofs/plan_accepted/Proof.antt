@@ -17,7 +17,7 @@ plan-below-requires : tie.Need-plan-below-requires
 plan-below-requires c κs = search needs
 
 words-requires : tie.Need-words-requires
-words-requires c κs = (c .before .before .before .before .before .before .before .pre .csr .few, c .before .before .before .before .before .before .before .pre .wide, c .before .before .before .before .before .before .before .pre .csr .nnz, c .before .before .plan-below .ensures .sizes .few)
+words-requires c κs = (c .before .before .before .before .before .before .before .pre .csr .few, c .before .before .before .before .before .before .before .pre .wide, c .before .before .before .before .before .before .before .pre .offsets .few, c .before .before .plan-below .ensures .sizes .few)
 
 new-requires : tie.Need-new-requires
 new-requires c κs = search needs

@@ -56,7 +56,7 @@ returns c =
 words-requires : tie.Need-words-requires
 words-requires c κs =
     let p = c .before .before .before .before .before .before .before .before .before .before .before .before .before .before .before .before .before .before .before .before .before .before .before .before .before .before .before .before .pre .0 in
-    (p .csr .few, omega (arith, p .csr .few, p .wide), p .csr .nnz, c .before .before .before .before .count-all .ensures .few)
+    (p .csr .few, omega (arith, p .csr .few, p .wide), p .offsets .few, c .before .before .before .before .count-all .ensures .few)
 
 same-length-4 : tie.Need-same-length-4
 same-length-4 c = search needs
@@ -87,7 +87,7 @@ put-plan-requires c κs =
     let w : c .before .before .before .before .before .before .before .before .words .result ≡ sizeW (a .offsets .now) (a .columns .now) (a .m) (a .n) = c .before .before .before .before .before .before .before .before .words .ensures ∙ fin.words-are (a .offsets .now) (a .columns .now) (a .m) (a .n) _ _ _ (c .before .before .before .before .before .before .before .before .before .before .before .before .before .count-all .ensures) in
     let l = c .before .before .before .before .before .before .before .before .before .before .before .before .before .count-all .kept .1 .1 .1 .1 .1 .1 .1 .0 in (
       s .pre .0,
-      record { csr = s .pre .0 .csr; words = c .before .before .before .before .before .before .before .before .before .before .before .before .before .before .before .before .before .before .before .before .before .before .before .before .before .before .before .pattern .kept .1 .1 .1 .0; rows = c .before .before .before .before .before .before .before .before .before .before .before .before .before .before .before .before .before .before .before .before .before .before .before .before .before .before .before .pattern .ensures },
+      record { csr = s .pre .0 .csr; short = s .pre .0 .offsets .few; words = c .before .before .before .before .before .before .before .before .before .before .before .before .before .before .before .before .before .before .before .before .before .before .before .before .before .before .before .pattern .kept .1 .1 .1 .0; rows = c .before .before .before .before .before .before .before .before .before .before .before .before .before .before .before .before .before .before .before .before .before .before .before .before .before .before .before .pattern .ensures },
       c .before .before .before .before .before .before .before .before .before .before .before .before .before .before .before .before .before .before .before .before .before .before .list-rows .ensures,
       omega (arith, z, w, c .before .before .before .before .before .before .before .if2 .left),
       s .pre .1 .marks,

@@ -33,7 +33,7 @@ words-requires c κs =
     let s = c .before .before .before .before .before .before .before .before .before .before .before .before .before .before .before .before .before in
     let k = s .pre .0 .csr in
     let z = c .before .before .before .before .before .plan-below .ensures .sizes in
-    rw (c .new .ensures) (omega (arith, z .stored, z .products, z .few, few-stored _ _ _ k, few-products _ _ _ k, k .few, k .nnz, s .pre .0 .wide))
+    rw (c .new .ensures) (omega (arith, z .stored, z .products, z .few, few-stored _ _ _ k, few-products _ _ _ k, k .few, s .pre .0 .offsets .few, s .pre .0 .wide))
 
 ask-sizes-requires : tie.Need-ask-sizes-requires
 ask-sizes-requires c κs =

@@ -13,11 +13,11 @@ use Rattle.pair_lists.proofs.fill.Statement.{statement}
 use Rattle.pair_lists.proofs.fill.Tie as tie
 
 abbrev Inv-loop : tie.InvT-loop
-Inv-loop which off cols m p lp li wide mark₀ index₀ start at₀ n₀ i₀ mark index at n i =
+Inv-loop which off cols m p lindptr lindices wide mark₀ index₀ start at₀ n₀ i₀ mark index at n i =
     (i ≤ m) × (length index ≡ length index₀) × (n ≡ before (weight (shape off cols) which) i 0) × (n ≤ 4210688 * i) × Wrote index₀ index at₀ (pairs i (piece (shape off cols) which)) at × (length mark ≡ length mark₀) × ((x : ℕ) → x < wide → getD mark x 0 ≤ getD off i 0)
 
 abbrev μ-loop : tie.MeasureT-loop
-μ-loop which off cols m p lp li wide mark₀ index₀ start at₀ n₀ i₀ mark index at n i = m - i
+μ-loop which off cols m p lindptr lindices wide mark₀ index₀ start at₀ n₀ i₀ mark index at n i = m - i
 
 has-head-requires : tie.Need-has-head-requires Inv-loop μ-loop
 has-head-requires c κs = tt

@@ -9,10 +9,10 @@ use Rattle.pair_lists.proofs.list_rows.Statement.{statement}
 use Rattle.pair_lists.proofs.list_rows.Tie as tie
 
 abbrev Inv-loop : tie.InvT-loop
-Inv-loop p m lp₀ li₀ at₀ i₀ lp li at i = (i ≤ m) × (length lp ≡ length lp₀) × (length li ≡ length li₀) × law.Listing (bit p) li₀ li lp at i
+Inv-loop p m lp₀ li₀ at₀ i₀ lindptr lindices at i = (i ≤ m) × (length lindptr ≡ length lp₀) × (length lindices ≡ length li₀) × law.Listing (bit p) li₀ lindices lindptr at i
 
 abbrev μ-loop : tie.MeasureT-loop
-μ-loop p m lp₀ li₀ at₀ i₀ lp li at i = m - i
+μ-loop p m lp₀ li₀ at₀ i₀ lindptr lindices at i = m - i
 
 store-requires : tie.Need-store-requires Inv-loop μ-loop
 store-requires c κs = let s = c .before .before .before .before in omega (arith, s .pre .2)
@@ -21,7 +21,7 @@ loop-holds : tie.Need-loop-holds Inv-loop μ-loop
 loop-holds c =
     let s = c .before .before .before .before .before .before .before in
     let a = s .args in
-    (omega arith, refl, refl, law.listing-start (bit (a .p .now)) (a .li .now) (a .lp .now) (c .before .before .store .last .0) (omega (arith, s .pre .2)) (c .before .before .store .ensures))
+    (omega arith, refl, refl, law.listing-start (bit (a .p .now)) (a .lindices .now) (a .lindptr .now) (c .before .before .store .last .0) (omega (arith, s .pre .2)) (c .before .before .store .ensures))
 
 list-row-requires : tie.Need-list-row-requires Inv-loop μ-loop
 list-row-requires c κs =
@@ -29,7 +29,7 @@ list-row-requires c κs =
     let a = s .args in
     let l = c .before .before .loop in
     let q : l .i < a .m = c .before .loop-test .taken in
-    (s .pre .0, omega (arith, s .pre .1), law.listing-room (bit (a .p .now)) (a .li .now) (l .li) (l .lp) (l .at) (l .i) (l .inv .3) (length (l .li)) (a .m) q (omega (arith, s .pre .3, l .inv .2)))
+    (s .pre .0, omega (arith, s .pre .1), law.listing-room (bit (a .p .now)) (a .lindices .now) (l .lindices) (l .lindptr) (l .at) (l .i) (l .inv .3) (length (l .lindices)) (a .m) q (omega (arith, s .pre .3, l .inv .2)))
 
 add-i : tie.Need-add-i Inv-loop μ-loop
 add-i c = let s = c .before .before .before .before .before .before .before .before .before .before .before .before .before in omega (arith, s .pre .1, c .before .before .before .before .loop-test .taken)
@@ -40,7 +40,7 @@ cast-store c =
     let a = s .args in
     let l = c .before .before .before .before .before .before .loop in
     let q : l .i < a .m = c .before .before .before .before .before .loop-test .taken in
-    omega (arith, c .before .before .before .list-row .ensures .next, law.kept-short (bit (a .p .now) (l .i)) (l .i + 1), law.listing-small (bit (a .p .now)) (a .li .now) (l .li) (l .lp) (l .at) (l .i) (l .inv .3) (omega (arith, s .pre .1)), s .pre .1)
+    omega (arith, c .before .before .before .list-row .ensures .next, law.kept-short (bit (a .p .now) (l .i)) (l .i + 1), law.listing-small (bit (a .p .now)) (a .lindices .now) (l .lindices) (l .lindptr) (l .at) (l .i) (l .inv .3) (omega (arith, s .pre .1)), s .pre .1)
 
 store-requires-2 : tie.Need-store-requires-2 Inv-loop μ-loop
 store-requires-2 c κs = let s = c .before .before .before .before .before .before .before .before .before .before .before .before .before .before in omega (arith, s .pre .2, c .before .before .before .before .before .before .loop .inv .1, c .before .before .before .before .before .before .before .before .before .store .kept .0, c .before .before .before .before .before .loop-test .taken)
@@ -59,7 +59,7 @@ loop-again c =
       omega (arith, lt),
       k .kept .0 ∙ l .inv .1,
       q .kept .1 .1 .0 ∙ l .inv .2,
-      law.listing-next (bit (a .p .now)) (a .li .now) (l .li) (l .lp) (l .at) (l .i) (l .inv .3) (q .last .1 .1 .0) (k .last .0) (q .result) (q .result) (omega (arith, s .pre .2, l .inv .1, c .before .before .before .before .before .before .before .before .before .before .before .before .store .kept .0, lt)) (q .ensures) refl (k .ensures),
+      law.listing-next (bit (a .p .now)) (a .lindices .now) (l .lindices) (l .lindptr) (l .at) (l .i) (l .inv .3) (q .last .1 .1 .0) (k .last .0) (q .result) (q .result) (omega (arith, s .pre .2, l .inv .1, c .before .before .before .before .before .before .before .before .before .before .before .before .store .kept .0, lt)) (q .ensures) refl (k .ensures),
     )
 
 same-length : tie.Need-same-length Inv-loop μ-loop
@@ -74,7 +74,7 @@ returns c =
     let a = s .args in
     let l = c .before .loop in
     let e : l .i ≡ a .m = omega (arith, l .inv .0, c .loop-test .left) in
-    law.listing-end (bit (a .p .now)) (a .li .now) (l .li) (l .lp) (l .at) (l .i) (l .inv .3) (a .m) e (s .pre .1) (omega (arith, s .pre .2, l .inv .1, c .before .before .before .before .store .kept .0)) (s .pre .3) (l .inv .2) (omega (arith, s .pre .4, l .inv .2))
+    law.listing-end (bit (a .p .now)) (a .lindices .now) (l .lindices) (l .lindptr) (l .at) (l .i) (l .inv .3) (a .m) e (s .pre .1) (omega (arith, s .pre .2, l .inv .1, c .before .before .before .before .store .kept .0)) (s .pre .3) (l .inv .2) (omega (arith, s .pre .4, l .inv .2))
 
 pub list-rows-spec : {M : Type 1} → statement M
 list-rows-spec =

@@ -21,7 +21,7 @@ returns c = search needs
 returns-2 : tie.Need-returns-2
 returns-2 c =
     let s = c .before .before .before .before .before in
-    (λ e. absurd (true≢false (sym e ∙ sym (c .before .reads-marks .ensures) ∙ c .if1 .left)), λ x h. omega (arith, s .pre .3 x h, s .pre .0 .order (s .args .i) (s .pre .1)))
+    (λ e. absurd (true≢false (sym e ∙ sym (c .before .reads-marks .ensures) ∙ c .if1 .left)), λ x h. omega (arith, s .pre .3 x h, s .pre .0 .csr .order (s .args .i) (s .pre .1)))
 
 pub mark-for-spec : {M : Type 1} → statement M
 mark-for-spec =

@@ -15,7 +15,7 @@ sub-places : tie.Need-sub-places
 sub-places c =
     let s = c .before .before .before .before .before in
     let a = s .args in
-    let h = thru.cut-fits (a .p .now) (a .lp .now) (a .li .now) (s .pre .1 .m) (a .r) (a .q) (a .t) (c .word-at .result) (s .pre .1 .rows) (s .pre .1 .inside) (s .pre .1 .first) (s .pre .1 .last) (c .word-at .ensures) in
+    let h = thru.cut-fits (a .p .now) (a .lindptr .now) (a .lindices .now) (s .pre .1 .m) (a .r) (a .q) (a .t) (c .word-at .result) (s .pre .1 .rows) (s .pre .1 .inside) (s .pre .1 .first) (s .pre .1 .last) (c .word-at .ensures) in
     omega (arith, h .0, h .1, h .2)
 
 part-places-start : tie.Need-part-places-start
@@ -25,14 +25,14 @@ part-places-end : tie.Need-part-places-end
 part-places-end c =
     let s = c .before .before .before .before .before in
     let a = s .args in
-    let h = thru.cut-fits (a .p .now) (a .lp .now) (a .li .now) (s .pre .1 .m) (a .r) (a .q) (a .t) (c .word-at .result) (s .pre .1 .rows) (s .pre .1 .inside) (s .pre .1 .first) (s .pre .1 .last) (c .word-at .ensures) in
+    let h = thru.cut-fits (a .p .now) (a .lindptr .now) (a .lindices .now) (s .pre .1 .m) (a .r) (a .q) (a .t) (c .word-at .result) (s .pre .1 .rows) (s .pre .1 .inside) (s .pre .1 .first) (s .pre .1 .last) (c .word-at .ensures) in
     omega (arith, h .0, h .1, h .2)
 
 cast-places : tie.Need-cast-places
 cast-places c =
     let s = c .before .before .before .before .before .before in
     let a = s .args in
-    let h = thru.cut-fits (a .p .now) (a .lp .now) (a .li .now) (s .pre .1 .m) (a .r) (a .q) (a .t) (c .before .word-at .result) (s .pre .1 .rows) (s .pre .1 .inside) (s .pre .1 .first) (s .pre .1 .last) (c .before .word-at .ensures) in
+    let h = thru.cut-fits (a .p .now) (a .lindptr .now) (a .lindices .now) (s .pre .1 .m) (a .r) (a .q) (a .t) (c .before .word-at .result) (s .pre .1 .rows) (s .pre .1 .inside) (s .pre .1 .first) (s .pre .1 .last) (c .before .word-at .ensures) in
     omega (arith, h .0, h .1, h .2)
 
 places-requires : tie.Need-places-requires
@@ -40,7 +40,7 @@ places-requires c κs =
     let s = c .before .before .before .before .before .before .before in
     let a = s .args in
     let w = c .before .before .word-at in
-    (s .pre .0, s .pre .2, thru.cut-below (a .p .now) (a .lp .now) (a .li .now) (s .pre .1 .m) (a .r) (a .q) (a .t) (w .result) (s .pre .1 .rows) (s .pre .1 .inside) (s .pre .1 .first) (s .pre .1 .last) (w .ensures), thru.cut-short (a .p .now) (a .lp .now) (a .li .now) (s .pre .1 .m) (a .r) (a .q) (a .t) (w .result) (s .pre .1 .rows) (s .pre .1 .inside) (s .pre .1 .first) (s .pre .1 .last) (w .ensures), omega (arith, s .pre .3, ap length (thru.cut-walk (a .p .now) (a .lp .now) (a .li .now) (s .pre .1 .m) (a .r) (a .q) (a .t) (w .result) (s .pre .1 .rows) (s .pre .1 .inside) (s .pre .1 .first) (s .pre .1 .last) (w .ensures))))
+    (s .pre .0, s .pre .2, thru.cut-below (a .p .now) (a .lindptr .now) (a .lindices .now) (s .pre .1 .m) (a .r) (a .q) (a .t) (w .result) (s .pre .1 .rows) (s .pre .1 .inside) (s .pre .1 .first) (s .pre .1 .last) (w .ensures), thru.cut-short (a .p .now) (a .lindptr .now) (a .lindices .now) (s .pre .1 .m) (a .r) (a .q) (a .t) (w .result) (s .pre .1 .rows) (s .pre .1 .inside) (s .pre .1 .first) (s .pre .1 .last) (w .ensures), omega (arith, s .pre .3, ap length (thru.cut-walk (a .p .now) (a .lindptr .now) (a .lindices .now) (s .pre .1 .m) (a .r) (a .q) (a .t) (w .result) (s .pre .1 .rows) (s .pre .1 .inside) (s .pre .1 .first) (s .pre .1 .last) (w .ensures))))
 
 same-length : tie.Need-same-length
 same-length c = search needs
@@ -50,7 +50,7 @@ returns c =
     let s = c .before .before .before .before .before .before .before .before .before .before in
     let a = s .args in
     let w = c .before .before .before .before .before .word-at in
-    wrote-as (a .index .now) (c .before .before .places .last .1 .1 .1 .1 .0) (a .start) (c .before .before .places .result) _ _ (thru.cut-walk (a .p .now) (a .lp .now) (a .li .now) (s .pre .1 .m) (a .r) (a .q) (a .t) (w .result) (s .pre .1 .rows) (s .pre .1 .inside) (s .pre .1 .first) (s .pre .1 .last) (w .ensures)) (c .before .before .places .ensures)
+    wrote-as (a .index .now) (c .before .before .places .last .1 .1 .1 .1 .0) (a .start) (c .before .before .places .result) _ _ (thru.cut-walk (a .p .now) (a .lindptr .now) (a .lindices .now) (s .pre .1 .m) (a .r) (a .q) (a .t) (w .result) (s .pre .1 .rows) (s .pre .1 .inside) (s .pre .1 .first) (s .pre .1 .last) (w .ensures)) (c .before .before .places .ensures)
 
 pub products-spec : {M : Type 1} → statement M
 products-spec =

@@ -10,11 +10,11 @@ use Rattle.pair_lists.proofs.put_ten.Statement.{statement}
 use Rattle.pair_lists.proofs.put_ten.Tie as tie
 
 abbrev Inv-loop : tie.InvT-loop
-Inv-loop off cols m p lp li wide mark₀ index₀ start at₀ k₀ mark index at k =
+Inv-loop off cols m p lindptr lindices wide mark₀ index₀ start at₀ k₀ mark index at k =
     (k ≤ 10) × (length mark ≡ length mark₀) × (length index ≡ length index₀) × Wrote index₀ index start (tenOf (shape off cols) m k) at
 
 abbrev μ-loop : tie.MeasureT-loop
-μ-loop off cols m p lp li wide mark₀ index₀ start at₀ k₀ mark index at k = 10 - k
+μ-loop off cols m p lindptr lindices wide mark₀ index₀ start at₀ k₀ mark index at k = 10 - k
 
 loop-holds : tie.Need-loop-holds Inv-loop μ-loop
 loop-holds c =

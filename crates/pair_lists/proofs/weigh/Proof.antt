@@ -5,7 +5,7 @@ use Rattle.base.specs.Sums.{one}
 use Rattle.lists.specs.declared.Which.{Which}
 use Rattle.pair_lists.specs.Kept.{marksRead}
 use Rattle.lists.specs.Lists.{weight, shape}
-use Rattle.lists.proofs.Counts.{both-weight}
+use Rattle.pair_lists.proofs.Bits.{both-weight}
 use borrow.Author.Needs.{needs}
 use Rattle.pair_lists.proofs.weigh.Statement.{statement}
 use Rattle.pair_lists.proofs.weigh.Tie as tie
@@ -17,7 +17,7 @@ count-shared-requires : tie.Need-count-shared-requires
 count-shared-requires c κs = let s = c .before .before .before .before .before .before in let g = s .pre .0 in record { m = g .m; wide = g .wide; grid = g .grid; inside = g .inside; other = omega (arith, g .inside, s .pre .1); long = g .long; marks = g .marks (ap marksRead (c .enum-told .given .1)) }
 
 cast-result : tie.Need-cast-result
-cast-result c = omega (arith, c .count-shared .ensures .1, c .before .before .before .before .before .before .before .pre .0 .ready .csr .nnz)
+cast-result c = omega (arith, c .count-shared .ensures .1, c .before .before .before .before .before .before .before .pre .0 .ready .short)
 
 enum-told-2 : tie.Need-enum-told-2
 enum-told-2 c = search needs
@@ -63,7 +63,7 @@ unfolding weight
 returns c =
     let s = c .before .before .before .before .before .before .before in (
       c .count-shared .ensures .0 ∙ ap (λ (w : Which). weight (shape (s .args .off .now) (s .args .cols .now)) w (s .args .i) (s .args .j)) (sym (c .before .enum-told .given .1)),
-      omega (arith, c .count-shared .ensures .1, s .pre .0 .ready .csr .nnz),
+      omega (arith, c .count-shared .ensures .1, s .pre .0 .ready .short),
     )
 
 returns-2 : tie.Need-returns-2

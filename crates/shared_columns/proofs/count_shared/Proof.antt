@@ -19,12 +19,12 @@ word-at-requires : tie.Need-word-at-requires
 word-at-requires c κs = search needs
 
 cast-count-marked : tie.Need-cast-count-marked
-cast-count-marked c = let s = c .before .before .before .before in omega (arith, c .word-at .ensures, s .pre .grid .ends (s .args .i) (omega (arith, s .pre .inside)), s .pre .grid .nnz)
+cast-count-marked c = let s = c .before .before .before .before in omega (arith, c .word-at .ensures, s .pre .grid .csr .ends (s .args .i) (omega (arith, s .pre .inside)), s .pre .grid .short)
 
 get-row-requires : tie.Need-get-row-requires
 get-row-requires c κs =
     let s = c .before .before .before .before in
-    (omega (arith, s .pre .grid .offsets, s .pre .other), s .pre .grid .order (s .args .j) (s .pre .other), s .pre .grid .ends (s .args .j + 1) (omega (arith, s .pre .other)))
+    (omega (arith, s .pre .grid .csr .offsets, s .pre .other), s .pre .grid .csr .order (s .args .j) (s .pre .other), s .pre .grid .csr .ends (s .args .j + 1) (omega (arith, s .pre .other)))
 
 count-marked-requires : tie.Need-count-marked-requires
 count-marked-requires c κs =
@@ -38,7 +38,7 @@ returns c =
     let a = s .args in (
       c .count-marked .ensures .0
           ∙ among.count-common (a .off .now) (a .cols .now) (s .pre .m) (s .pre .wide) (s .pre .grid) (a .mark .now) (a .i) (a .j) (s .pre .inside) (s .pre .other) (s .pre .marks) (c .before .before .word-at .result) (c .before .before .word-at .ensures) (now (c .before .get-row .result)) (c .before .get-row .ensures),
-      omega (arith, c .count-marked .ensures .1, ap length (c .before .get-row .ensures), rowlaw.row-long (a .off .now) (a .cols .now) (s .pre .m) (s .pre .wide) (a .j) (s .pre .grid) (s .pre .other), s .pre .grid .ends (a .j + 1) (omega (arith, s .pre .other))),
+      omega (arith, c .count-marked .ensures .1, ap length (c .before .get-row .ensures), rowlaw.row-long (a .off .now) (a .cols .now) (s .pre .m) (s .pre .wide) (a .j) (s .pre .grid) (s .pre .other), s .pre .grid .csr .ends (a .j + 1) (omega (arith, s .pre .other))),
     )
 
 pub count-shared-spec : {M : Type 1} → statement M

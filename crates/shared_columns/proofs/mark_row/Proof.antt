@@ -18,34 +18,34 @@ abbrev μ-loop : tie.MeasureT-loop
 μ-loop off cols m n i mark₀ a b k₀ mark k = b - k
 
 word-at-requires : tie.Need-word-at-requires Inv-loop μ-loop
-word-at-requires c κs = let s = c .before .before .before in omega (arith, s .pre .0 .offsets, s .pre .1)
+word-at-requires c κs = let s = c .before .before .before in omega (arith, s .pre .0 .csr .offsets, s .pre .1)
 
 add-word-at : tie.Need-add-word-at Inv-loop μ-loop
-add-word-at c = let s = c .before .before .before .before in omega (arith, s .pre .0 .few, s .pre .1)
+add-word-at c = let s = c .before .before .before .before in omega (arith, s .pre .0 .csr .few, s .pre .1)
 
 word-at-requires-2 : tie.Need-word-at-requires-2 Inv-loop μ-loop
-word-at-requires-2 c κs = let s = c .before .before .before .before in omega (arith, s .pre .0 .offsets, s .pre .1)
+word-at-requires-2 c κs = let s = c .before .before .before .before in omega (arith, s .pre .0 .csr .offsets, s .pre .1)
 
 loop-holds : tie.Need-loop-holds Inv-loop μ-loop
 loop-holds c =
     let s = c .before .before .before .before .before in
     let a = s .args in
-    (omega (arith, c .before .word-at .ensures), omega (arith, c .before .word-at .ensures, s .pre .0 .order (a .i) (s .pre .1)), refl, marks.marking-start (a .mark .now) (getD (a .off .now) (a .i) 0) (row (a .off .now) (a .cols .now) (a .i)) (a .n) (c .before .word-at .result - getD (a .off .now) (a .i) 0) (omega (arith, c .before .word-at .ensures)) (s .pre .3))
+    (omega (arith, c .before .word-at .ensures), omega (arith, c .before .word-at .ensures, s .pre .0 .csr .order (a .i) (s .pre .1)), refl, marks.marking-start (a .mark .now) (getD (a .off .now) (a .i) 0) (row (a .off .now) (a .cols .now) (a .i)) (a .n) (c .before .word-at .result - getD (a .off .now) (a .i) 0) (omega (arith, c .before .word-at .ensures)) (s .pre .3))
 
 word-at-requires-3 : tie.Need-word-at-requires-3 Inv-loop μ-loop
 word-at-requires-3 c κs =
     let s = c .before .before .before .before .before .before .before in
-    omega (arith, c .loop-test .taken, c .before .before .word-at2 .ensures, s .pre .0 .ends (s .args .i + 1) (omega (arith, s .pre .1)))
+    omega (arith, c .loop-test .taken, c .before .before .word-at2 .ensures, s .pre .0 .csr .ends (s .args .i + 1) (omega (arith, s .pre .1)))
 
 cast-store : tie.Need-cast-store Inv-loop μ-loop
 cast-store c =
     let s = c .before .before .before .before .before .before .before .before .before in
-    omega (arith, c .before .before .loop-test .taken, c .before .before .before .before .word-at2 .ensures, s .pre .0 .ends (s .args .i + 1) (omega (arith, s .pre .1)), s .pre .0 .nnz)
+    omega (arith, c .before .before .loop-test .taken, c .before .before .before .before .word-at2 .ensures, s .pre .0 .csr .ends (s .args .i + 1) (omega (arith, s .pre .1)), s .pre .0 .short)
 
 add-store : tie.Need-add-store Inv-loop μ-loop
 add-store c =
     let s = c .before .before .before .before .before .before .before .before .before in
-    omega (arith, c .before .before .loop-test .taken, c .before .before .before .before .word-at2 .ensures, s .pre .0 .ends (s .args .i + 1) (omega (arith, s .pre .1)), s .pre .0 .nnz)
+    omega (arith, c .before .before .loop-test .taken, c .before .before .before .before .word-at2 .ensures, s .pre .0 .csr .ends (s .args .i + 1) (omega (arith, s .pre .1)), s .pre .0 .short)
 
 store-requires : tie.Need-store-requires Inv-loop μ-loop
 store-requires c κs =
@@ -57,7 +57,7 @@ store-requires c κs =
 add-k : tie.Need-add-k Inv-loop μ-loop
 add-k c =
     let s = c .before .before .before .before .before .before .before .before .before .before .before .before in
-    omega (arith, c .before .before .before .before .before .loop-test .taken, c .before .before .before .before .before .before .before .word-at2 .ensures, s .pre .0 .ends (s .args .i + 1) (omega (arith, s .pre .1)), s .pre .0 .nnz)
+    omega (arith, c .before .before .before .before .before .loop-test .taken, c .before .before .before .before .before .before .before .word-at2 .ensures, s .pre .0 .csr .ends (s .args .i + 1) (omega (arith, s .pre .1)), s .pre .0 .short)
 
 loop-less : tie.Need-loop-less Inv-loop μ-loop
 loop-less c = omega (arith, c .before .before .before .before .before .loop-test .taken)
@@ -76,7 +76,7 @@ loop-again c =
       q .kept .0 ∙ l .inv .2,
       subst (λ (x : List ℕ). marks.Marking x (getD (a .off .now) (a .i) 0) (row (a .off .now) (a .cols .now) (a .i)) (a .n) (l .k + 1 - getD (a .off .now) (a .i) 0)) (sym (q .ensures))
           (subst (λ (x : ℕ). marks.Marking (set (l .mark) (w .result) (l .k + 1)) (getD (a .off .now) (a .i) 0) (row (a .off .now) (a .cols .now) (a .i)) (a .n) x) z
-          (marks.marking-next (l .mark) (getD (a .off .now) (a .i) 0) (row (a .off .now) (a .cols .now) (a .i)) (a .n) (l .k - getD (a .off .now) (a .i) 0) (w .result) (l .k + 1) (s .pre .0 .rising (a .i) (s .pre .1)) (rowlaw.in-q (a .off .now) (a .cols .now) (a .m) (a .n) (a .i) (s .pre .0) (s .pre .1) Numbers (l .k) (w .result) (a .i) (l .inv .0) lt (w .ensures) refl) (rowlaw.e-at (a .off .now) (a .cols .now) (a .m) (a .n) (a .i) (s .pre .0) (s .pre .1) Numbers (l .k) (w .result) (a .i) (l .inv .0) lt (w .ensures) refl) (omega (arith, l .inv .0)) (omega (arith, s .pre .2, l .inv .2, rowlaw.e-below (a .off .now) (a .cols .now) (a .m) (a .n) (a .i) (s .pre .0) (s .pre .1) Numbers (l .k) (w .result) (a .i) (l .inv .0) lt (w .ensures) refl)) (l .inv .3))),
+          (marks.marking-next (l .mark) (getD (a .off .now) (a .i) 0) (row (a .off .now) (a .cols .now) (a .i)) (a .n) (l .k - getD (a .off .now) (a .i) 0) (w .result) (l .k + 1) (s .pre .0 .csr .rising (a .i) (s .pre .1)) (rowlaw.in-q (a .off .now) (a .cols .now) (a .m) (a .n) (a .i) (s .pre .0) (s .pre .1) Numbers (l .k) (w .result) (a .i) (l .inv .0) lt (w .ensures) refl) (rowlaw.e-at (a .off .now) (a .cols .now) (a .m) (a .n) (a .i) (s .pre .0) (s .pre .1) Numbers (l .k) (w .result) (a .i) (l .inv .0) lt (w .ensures) refl) (omega (arith, l .inv .0)) (omega (arith, s .pre .2, l .inv .2, rowlaw.e-below (a .off .now) (a .cols .now) (a .m) (a .n) (a .i) (s .pre .0) (s .pre .1) Numbers (l .k) (w .result) (a .i) (l .inv .0) lt (w .ensures) refl)) (l .inv .3))),
     )
 
 same-length : tie.Need-same-length Inv-loop μ-loop

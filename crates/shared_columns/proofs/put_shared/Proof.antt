@@ -25,7 +25,7 @@ cast-hits c =
     let s = c .before .before .before .before .before .before .before in
     let a = s .args in
     let h = marks.span-order (a .take) (a .off .now) (a .cols .now) (s .pre .0 .m) (s .pre .0 .wide) (s .pre .0 .grid) (a .mark .now) (a .i) (a .j) (s .pre .0 .inside) (s .pre .0 .other) (s .pre .0 .long) (s .pre .0 .marks) (c .before .word-at2 .result) (c .word-at3 .result) (c .before .word-at2 .ensures) (c .word-at3 .ensures) in
-    omega (arith, c .before .before .word-at .ensures, s .pre .0 .grid .ends (a .i) (omega (arith, s .pre .0 .inside)), h .2)
+    omega (arith, c .before .before .word-at .ensures, s .pre .0 .grid .csr .ends (a .i) (omega (arith, s .pre .0 .inside)), h .2)
 
 cast-hits-2 : tie.Need-cast-hits-2
 cast-hits-2 c =

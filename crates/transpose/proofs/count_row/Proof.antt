@@ -23,13 +23,13 @@ abbrev μ-loop : tie.MeasureT-loop
 μ-loop side off cols₀ bytes m n i next₀ a b s₀ k₀ next s k = b - k
 
 word-at-requires : tie.Need-word-at-requires Inv-loop μ-loop
-word-at-requires c κs = let s = c .before .before .before .before in omega (arith, s .pre .0 .offsets, s .pre .1)
+word-at-requires c κs = let s = c .before .before .before .before in omega (arith, s .pre .0 .csr .offsets, s .pre .1)
 
 add-word-at : tie.Need-add-word-at Inv-loop μ-loop
-add-word-at c = let s = c .before .before .before .before .before in omega (arith, s .pre .0 .few, s .pre .1)
+add-word-at c = let s = c .before .before .before .before .before in omega (arith, s .pre .0 .csr .few, s .pre .1)
 
 word-at-requires-2 : tie.Need-word-at-requires-2 Inv-loop μ-loop
-word-at-requires-2 c κs = let s = c .before .before .before .before .before in omega (arith, s .pre .0 .offsets, s .pre .1)
+word-at-requires-2 c κs = let s = c .before .before .before .before .before in omega (arith, s .pre .0 .csr .offsets, s .pre .1)
 
 loop-holds : tie.Need-loop-holds Inv-loop μ-loop
 loop-holds c =
@@ -38,7 +38,7 @@ loop-holds c =
       omega (arith, c .before .word-at .ensures),
       refl,
       law.count-start (a .off .now) (colsOf (a .side) (a .cols .now) (a .bytes .now)) (a .m) (a .n) (a .i) (s .pre .0) (s .pre .1) (a .next .now) (c .before .word-at .result) (c .before .word-at .ensures) (s .pre .3),
-      omega (arith, c .before .word-at .ensures, s .pre .0 .order (a .i) (s .pre .1)),
+      omega (arith, c .before .word-at .ensures, s .pre .0 .csr .order (a .i) (s .pre .1)),
       pairs.pairs-start (a .off .now) (colsOf (a .side) (a .cols .now) (a .bytes .now)) (a .m) (a .n) (a .i) (s .pre .0) (s .pre .1) (c .before .word-at .result) (c .before .word-at .ensures),
       omega arith,
     )
@@ -46,7 +46,7 @@ loop-holds c =
 column-at-requires : tie.Need-column-at-requires Inv-loop μ-loop
 column-at-requires c κs =
     let s = c .before .before .before .before .before .before .before .before in
-    omega (arith, c .before .before .word-at2 .ensures, s .pre .0 .ends (s .args .i + 1) (omega (arith, s .pre .1)))
+    omega (arith, c .before .before .word-at2 .ensures, s .pre .0 .csr .ends (s .args .i + 1) (omega (arith, s .pre .1)))
 
 bump-requires : tie.Need-bump-requires Inv-loop μ-loop
 bump-requires c κs =
@@ -64,15 +64,15 @@ add-s c =
       c .before .before .before .before .before .before .loop .inv .5,
       c .before .before .before .before .before .loop-test .taken,
       c .before .before .before .before .before .before .before .word-at2 .ensures,
-      s .pre .0 .ends (s .args .i + 1) (omega (arith, s .pre .1)),
-      s .pre .0 .nnz,
+      s .pre .0 .csr .ends (s .args .i + 1) (omega (arith, s .pre .1)),
+      s .pre .0 .short,
       law.count-asks (s .args .off .now) (colsOf (s .args .side) (s .args .cols .now) (s .args .bytes .now)) (s .args .m) (s .args .n) (s .args .i) (s .pre .0) (s .pre .1) (c .before .before .before .before .before .before .loop .k) (c .before .before .before .before .column-at .result) (c .before .before .before .before .before .before .loop .inv .0) (omega (arith, c .before .before .before .before .before .before .before .word-at2 .ensures, c .before .before .before .before .before .loop-test .taken)) (c .before .before .before .before .column-at .ensures) (c .before .before .before .before .before .before .loop .next) (omega (arith, s .pre .2, c .before .before .before .before .before .before .loop .inv .1)) (c .before .before .before .before .before .before .loop .inv .2) .1,
     )
 
 add-k : tie.Need-add-k Inv-loop μ-loop
 add-k c =
     let s = c .before .before .before .before .before .before .before .before .before .before .before .before .before in
-    omega (arith, c .before .before .before .before .before .before .before .word-at2 .ensures, c .before .before .before .before .before .loop-test .taken, s .pre .0 .ends (s .args .i + 1) (omega (arith, s .pre .1)), s .pre .0 .nnz)
+    omega (arith, c .before .before .before .before .before .before .before .word-at2 .ensures, c .before .before .before .before .before .loop-test .taken, s .pre .0 .csr .ends (s .args .i + 1) (omega (arith, s .pre .1)), s .pre .0 .short)
 
 loop-less : tie.Need-loop-less Inv-loop μ-loop
 loop-less c = omega (arith, c .before .before .before .before .before .loop-test .taken)

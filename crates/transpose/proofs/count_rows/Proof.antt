@@ -38,10 +38,10 @@ add-s c =
     let s = c .before .before .before .before .before .before .before .before .before .before in
     let l = c .before .before .before .before .before .loop in
     let h : l .i < s .args .m = c .before .before .before .before .loop-test .taken in
-    omega (arith, l .inv .4, c .before .before .count-row .ensures .few, s .pre .0 .order (l .i) h, s .pre .0 .ends (l .i + 1) (omega arith), s .pre .0 .nnz)
+    omega (arith, l .inv .4, c .before .before .count-row .ensures .few, s .pre .0 .csr .order (l .i) h, s .pre .0 .csr .ends (l .i + 1) (omega arith), s .pre .0 .short)
 
 add-i : tie.Need-add-i Inv-loop μ-loop
-add-i c = omega (arith, c .before .before .before .before .before .before .before .before .before .before .pre .0 .few, c .before .before .before .before .loop-test .taken)
+add-i c = omega (arith, c .before .before .before .before .before .before .before .before .before .before .pre .0 .csr .few, c .before .before .before .before .loop-test .taken)
 
 loop-less : tie.Need-loop-less Inv-loop μ-loop
 loop-less c = omega (arith, c .before .before .before .before .loop-test .taken)
@@ -57,7 +57,7 @@ loop-again c =
       q .kept .1 .1 .1 .1 .1 .1 .1 .0 ∙ l .inv .1,
       q .ensures .tally,
       ap₂ _+_ (l .inv .3) (q .ensures .pairs) ∙ sym (sum-next (l .i) (λ x. sum (suc x) (λ y. common (row (a .off .now) (colsOf (a .side) (a .cols .now) (a .bytes .now)) x) (row (a .off .now) (colsOf (a .side) (a .cols .now) (a .bytes .now)) y)))),
-      omega (arith, l .inv .4, q .ensures .few, s .pre .0 .order (l .i) h),
+      omega (arith, l .inv .4, q .ensures .few, s .pre .0 .csr .order (l .i) h),
     )
 
 same-length : tie.Need-same-length Inv-loop μ-loop
@@ -72,7 +72,7 @@ returns c =
     let e : l .i ≡ a .m = omega (arith, l .inv .0, c .loop-test .left) in (
       subst (λ (x : ℕ). Tally (l .next) (a .n) (seen (a .off .now) (colsOf (a .side) (a .cols .now) (a .bytes .now)) x)) e (l .inv .2),
       l .inv .3 ∙ ap (λ (x : ℕ). sum x (λ y. sum (suc y) (λ z. common (row (a .off .now) (colsOf (a .side) (a .cols .now) (a .bytes .now)) y) (row (a .off .now) (colsOf (a .side) (a .cols .now) (a .bytes .now)) z)))) e,
-      omega (arith, l .inv .4, s .pre .0 .ends (l .i) (l .inv .0), s .pre .0 .nnz),
+      omega (arith, l .inv .4, s .pre .0 .csr .ends (l .i) (l .inv .0), s .pre .0 .short),
     )
 
 pub count-rows-spec : {M : Type 1} → statement M

@@ -25,49 +25,49 @@ word-at-requires : tie.Need-word-at-requires Inv-loop μ-loop
 word-at-requires c κs =
     let s = c .before .before .before .before .before in
     let a = s .args in
-    let csr = s .pre .0 .grid in
-    omega (arith, csr .offsets, csr .few)
+    let grid = s .pre .0 .grid in
+    omega (arith, grid .csr .offsets, grid .csr .few)
 
 add-word-at : tie.Need-add-word-at Inv-loop μ-loop
 add-word-at c =
     let s = c .before .before .before .before .before .before in
     let a = s .args in
-    let csr = s .pre .0 .grid in
-    omega (arith, csr .few)
+    let grid = s .pre .0 .grid in
+    omega (arith, grid .csr .few)
 
 word-at-requires-2 : tie.Need-word-at-requires-2 Inv-loop μ-loop
 word-at-requires-2 c κs =
     let s = c .before .before .before .before .before .before in
     let a = s .args in
-    let csr = s .pre .0 .grid in
-    omega (arith, csr .offsets, csr .few)
+    let grid = s .pre .0 .grid in
+    omega (arith, grid .csr .offsets, grid .csr .few)
 
 loop-holds : tie.Need-loop-holds Inv-loop μ-loop
 loop-holds c =
     let s = c .before .before .before .before .before .before .before in
     let a = s .args in
-    let csr = s .pre .0 .grid in
+    let grid = s .pre .0 .grid in
     (omega (arith, c .before .word-at .ensures), refl, refl, law.row-start (a .off .now) (colsOf (a .side) (a .cols .now) (a .bytes .now)) (a .m) (a .n) (a .i) (s .pre .0 .grid) (s .pre .1) (a .what) (a .index .now) (a .next .now) (a .start) (c .before .word-at .result) (c .before .word-at .ensures) (s .pre .0 .bins), record { low = λ q h. refl; high = λ q h. refl })
 
 column-at-requires : tie.Need-column-at-requires Inv-loop μ-loop
 column-at-requires c κs =
     let s = c .before .before .before .before .before .before .before .before .before in
     let a = s .args in
-    let csr = s .pre .0 .grid in
+    let grid = s .pre .0 .grid in
     law.ends-in (a .off .now) (colsOf (a .side) (a .cols .now) (a .bytes .now)) (a .m) (a .n) (a .i) (s .pre .0 .grid) (s .pre .1) (c .before .loop .k) (omega (arith, c .before .before .word-at2 .ensures)) .0
 
 cast-of-entry : tie.Need-cast-of-entry Inv-loop μ-loop
 cast-of-entry c =
     let s = c .before .before .before .before .before .before .before .before .before .before in
     let a = s .args in
-    let csr = s .pre .0 .grid in
-    omega (arith, csr .few)
+    let grid = s .pre .0 .grid in
+    omega (arith, grid .csr .few)
 
 cast-of-entry-2 : tie.Need-cast-of-entry-2 Inv-loop μ-loop
 cast-of-entry-2 c =
     let s = c .before .before .before .before .before .before .before .before .before .before in
     let a = s .args in
-    let csr = s .pre .0 .grid in
+    let grid = s .pre .0 .grid in
     let h = law.ends-in (a .off .now) (colsOf (a .side) (a .cols .now) (a .bytes .now)) (a .m) (a .n) (a .i) (s .pre .0 .grid) (s .pre .1) (c .before .before .loop .k) (omega (arith, c .before .before .before .word-at2 .ensures)) in
     omega (arith, h .0, h .1)
 
@@ -78,7 +78,7 @@ put-in-requires : tie.Need-put-in-requires Inv-loop μ-loop
 put-in-requires c κs =
     let s = c .before .before .before .before .before .before .before .before .before .before .before .before .before in
     let a = s .args in
-    let csr = s .pre .0 .grid in
+    let grid = s .pre .0 .grid in
     let l = c .before .before .before .before .before .loop in
     let lt : l .k < c .before .before .before .before .before .before .word-at2 .result = c .before .before .before .before .loop-test .taken in
     law.turn-asks (a .off .now) (colsOf (a .side) (a .cols .now) (a .bytes .now)) (a .m) (a .n) (a .i) (s .pre .0 .grid) (s .pre .1) (a .what) (l .k) (c .before .before .before .column-at .result) (c .before .before .of-entry .result) (l .inv .0) (omega (arith, c .before .before .before .before .before .before .word-at2 .ensures)) (c .before .before .before .column-at .ensures) (c .before .before .of-entry .ensures) (l .index) (l .next) (a .start) (omega (arith, s .pre .0 .long, l .inv .2)) (omega (arith, s .pre .0 .room, l .inv .1)) (l .inv .3) (s .pre .0 .few)
@@ -87,7 +87,7 @@ add-k : tie.Need-add-k Inv-loop μ-loop
 add-k c =
     let s = c .before .before .before .before .before .before .before .before .before .before .before .before .before .before .before .before .before .before in
     let a = s .args in
-    let csr = s .pre .0 .grid in
+    let grid = s .pre .0 .grid in
     let l = c .before .before .before .before .before .before .before .before .before .before .loop in
     let h = law.ends-in (a .off .now) (colsOf (a .side) (a .cols .now) (a .bytes .now)) (a .m) (a .n) (a .i) (s .pre .0 .grid) (s .pre .1) (l .k) (omega (arith, c .before .before .before .before .before .before .before .before .before .before .before .word-at2 .ensures, c .before .before .before .before .before .before .before .before .before .loop-test .taken)) in
     omega (arith, h .0, h .1)
@@ -100,7 +100,7 @@ loop-again : tie.Need-loop-again Inv-loop μ-loop
 loop-again c =
     let s = c .before .before .before .before .before .before .before .before .before .before .before .before .before .before .before .before .before .before in
     let a = s .args in
-    let csr = s .pre .0 .grid in
+    let grid = s .pre .0 .grid in
     let l = c .before .before .before .before .before .before .before .before .before .before .loop in
     let lt : l .k < c .before .before .before .before .before .before .before .before .before .before .before .word-at2 .result = c .before .before .before .before .before .before .before .before .before .loop-test .taken in
     let q = c .before .before .before .before .put-in in (
@@ -124,7 +124,7 @@ returns : tie.Need-returns Inv-loop μ-loop
 returns c =
     let s = c .before .before .before .before .before .before .before .before .before in
     let a = s .args in
-    let csr = s .pre .0 .grid in
+    let grid = s .pre .0 .grid in
     let l = c .before .loop in
     record { bins = law.row-end (a .off .now) (colsOf (a .side) (a .cols .now) (a .bytes .now)) (a .m) (a .n) (a .i) (s .pre .0 .grid) (s .pre .1) (a .what) (l .index) (l .next) (a .start) (l .k) (omega (arith, c .before .before .word-at2 .ensures)) (l .inv .3); outside = l .inv .4 }
 

@@ -26,7 +26,7 @@ put-ends-requires c κs =
     let s = c .before .before .before .before .before .before .before .before .before .before .before .before .before .before .before .before .before in
     let a = s .args in
     let q = c .before .before .before .before .before .count-rows in
-    (omega (arith, s .pre .2, q .kept .1 .1 .1 .1 .1 .1 .0, c .before .before .before .before .before .before .before .before .before .clear .kept .0), s .pre .3, s .pre .0 .wide, (λ x h. omega (arith, q .ensures .0 .count x h, law.column-long (a .off .now) (colsOf (a .side) (a .cols .now) (a .bytes .now)) Numbers (a .m) x, law.room-few (a .off .now) (colsOf (a .side) (a .cols .now) (a .bytes .now)) (a .m) x, s .pre .0 .few)), omega (arith, s .pre .1, law.side-long (a .off .now) (colsOf (a .side) (a .cols .now) (a .bytes .now)) (a .m) (a .n)))
+    (omega (arith, s .pre .2, q .kept .1 .1 .1 .1 .1 .1 .0, c .before .before .before .before .before .before .before .before .before .clear .kept .0), s .pre .3, s .pre .0 .wide, (λ x h. omega (arith, q .ensures .0 .count x h, law.column-long (a .off .now) (colsOf (a .side) (a .cols .now) (a .bytes .now)) Numbers (a .m) x, law.room-few (a .off .now) (colsOf (a .side) (a .cols .now) (a .bytes .now)) (a .m) x, s .pre .0 .csr .few)), omega (arith, s .pre .1, law.side-long (a .off .now) (colsOf (a .side) (a .cols .now) (a .bytes .now)) (a .m) (a .n)))
 
 word-at-requires : tie.Need-word-at-requires
 word-at-requires c κs = omega (arith, c .before .before .before .before .before .before .before .before .before .before .before .before .before .before .before .before .before .before .before .before .before .before .before .before .before .pre .3, c .before .before .before .before .before .before .before .put-ends .kept .1 .1 .1 .0)

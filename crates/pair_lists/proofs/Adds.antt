@@ -1,37 +1,22 @@
 -- What each kind of list adds at a pair is what the code writes there. Assumes nothing.
 use mathlib.Core.Path.{_≡_, refl, sym, ap, ap₂, _∙_}
-use mathlib.Core.Bool.{Bool, true, false, _&&_}
-use mathlib.Core.List.{List, [], _∷_, _++_, map}
+use mathlib.Core.Bool.{Bool, _&&_}
+use mathlib.Core.List.{List, map}
 use Prim.Native.Nat.{ℕ, zero, suc, _+_, _-_, _<_, _≤_}
 use native.Mathlib.Omega.{arith}
 use Rattle.base.specs.Sums.{sum, one}
 use Rattle.pattern.specs.Word.{bit}
 use Rattle.base.proofs.Sums.{sum-ext}
 use Rattle.base.specs.Cat.{cat, pick}
 use Rattle.lists.specs.Lists.{shape, weight, lplace, before, piece, shared, sharedOf, products, walkOf}
-use Rattle.lists.specs.Ready.{Ready}
+use Rattle.pattern.specs.Ready.{Ready}
 use Rattle.lists.specs.declared.Which.the-variants.{AnormIndptr, AnormIndptrI, AnormIndptrJ, AnormIndices, LdecompIndptr, LdecompIndptrI, LdecompIndptrJ}
 use Rattle.lists.specs.declared.Take.the-variants.{Left, Right, Column}
 use Rattle.base.proofs.Write.{cat-ext}
-use Rattle.lists.proofs.Counts.{bit-held, lplace-from}
+use Rattle.base.proofs.Maps.{map-self, map-pick, map-cat}
+use Rattle.lists.proofs.Counts.{lplace-from}
+use Rattle.pair_lists.proofs.Bits.{bit-held}
 use Rattle.base.proofs.Bools.{and-comm}
-
-pub map-join : (h : ℕ → ℕ) (xs ys : List ℕ) → map h (xs ++ ys) ≡ map h xs ++ map h ys
-map-join h [] ys = refl
-map-join h (x ∷ xs) ys = ap (λ (l : List ℕ). h x ∷ l) (map-join h xs ys)
-
-map-self : (xs : List ℕ) → map (λ e. e) xs ≡ xs
-map-self [] = refl
-map-self (x ∷ xs) = ap (λ (l : List ℕ). x ∷ l) (map-self xs)
-
-pub map-pick : (h : ℕ → ℕ) (t : Bool) (x : ℕ) → map h (pick t x) ≡ pick t (h x)
-map-pick h true x = refl
-map-pick h false x = refl
-
-pub map-cat : (h : ℕ → ℕ) (n : ℕ) (f : ℕ → List ℕ) → map h (cat n f) ≡ cat n (λ k. map h (f k))
-unfolding cat
-map-cat h zero f = refl
-map-cat h (suc n) f = map-join h (cat n f) (f n) ∙ ap (λ (l : List ℕ). l ++ map h (f n)) (map-cat h n f)
 
 module _ (off cols : List ℕ) (m : ℕ) (p : List ℕ) (ready : Ready off cols m p) where
   -- the places in row r of the k that two rows hold
