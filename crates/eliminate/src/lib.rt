@@ -10,8 +10,8 @@ ghost use Rattle.factor.specs.Row.{solvedIn};
 use base::word_at;
 use factor::normal_matrix_cholesky_row;
 use lanes::div4;
-use lanes::get;
-use lanes::put;
+use entries::get;
+use entries::put;
 use layout::Plan;
 use sparse::less_back;
 
