@@ -4,6 +4,7 @@ ghost use mathlib.Core.List.{[], _∷_};
 ghost use Prim.Native.Nat.{ℕ, _+_, _<_, _≤_};
 ghost use lib.ListN.{length, getD, set};
 ghost use Rattle.base.specs.Cat.{pick, Wrote};
+ghost use Rattle.base.specs.Numbers.{span, Part};
 
 // A word as a number.
 pub fn word_at(s: &[u32], i: usize) -> usize
@@ -11,6 +12,16 @@ pub fn word_at(s: &[u32], i: usize) -> usize
     ensures { λ r. ⌜ r ≡ getD (now (s .entry)) i 0 ⌝ }
 {
     s[i] as usize
+}
+
+// The part of a list between two offsets.
+pub fn span<'a>(off: &[u32], list: &'a [u32], i: usize) -> &'a [u32]
+    requires { ⌜ Part (now off) i (length (now list)) ⌝ }
+    ensures { λ r. ⌜ now r ≡ span (now (off .entry)) (now (list .entry)) i ⌝ }
+{
+    let a = word_at(off, i);
+    let e = word_at(off, i + 1);
+    &list[a..e]
 }
 
 // A word stored.

@@ -14,7 +14,7 @@ use Rattle.lanes.specs.Region.{reg, Kept, Fills, Grows, Apart, before, after}
 use Rattle.lanes.proofs.Regions.{places-le, places-lt, kept-room, reg-at, reg-none, reg-same, kept-none, kept-wider, kept-apart, apart-front}
 use Rattle.lanes.proofs.Quads.{grows-turn, _▹_}
 use Rattle.machine.specs.Machine.{Problem}
-use Rattle.machine.proofs.Factor.{fold-same}
+use Rattle.lanes.proofs.Lists.{fold-same}
 use Rattle.base.specs.Numbers.{cut}
 use Rattle.base.proofs.Numbers.{cut-length}
 use Rattle.sparse.specs.Sparse.{lessEach, frontAt, front, Low, High}

@@ -8,10 +8,10 @@ ghost use Rattle.layout.specs.Layout.{topIn, dyAt};
 ghost use Rattle.eliminate.specs.Elimination.{Forwarded, Solves, BackIn, backEntry, backAll};
 ghost use Rattle.factor.specs.Row.{solvedIn};
 use base::word_at;
-use factor::normal_matrix_cholesky_row;
-use lanes::div4;
 use entries::get;
 use entries::put;
+use factor::normal_matrix_cholesky_row;
+use lanes::div4;
 use layout::Plan;
 use sparse::less_back;
 

@@ -10,8 +10,7 @@ use Rattle.lanes.specs.Lists.{at, vec, lane}
 use Rattle.machine.specs.Machine.{Problem, LaneData, Settings, State, primalResidual, dualResidual, R, Q, G, g, mu, status}
 use Rattle.lanes.specs.Arithmetic.{_⊕_, _⊗_, _⊘_, √, Σ, norm, null, one, whole}
 use Rattle.machine.specs.declared.Status.{Status}
-use Rattle.lanes.proofs.Lists.{vec-at}
-use Rattle.machine.proofs.Factor.{fold-same}
+use Rattle.lanes.proofs.Lists.{vec-at, fold-same}
 use Rattle.lanes.specs.Lanes.{On}
 use Rattle.lanes.specs.Region.{reg}
 use Rattle.lanes.proofs.Regions.{reg-at}

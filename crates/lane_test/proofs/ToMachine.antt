@@ -11,7 +11,7 @@ use Rattle.csr.specs.Pattern.{has, row}
 use Rattle.lanes.specs.Lists.{at, grow, fold, each, Between}
 use Rattle.machine.specs.Machine.{Problem, holds, entry, inFactor, forward, backward, columnProduct}
 use Rattle.lanes.specs.Arithmetic.{_⊕_, _⊖_, _⊗_, _⊘_, null}
-use Rattle.machine.proofs.Factor.{fold-same}
+use Rattle.lanes.proofs.Lists.{fold-same}
 use Rattle.machine.proofs.Entries.{through, along}
 use Rattle.base.specs.Numbers.{cut, span}
 use Rattle.sparse.specs.Sparse.{plusAll, lessAll, lessEach, frontAt, front, backAt, back}

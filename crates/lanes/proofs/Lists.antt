@@ -1,4 +1,4 @@
--- Laws of `grow`, `vec`, `lane` and `first`. Assumes nothing.
+-- Laws of `grow`, `vec`, `fold`, `lane` and `first`. Assumes nothing.
 use mathlib.Core.Path.{_≡_, refl, sym, ap, _∙_, subst}
 use mathlib.Core.Logic.{_⊎_, inl, inr}
 use mathlib.Core.Bool.{Bool, true, false, cond, true≢false}
@@ -9,7 +9,7 @@ use native.Mathlib.Omega.{arith}
 use lib.ListN.{getD, length, length-append, take, List·getD-append}
 use lib.Seq.{getD-at, take-append-le, ext-getD}
 use lib.Ieee.{Float, nan}
-use Rattle.lanes.specs.Lists.{at, grow, vec, first, lane}
+use Rattle.lanes.specs.Lists.{at, grow, vec, fold, first, lane}
 
 module _ {A : Type 0} (f : List A → ℕ → A) where
   pub grow-length : (n : ℕ) → length (grow n f) ≡ n
@@ -145,3 +145,9 @@ first-same p q (suc n) h =
     let e : first n p ≡ first n q = first-same p q n (λ k b. h k (omega arith)) in
     let z : p (first n p) ≡ q (first n p) = h (first n p) (omega (arith, first-le p n)) in
     ap (λ (t : Bool). cond t (first n p) (suc (first n p))) z ∙ ap (λ (r : ℕ). cond (q r) r (suc r)) e
+
+-- folds that do the same
+pub fold-same : (n : ℕ) (f g : ℕ → Float → Float) (v : Float) → ((k : ℕ) → k < n → (r : Float) → f k r ≡ g k r) → fold n f v ≡ fold n g v
+unfolding fold
+fold-same zero f g v h = refl
+fold-same (suc n) f g v h = ap (f n) (fold-same n f g v (λ k b. h k (omega arith))) ∙ h n (omega arith) (fold n g v)

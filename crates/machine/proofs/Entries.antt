@@ -12,7 +12,7 @@ use Rattle.csr.specs.Pattern.{has, row}
 use Rattle.lanes.specs.Lists.{at, fold, each, Between}
 use Rattle.machine.specs.Machine.{Problem, holds, entry}
 use Rattle.machine.proofs.Walks.{walk, walk-more, each-walk}
-use Rattle.machine.proofs.Factor.{fold-same}
+use Rattle.lanes.proofs.Lists.{fold-same}
 use Rattle.base.specs.Numbers.{find}
 use Rattle.csr.proofs.Rows.{row-length, row-at}
 

@@ -15,15 +15,10 @@ use lib.Ieee.{Float, nan, binary64, add, sub, mul, div}
 use Rattle.lanes.specs.Lists.{at, grow, fold, each}
 use Rattle.machine.specs.Machine.{Problem, State, cell, holds, entry, inFactor, reduced, factorEntry, factor, forward}
 use Rattle.lanes.specs.Arithmetic.{null, √, magnitude}
-use Rattle.lanes.proofs.Lists.{grow-length, grow-at}
+use Rattle.lanes.proofs.Lists.{grow-length, grow-at, fold-same}
 use Rattle.base.proofs.Bools.{and-out}
 
 -- ---- folds that do the same
-
-pub fold-same : (n : ℕ) (f g : ℕ → Float → Float) (v : Float) → ((k : ℕ) → k < n → (r : Float) → f k r ≡ g k r) → fold n f v ≡ fold n g v
-unfolding fold
-fold-same zero f g v h = refl
-fold-same (suc n) f g v h = ap (f n) (fold-same n f g v (λ k b. h k (omega arith))) ∙ h n (omega arith) (fold n g v)
 
 pub each-same : (n : ℕ) (p : ℕ → Bool) (f g : ℕ → Float → Float) (v : Float) → ((k : ℕ) → k < n → p k ≡ true → (r : Float) → f k r ≡ g k r)
     → each n p f v ≡ each n p g v

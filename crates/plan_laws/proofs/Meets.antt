@@ -23,7 +23,7 @@ use Rattle.lanes.specs.Region.{reg}
 use Rattle.lanes.proofs.Regions.{reg-at}
 use Rattle.lanes.specs.Lists.{at, fold, each}
 use Rattle.machine.specs.Machine.{Problem, holds, entry, inFactor}
-use Rattle.machine.proofs.Factor.{fold-same}
+use Rattle.lanes.proofs.Lists.{fold-same}
 use Rattle.machine.proofs.Entries.{each-pick}
 use Rattle.machine.specs.Work.{problemOf}
 use Rattle.plan_laws.specs.Factoring.{normalStep, productStep}

@@ -23,7 +23,7 @@ use Rattle.lists.specs.declared.Which.the-variants.{AnormIndptr, LdecompIndptr}
 use Rattle.lanes.specs.Lists.{fold, each, Between}
 use Rattle.machine.proofs.Walks.{walk, walk-more, each-walk}
 use Rattle.machine.proofs.Entries.{walk-fold}
-use Rattle.machine.proofs.Factor.{fold-same}
+use Rattle.lanes.proofs.Lists.{fold-same}
 use Rattle.base.proofs.Sums.{sum-zero}
 use Rattle.csr.proofs.Has.{common-none}
 use Rattle.lists.proofs.Counts.{held-stored}

@@ -1,48 +1,94 @@
--- A part between two offsets: its length, and what stands in it. Assumes nothing.
-use mathlib.Core.Path.{_≡_, refl, sym, _∙_, subst}
+-- A part between two offsets, as a sum reads it; and sums over a region by its list. Assumes nothing.
+use mathlib.Core.Path.{_≡_, refl, sym, ap, _∙_}
 use mathlib.Core.List.{List}
 use Prim.Native.Nat.{ℕ, _+_, _-_, _<_, _≤_}
 use native.Mathlib.Omega.{arith}
 use lib.ListN.{length, getD}
-use lib.Ieee.{Float}
-use Rattle.sparse.specs.Parts.{Rows, Cols}
-use Rattle.base.specs.Numbers.{span}
-use Rattle.sparse.specs.Sparse.{Ranges}
+use lib.Ieee.{Float, binary64, add, sub}
+use Rattle.lanes.specs.Lists.{at, fold}
+use Rattle.lanes.specs.Arithmetic.{_⊗_}
+use Rattle.lanes.specs.Lanes.{cell, On}
+use Rattle.lanes.specs.Region.{reg}
+use Rattle.lanes.proofs.Lists.{fold-same}
+use Rattle.lanes.proofs.Quads.{reg-cell, _▹_}
+use Rattle.base.specs.Numbers.{span, Part}
 use Rattle.base.proofs.Numbers.{cut-length, cut-at}
+use Rattle.sparse.specs.Sparse.{plusAll, lessAll, Names, Fits, Ranges}
+use Rattle.sparse.specs.Parts.{plusRow, lessRow, plusCol, lessCol, Rows, Cols}
 
-module _ {m n : ℕ} {off cols : List ℕ} (r : Ranges m n off cols) (i : ℕ) (h : i < m) where
-  span-length {ℓ} : {A : Type ℓ} (xs : List A) → length xs ≡ length cols → length (span off xs i) ≡ getD off (i + 1) 0 - getD off i 0
-  span-length xs e = cut-length (getD off i 0) (getD off (i + 1) 0) xs (omega (arith, r .ends i h))
+-- ---- what a sum reads
 
-  pub span-same {ℓ} : {A : Type ℓ} (xs : List A) → length xs ≡ length cols → length (span off xs i) ≡ length (span off cols i)
-  span-same xs e = span-length xs e ∙ sym (span-length cols refl)
+module _ {off : List ℕ} {i size : ℕ} (P : Part off i size) where
+  span-length {ℓ} : {A : Type ℓ} (xs : List A) → length xs ≡ size → length (span off xs i) ≡ getD off (i + 1) 0 - getD off i 0
+  span-length xs e = cut-length (getD off i 0) (getD off (i + 1) 0) xs (omega (arith, P .ends))
 
-  -- what holds of each number of the list holds of each of the part
-  pub span-all : (xs : List ℕ) (P : ℕ → Type 0) → length xs ≡ length cols → ((k : ℕ) → k < length xs → P (getD xs k 0))
-      → (k : ℕ) → k < length (span off xs i) → P (getD (span off xs i) k 0)
-  span-all xs P e p k b =
+  span-names : {n : ℕ} (xs : List ℕ) → length xs ≡ size → Names n xs → Names n (span off xs i)
+  span-names {n} xs e p k b =
       let b′ : k < getD off (i + 1) 0 - getD off i 0 = omega (arith, span-length xs e) in
-      subst P (sym (cut-at (getD off i 0) (getD off (i + 1) 0) xs k 0 b′)) (p (getD off i 0 + k) (omega (arith, r .ends i h)))
+      rw (cut-at (getD off i 0) (getD off (i + 1) 0) xs k 0 b′) (p (getD off i 0 + k) (omega (arith, P .ends)))
 
--- ---- a row or a column, as its function lends it
+  -- turn k reads an element of either list, and an entry within the memory
+  module _ (list : List ℕ) {es : List ℕ} (e : length list ≡ size) (ee : es ≡ span off list i) {k : ℕ} (h : k < length es) where
+    pub turn-beside : {A : Type 0} (beside : List A) {vs : List A} → length beside ≡ size → vs ≡ span off beside i → k < length vs
+    turn-beside beside {vs} z ev =
+        let n : length es ≡ length (span off list i) = ap length ee in
+        let q : length vs ≡ length (span off beside i) = ap length ev in
+        omega (arith, span-length list e, span-length beside z)
 
--- part i ends in both lists
-pub record Ends (off : List ℕ) (i one other : ℕ) : Type 0 where
-  pub rises : getD off i 0 ≤ getD off (i + 1) 0
-  pub first : getD off (i + 1) 0 ≤ one
-  pub second : getD off (i + 1) 0 ≤ other
+    pub turn-at : getD es k 0 ≡ getD list (getD off i 0 + k) 0
+    turn-at = let n : length es ≡ length (span off list i) = ap length ee in rw ee (cut-at (getD off i 0) (getD off (i + 1) 0) list k 0 (omega (arith, span-length list e)))
+
+    pub turn-within : getD off i 0 + k < length list
+    turn-within = let n : length es ≡ length (span off list i) = ap length ee in omega (arith, span-length list e, P .ends)
+
+    pub turn-fits : {room : ℕ} (o : ℕ) → Fits room o list → o + getD es k 0 < room
+    turn-fits o f = rw turn-at (f (getD off i 0 + k) turn-within)
+
+    pub turn-named : {n : ℕ} → Names n list → getD es k 0 < n
+    turn-named f = rw turn-at (f (getD off i 0 + k) turn-within)
+
+-- ---- what the matrix's ranges give a row and a column
+
+pub fits-in : {n size : ℕ} (o : ℕ) (es : List ℕ) → Names n es → o + n ≤ size → Fits size o es
+fits-in o es b h k l = let q = b k l in omega arith
+
+part-of : {m n i : ℕ} {off cols : List ℕ} → Ranges m n off cols → i < m → Part off i (length cols)
+part-of {i = i} R h = record { here = omega (arith, R .rows); rises = R .rises i h; ends = R .ends i h }
+
+-- ---- a region's entries, and its list
+
+all-same : (op : Float → Float → Float) (es : List ℕ) (a u u′ : ℕ → Float) (v : Float) → ((k : ℕ) → k < length es → u (getD es k 0) ≡ u′ (getD es k 0))
+    → fold (length es) (λ k r. op r (a k ⊗ u (getD es k 0))) v ≡ fold (length es) (λ k r. op r (a k ⊗ u′ (getD es k 0))) v
+all-same op es a u u′ v e = fold-same (length es) (λ k r. op r (a k ⊗ u (getD es k 0))) (λ k r. op r (a k ⊗ u′ (getD es k 0))) v (λ k b r. ap (λ (t : Float). op r (a k ⊗ t)) (e k b))
 
 module _ {m n i : ℕ} {off cols : List ℕ} {vals : List Float} (R : Rows m n off cols vals) (h : i < m) where
-  pub row-ends : Ends off i (length cols) (length vals)
-  row-ends = record { rises = R .csr .rises i h; first = R .csr .ends i h; second = omega (arith, R .csr .ends i h, R .sizes) }
+  pub part-row : Part off i (length cols)
+  part-row = part-of (R .csr) h
 
-  pub row-lent : (length (span off vals i) ≡ length (span off cols i)) × ((k : ℕ) → k < length (span off cols i) → getD (span off cols i) k 0 < n)
-  row-lent = (span-same (R .csr) i h vals (R .sizes), span-all (R .csr) i h cols (λ (e : ℕ). e < n) refl (R .csr .below))
+  module _ (w : ℕ) (ws : List Float) (x : ℕ) (v : List Float) {r : List Float} where
+    pub row-plus-reg : On w r (λ l. plusRow off cols vals (λ e. cell w ws (x + e) l) i (at v l)) → On w r (λ l. plusRow off cols vals (at (reg w ws x n l)) i (at v l))
+    unfolding plusRow plusAll
+    row-plus-reg e = e ▹ (λ l z. all-same (add binary64) (span off cols i) (at (span off vals i)) (λ e. cell w ws (x + e) l) (at (reg w ws x n l)) (at v l) (λ k b. reg-cell w ws x n (getD (span off cols i) k 0) (span-names part-row cols refl (R .csr .below) k b) l z))
 
-module _ {n m e : ℕ} {toff rows places : List ℕ} {vals : List Float} (C : Cols n m toff rows places vals) (h : e < n) where
-  pub col-ends : Ends toff e (length rows) (length places)
-  col-ends = record { rises = C .csr .rises e h; first = C .csr .ends e h; second = omega (arith, C .csr .ends e h, C .sizes) }
+    pub row-less-reg : On w r (λ l. lessRow off cols vals (λ e. cell w ws (x + e) l) i (at v l)) → On w r (λ l. lessRow off cols vals (at (reg w ws x n l)) i (at v l))
+    unfolding lessRow lessAll
+    row-less-reg e = e ▹ (λ l z. all-same (sub binary64) (span off cols i) (at (span off vals i)) (λ e. cell w ws (x + e) l) (at (reg w ws x n l)) (at v l) (λ k b. reg-cell w ws x n (getD (span off cols i) k 0) (span-names part-row cols refl (R .csr .below) k b) l z))
 
-  pub col-lent : (length (span toff places e) ≡ length (span toff rows e)) × ((k : ℕ) → k < length (span toff rows e) → getD (span toff rows e) k 0 < m)
-      × ((k : ℕ) → k < length (span toff places e) → getD (span toff places e) k 0 < length vals)
-  col-lent = (span-same (C .csr) e h places (C .sizes), span-all (C .csr) e h rows (λ (i : ℕ). i < m) refl (C .csr .below), span-all (C .csr) e h places (λ (p : ℕ). p < length vals) (C .sizes) (C .range))
+module _ {n m e : ℕ} {atindptr atindices atmap : List ℕ} {vals : List Float} (C : Cols n m atindptr atindices atmap vals) (h : e < n) where
+  pub part-col : Part atindptr e (length atindices)
+  part-col = part-of (C .csr) h
+
+  abbrev rows : List ℕ
+  rows = span atindptr atindices e
+
+  abbrev numbers : ℕ → Float
+  numbers k = at vals (getD (span atindptr atmap e) k 0)
+
+  module _ (w : ℕ) (ws : List Float) (y : ℕ) (v : List Float) {r : List Float} where
+    pub col-plus-reg : On w r (λ l. plusCol atindptr atindices atmap vals (λ i. cell w ws (y + i) l) e (at v l)) → On w r (λ l. plusCol atindptr atindices atmap vals (at (reg w ws y m l)) e (at v l))
+    unfolding plusCol plusAll
+    col-plus-reg g = g ▹ (λ l z. all-same (add binary64) rows numbers (λ i. cell w ws (y + i) l) (at (reg w ws y m l)) (at v l) (λ k b. reg-cell w ws y m (getD rows k 0) (span-names part-col atindices refl (C .csr .below) k b) l z))
+
+    pub col-less-reg : On w r (λ l. lessCol atindptr atindices atmap vals (λ i. cell w ws (y + i) l) e (at v l)) → On w r (λ l. lessCol atindptr atindices atmap vals (at (reg w ws y m l)) e (at v l))
+    unfolding lessCol lessAll
+    col-less-reg g = g ▹ (λ l z. all-same (sub binary64) rows numbers (λ i. cell w ws (y + i) l) (at (reg w ws y m l)) (at v l) (λ k b. reg-cell w ws y m (getD rows k 0) (span-names part-col atindices refl (C .csr .below) k b) l z))

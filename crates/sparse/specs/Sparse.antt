@@ -9,24 +9,24 @@ use Rattle.lanes.specs.Lists.{at, fold, grow}
 use Rattle.lanes.specs.Arithmetic.{_⊕_, _⊖_, _⊗_, _⊘_}
 
 -- v, and in turn plus or less a number for the turn times u at the place that the list names
-unfoldable pub plusAll : List ℕ → (ℕ → Float) → List Float → Float → Float
+unfoldable pub plusAll : List ℕ → (ℕ → Float) → (ℕ → Float) → Float → Float
 unfolding fold
-plusAll es a u v = fold (length es) (λ k r. r ⊕ a k ⊗ at u (getD es k 0)) v
+plusAll es a u v = fold (length es) (λ k r. r ⊕ a k ⊗ u (getD es k 0)) v
 
-unfoldable pub lessAll : List ℕ → (ℕ → Float) → List Float → Float → Float
+unfoldable pub lessAll : List ℕ → (ℕ → Float) → (ℕ → Float) → Float → Float
 unfolding fold
-lessAll es a u v = fold (length es) (λ k r. r ⊖ a k ⊗ at u (getD es k 0)) v
+lessAll es a u v = fold (length es) (λ k r. r ⊖ a k ⊗ u (getD es k 0)) v
 
-unfoldable pub lessEach : List ℕ → (ℕ → Float) → List Float → Float → Float
+unfoldable pub lessEach : List ℕ → (ℕ → Float) → (ℕ → Float) → Float → Float
 unfolding fold
-lessEach es a u v = fold (length es) (λ k r. r ⊖ at u (getD es k 0) ⊗ a k) v
+lessEach es a u v = fold (length es) (λ k r. r ⊖ u (getD es k 0) ⊗ a k) v
 
 -- ---- substitution, by the lists: lv are the factor's numbers, row after row
 
 unfoldable pub frontAt : List ℕ → List ℕ → List Float → List Float → List Float → ℕ → Float
 unfolding lessEach
 frontAt ptr ind lv f d i =
-    lessEach (cut (getD ptr i 0) (getD ptr (i + 1) 0 - 1) ind) (λ k. at lv (getD ptr i 0 + k)) d (at f i) ⊘ at lv (getD ptr (i + 1) 0 - 1)
+    lessEach (cut (getD ptr i 0) (getD ptr (i + 1) 0 - 1) ind) (λ k. at lv (getD ptr i 0 + k)) (at d) (at f i) ⊘ at lv (getD ptr (i + 1) 0 - 1)
 
 unfoldable pub front : List ℕ → List ℕ → ℕ → List Float → List Float → List Float
 unfolding grow frontAt
@@ -35,7 +35,7 @@ front ptr ind m lv f = grow m (frontAt ptr ind lv f)
 unfoldable pub backAt : List ℕ → List ℕ → List ℕ → List ℕ → List Float → List Float → ℕ → Float
 unfolding lessEach
 backAt ptr tptr tind tmap lv d i =
-    lessEach (cut (getD tptr i 0 + 1) (getD tptr (i + 1) 0) tind) (λ k. at lv (getD (cut (getD tptr i 0 + 1) (getD tptr (i + 1) 0) tmap) k 0)) d (at d i)
+    lessEach (cut (getD tptr i 0 + 1) (getD tptr (i + 1) 0) tind) (λ k. at lv (getD (cut (getD tptr i 0 + 1) (getD tptr (i + 1) 0) tmap) k 0)) (at d) (at d i)
     ⊘ at lv (getD ptr (i + 1) 0 - 1)
 
 unfoldable pub back : List ℕ → List ℕ → List ℕ → List ℕ → List Float → ℕ → List Float → List Float
@@ -44,6 +44,14 @@ back ptr tptr tind tmap lv zero d = d
 back ptr tptr tind tmap lv (suc i) d = back ptr tptr tind tmap lv i (set d i (backAt ptr tptr tind tmap lv d i))
 
 -- ---- ranges
+
+-- every number of the list is below n
+abbrev pub Names : ℕ → List ℕ → Type 0
+Names n es = (k : ℕ) → k < length es → getD es k 0 < n
+
+-- each place that the list names, counted from entry o, is among this many entries
+abbrev pub Fits : ℕ → ℕ → List ℕ → Type 0
+Fits size o es = (k : ℕ) → k < length es → o + getD es k 0 < size
 
 -- m parts in a list of numbers below n
 pub record Ranges (m n : ℕ) (off cols : List ℕ) : Type 0 where

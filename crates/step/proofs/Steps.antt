@@ -11,11 +11,10 @@ use Rattle.lanes.specs.Lists.{at, vec}
 use Rattle.lanes.specs.Arithmetic.{_⊖_, _⊗_, _⊘_, null, one, larger, smaller}
 use Rattle.lanes.specs.Region.{reg, Kept, Fills, Apart, before, after}
 use Rattle.lanes.specs.Lanes.{On, room}
-use Rattle.lanes.proofs.Lists.{vec-same, vec-at}
+use Rattle.lanes.proofs.Lists.{vec-same, vec-at, fold-same}
 use Rattle.lanes.proofs.Regions.{places-le, kept-apart}
 use Rattle.machine.specs.Machine.{Problem, LaneData, Settings, State, Direction, cell, factor, forward, backward, columnProduct, uOf, vOf, fOf, dyOf, dxOf, direction, complement, largestRatio, moved, theta, stepLength, rowProduct}
 use Rattle.machine.specs.Work.{stepBy}
-use Rattle.machine.proofs.Factor.{fold-same}
 use Rattle.sparse.specs.Sparse.{front, back}
 use Rattle.kernels.specs.Kernels.{FillsTwo, FillsThree, costAt, uAt, dxAt, fAt}
 use Rattle.kernels.proofs.Loops.{ratio-same}

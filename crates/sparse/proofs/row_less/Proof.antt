@@ -1,78 +1,50 @@
-use native.Mathlib.Omega.{arith}
-use Prim.Native.Nat.{_+_}
-use Rattle.sparse.proofs.Spans.{row-ends, row-lent}
+use mathlib.Core.Path.{refl}
+use Prim.Native.Nat.{_-_}
+use lib.ListN.{length}
+use lib.Ieee.{binary64, sub}
+use Rattle.lanes.proofs.Quads.{each-on, on-self}
+use Rattle.sparse.proofs.Loops.{rowTerm, Sum, sum-start, sum-turn, sum-end}
+use Rattle.sparse.proofs.Spans.{turn-beside, turn-fits}
 use Rattle.sparse.specs.Parts.{lessRow}
+use Rattle.sparse.specs.Sparse.{lessAll}
+use native.Mathlib.Omega.{arith}
 use borrow.Author.Needs.{needs}
 use Rattle.sparse.proofs.row_less.Statement.{statement}
 use Rattle.sparse.proofs.row_less.Tie as tie
 
-mul-a : tie.Need-mul-a
-mul-a c = search needs
+abbrev Inv-loop : tie.InvT-loop
+Inv-loop off cols vals work width x i es vs acc₀ k₀ acc k = Sum width (sub binary64) (rowTerm width work x es vs) (length es) acc₀ acc k
 
-shared-slice-read-a : tie.Need-shared-slice-read-a
-shared-slice-read-a c = search needs
+abbrev μ-loop : tie.MeasureT-loop
+μ-loop off cols vals work width x i es vs acc₀ k₀ acc k = length es - k
 
-cast-a : tie.Need-cast-a
-cast-a c = omega (arith, c .shared-slice-known5 .given (c .before .before .before .before .before .args .i))
+span-requires : tie.Need-span-requires Inv-loop μ-loop
+span-requires c κs = c .before .before .before .before .pre .0
 
-add-g : tie.Need-add-g
-add-g c = search needs
+values-of-requires : tie.Need-values-of-requires Inv-loop μ-loop
+values-of-requires c κs = let s = c .before .before .before .before .before in record { here = s .pre .0 .here; rises = s .pre .0 .rises; ends = omega (arith, s .pre .0 .ends, s .pre .1) }
 
-mul-g : tie.Need-mul-g
-mul-g c = search needs
+loop-holds : tie.Need-loop-holds Inv-loop μ-loop
+loop-holds c = sum-start
 
-shared-slice-read-g : tie.Need-shared-slice-read-g
-shared-slice-read-g c = search needs
+row-term-requires : tie.Need-row-term-requires Inv-loop μ-loop
+row-term-requires c κs = let s = c .before .before .before .before .before .before .before .before in let h = c .loop-test .taken in (h, turn-beside (s .pre .0) (s .args .cols .now) refl (c .before .before .before .span .ensures) h (s .args .vals .now) (s .pre .1) (c .before .before .values-of .ensures), turn-fits (s .pre .0) (s .args .cols .now) refl (c .before .before .before .span .ensures) h (s .args .x) (s .pre .2), s .pre .3)
 
-cast-g : tie.Need-cast-g
-cast-g c = omega (arith, c .shared-slice-known6 .given (c .before .before .before .before .before .before .args .i + 1))
+sub4-requires : tie.Need-sub4-requires Inv-loop μ-loop
+sub4-requires c κs = search needs
 
-mul-less-row : tie.Need-mul-less-row
-mul-less-row c =
-    let s = c .before .before .before .before .before .before in
-    let p = row-ends (s .pre .0) (s .pre .1) in omega arith
+add-k : tie.Need-add-k Inv-loop μ-loop
+add-k c = omega arith
 
-sub-less-row : tie.Need-sub-less-row
-sub-less-row c =
-    let s = c .before .before .before .before .before .before in
-    let p = row-ends (s .pre .0) (s .pre .1) in omega arith
+loop-less : tie.Need-loop-less Inv-loop μ-loop
+loop-less c = omega arith
 
-part-less-row-start : tie.Need-part-less-row-start
-part-less-row-start c =
-    let s = c .before .before .before .before .before .before in
-    let p = row-ends (s .pre .0) (s .pre .1) in omega arith
+loop-again : tie.Need-loop-again Inv-loop μ-loop
+loop-again c = sum-turn (c .before .before .before .loop .inv) (c .before .before .loop-test .taken) (each-on (c .before .before .before .before .before .before .before .before .before .before .pre .3) (sub binary64) {a = c .before .before .before .loop .acc} (c .sub4 .ensures) on-self (c .before .row-term .ensures))
 
-part-less-row-end : tie.Need-part-less-row-end
-part-less-row-end c =
-    let s = c .before .before .before .before .before .before in
-    let p = row-ends (s .pre .0) (s .pre .1) in omega arith
-
-mul-less-row-2 : tie.Need-mul-less-row-2
-mul-less-row-2 c =
-    let s = c .before .before .before .before .before .before .before in
-    let p = row-ends (s .pre .0) (s .pre .1) in omega arith
-
-sub-less-row-2 : tie.Need-sub-less-row-2
-sub-less-row-2 c =
-    let s = c .before .before .before .before .before .before .before in
-    let p = row-ends (s .pre .0) (s .pre .1) in omega arith
-
-part-less-row-start-2 : tie.Need-part-less-row-start-2
-part-less-row-start-2 c =
-    let s = c .before .before .before .before .before .before .before in
-    let p = row-ends (s .pre .0) (s .pre .1) in omega arith
-
-part-less-row-end-2 : tie.Need-part-less-row-end-2
-part-less-row-end-2 c =
-    let s = c .before .before .before .before .before .before .before in
-    let p = row-ends (s .pre .0) (s .pre .1) in omega arith
-
-less-row-requires : tie.Need-less-row-requires
-less-row-requires c κs = let s = c .before .before .before .before .before .before .before .before in (row-lent (s .pre .0) (s .pre .1), (s .pre .2, s .pre .3))
-
-returns : tie.Need-returns
-unfolding lessRow
-returns c = c .less-row .ensures
+returns : tie.Need-returns Inv-loop μ-loop
+unfolding lessRow lessAll
+returns c = rw (c .before .before .before .span .ensures, c .before .before .values-of .ensures) at (sum-end (c .before .loop .inv) (c .loop-test .left))
 
 pub row-less-spec : {M : Type 1} → statement M
-row-less-spec = tie.close (tie.spec mul-a shared-slice-read-a cast-a add-g mul-g shared-slice-read-g cast-g mul-less-row sub-less-row part-less-row-start part-less-row-end mul-less-row-2 sub-less-row-2 part-less-row-start-2 part-less-row-end-2 less-row-requires returns)
+row-less-spec = tie.close (tie.spec Inv-loop μ-loop span-requires values-of-requires loop-holds row-term-requires sub4-requires add-k loop-less loop-again returns)
