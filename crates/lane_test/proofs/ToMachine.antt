@@ -51,11 +51,11 @@ module _ (A : Problem) where
         (λ j l r. ap (λ (e : ℕ). F e (at (span (A .off) (A .vals) i) j) r) (cut-at a b (A .cols) j 0 l) ∙ ap (λ (x : Float). F (getD (A .cols) (a + j) 0) x r) (cut-at a b (A .vals) j nan l))
         ∙ sym (along A i (unfold row in R .rising i h) (omega arith) F v)
 
-    pub row-plus : (u : List Float) (v : Float) → plusRow (A .off) (A .cols) (A .vals) u i v ≡ each (A .n) (holds A i) (λ e r. r ⊕ entry A i e ⊗ at u e) v
+    pub row-plus : (u : List Float) (v : Float) → plusRow (A .off) (A .cols) (A .vals) (at u) i v ≡ each (A .n) (holds A i) (λ e r. r ⊕ entry A i e ⊗ at u e) v
     unfolding plusRow plusAll
     row-plus u v = row-sum (λ e a r. r ⊕ a ⊗ at u e) v
 
-    pub row-less : (u : List Float) (v : Float) → lessRow (A .off) (A .cols) (A .vals) u i v ≡ each (A .n) (holds A i) (λ e r. r ⊖ entry A i e ⊗ at u e) v
+    pub row-less : (u : List Float) (v : Float) → lessRow (A .off) (A .cols) (A .vals) (at u) i v ≡ each (A .n) (holds A i) (λ e r. r ⊖ entry A i e ⊗ at u e) v
     unfolding lessRow lessAll
     row-less u v = row-sum (λ e a r. r ⊖ a ⊗ at u e) v
 
@@ -66,11 +66,11 @@ module _ (A : Problem) where
         ≡ each (A .m) (λ i. holds A i e) (λ i r. F i (entry A i e) r) v
     col-sum F v = listed (A .m) (λ i. holds A i e) (span atindptr atindices e) (λ j. at (A .vals) (getD (span atindptr atmap e) j 0)) (λ i. entry A i e) F v (C .rising e h) (C .holding e h) (C .entries e h)
 
-    pub col-plus : (y : List Float) → plusCol atindptr atindices atmap (A .vals) y e null ≡ columnProduct A y e
+    pub col-plus : (y : List Float) → plusCol atindptr atindices atmap (A .vals) (at y) e null ≡ columnProduct A y e
     unfolding plusCol plusAll columnProduct
     col-plus y = col-sum (λ i a r. r ⊕ a ⊗ at y i) null
 
-    pub col-less : (y : List Float) (v : Float) → lessCol atindptr atindices atmap (A .vals) y e v ≡ each (A .m) (λ i. holds A i e) (λ i r. r ⊖ entry A i e ⊗ at y i) v
+    pub col-less : (y : List Float) (v : Float) → lessCol atindptr atindices atmap (A .vals) (at y) e v ≡ each (A .m) (λ i. holds A i e) (λ i r. r ⊖ entry A i e ⊗ at y i) v
     unfolding lessCol lessAll
     col-less y v = col-sum (λ i a r. r ⊖ a ⊗ at y i) v
 

@@ -7,7 +7,7 @@ use lib.ListN.{length, getD}
 use lib.Ieee.{Float, binary64, add, sub}
 use Rattle.lanes.specs.Lists.{at, fold}
 use Rattle.lanes.specs.Arithmetic.{_⊗_}
-use Rattle.lanes.specs.Lanes.{cell, On}
+use Rattle.lanes.specs.Lanes.{cell, On, Width}
 use Rattle.lanes.specs.Region.{reg}
 use Rattle.lanes.proofs.Lists.{fold-same}
 use Rattle.lanes.proofs.Quads.{reg-cell, _▹_}
@@ -49,7 +49,7 @@ module _ {off : List ℕ} {i size : ℕ} (P : Part off i size) where
 
 -- ---- what the matrix's ranges give a row and a column
 
-pub fits-in : {n size : ℕ} (o : ℕ) (es : List ℕ) → Names n es → o + n ≤ size → Fits size o es
+fits-in : {n size : ℕ} (o : ℕ) (es : List ℕ) → Names n es → o + n ≤ size → Fits size o es
 fits-in o es b h k l = let q = b k l in omega arith
 
 part-of : {m n i : ℕ} {off cols : List ℕ} → Ranges m n off cols → i < m → Part off i (length cols)
@@ -62,8 +62,15 @@ all-same : (op : Float → Float → Float) (es : List ℕ) (a u u′ : ℕ → 
 all-same op es a u u′ v e = fold-same (length es) (λ k r. op r (a k ⊗ u (getD es k 0))) (λ k r. op r (a k ⊗ u′ (getD es k 0))) v (λ k b r. ap (λ (t : Float). op r (a k ⊗ t)) (e k b))
 
 module _ {m n i : ℕ} {off cols : List ℕ} {vals : List Float} (R : Rows m n off cols vals) (h : i < m) where
-  pub part-row : Part off i (length cols)
+  part-row : Part off i (length cols)
   part-row = part-of (R .csr) h
+
+  -- what a sum with a region at x, and one with a second region at u, ask
+  pub row-lent : (x : ℕ) {size w : ℕ} → x + n ≤ size → Width w → Part off i (length cols) × (length vals ≡ length cols) × Fits size x cols × Width w
+  row-lent x b W = (part-row, R .sizes, fits-in x cols (R .csr .below) b, W)
+
+  pub row-lent-two : (x u : ℕ) {size w : ℕ} → x + n ≤ size → u + n ≤ size → Width w → Part off i (length cols) × (length vals ≡ length cols) × Fits size x cols × Fits size u cols × Width w
+  row-lent-two x u b d W = (part-row, R .sizes, fits-in x cols (R .csr .below) b, fits-in u cols (R .csr .below) d, W)
 
   module _ (w : ℕ) (ws : List Float) (x : ℕ) (v : List Float) {r : List Float} where
     pub row-plus-reg : On w r (λ l. plusRow off cols vals (λ e. cell w ws (x + e) l) i (at v l)) → On w r (λ l. plusRow off cols vals (at (reg w ws x n l)) i (at v l))
@@ -75,8 +82,12 @@ module _ {m n i : ℕ} {off cols : List ℕ} {vals : List Float} (R : Rows m n o
     row-less-reg e = e ▹ (λ l z. all-same (sub binary64) (span off cols i) (at (span off vals i)) (λ e. cell w ws (x + e) l) (at (reg w ws x n l)) (at v l) (λ k b. reg-cell w ws x n (getD (span off cols i) k 0) (span-names part-row cols refl (R .csr .below) k b) l z))
 
 module _ {n m e : ℕ} {atindptr atindices atmap : List ℕ} {vals : List Float} (C : Cols n m atindptr atindices atmap vals) (h : e < n) where
-  pub part-col : Part atindptr e (length atindices)
+  part-col : Part atindptr e (length atindices)
   part-col = part-of (C .csr) h
+
+  -- what a sum with a region at y asks
+  pub col-lent : (y : ℕ) {size w : ℕ} → y + m ≤ size → Width w → Part atindptr e (length atindices) × (length atmap ≡ length atindices) × Names (length vals) atmap × Fits size y atindices × Width w
+  col-lent y b W = (part-col, C .sizes, C .range, fits-in y atindices (C .csr .below) b, W)
 
   abbrev rows : List ℕ
   rows = span atindptr atindices e
