@@ -1,18 +1,20 @@
 -- An entry of the backward substitution; what its loop keeps, and a turn of it. Assumes nothing.
-use mathlib.Core.Path.{_≡_, refl, sym, ap, _∙_}
+use mathlib.Core.Path.{_≡_, refl, sym, ap, ap₂, _∙_}
 use mathlib.Core.List.{List}
 use Prim.Native.Nat.{ℕ, suc, _+_, _-_, _≤_, _<_}
 use native.Mathlib.Omega.{arith}
 use lib.ListN.{length, getD, set}
 use lib.Ieee.{Float, binary64, div}
-use Rattle.lanes.specs.Lists.{at}
+use Rattle.lanes.specs.Lists.{at, fold}
+use Rattle.lanes.specs.Arithmetic.{_⊖_, _⊗_}
 use Rattle.lanes.specs.Lanes.{each2, cell, put, On, Width, room}
 use Rattle.lanes.specs.Region.{reg, Kept, Fills, Apart, after}
 use Rattle.lanes.proofs.Regions.{room-all, kept-room, reg-put, kept-apart, kept-put, kept-none}
+use Rattle.lanes.proofs.Lists.{fold-same}
 use Rattle.lanes.proofs.Quads.{each-on, reg-cell, _▹_}
 use Rattle.base.specs.Numbers.{cut}
 use Rattle.base.proofs.Numbers.{cut-length, cut-at}
-use Rattle.sparse.specs.Sparse.{lessEach, backAt, back}
+use Rattle.sparse.specs.Sparse.{lessEach, backAt, back, Names}
 use Rattle.layout.specs.declared.Plan.{Plan}
 use Rattle.layout.specs.Layout.{dyAt, lIn}
 use Rattle.layout.specs.Lists.{lindptrAt, ldiagIndptrAt, ltindicesAt, ltmapAt, lindptrIn, ltindptrIn, ltindicesIn, ltmapIn}
@@ -20,14 +22,27 @@ use Rattle.eliminate.specs.Elimination.{BackIn}
 
 -- ---- backward
 
-pub back-value : (width : ℕ) → Width width → (ptr tptr tind tmap : List ℕ) (work : List Float) (d lo m count i : ℕ) → i < m → getD ptr (i + 1) 0 - 1 < count → {b v p r : List Float}
+-- what an entry reads: as many places as rows, each in its region
+pub record Reads (es ps : List ℕ) (m count : ℕ) : Type 0 where
+  pub sizes : length ps ≡ length es
+  pub rows : Names m es
+  pub places : Names count ps
+
+pub back-value : (width : ℕ) → Width width → (ptr tptr tind tmap : List ℕ) (work : List Float) (d lo m count i : ℕ) → i < m → getD ptr (i + 1) 0 - 1 < count
+    → Reads (cut (getD tptr i 0 + 1) (getD tptr (i + 1) 0) tind) (cut (getD tptr i 0 + 1) (getD tptr (i + 1) 0) tmap) m count → {b v p r : List Float}
     → On width b (cell width work (d + i))
-    → On width v (λ l. lessEach (cut (getD tptr i 0 + 1) (getD tptr (i + 1) 0) tind) (λ k. at (reg width work lo count l) (getD (cut (getD tptr i 0 + 1) (getD tptr (i + 1) 0) tmap) k 0)) (reg width work d m l) (at b l))
+    → On width v (λ l. lessEach (cut (getD tptr i 0 + 1) (getD tptr (i + 1) 0) tind) (λ k. cell width work (lo + getD (cut (getD tptr i 0 + 1) (getD tptr (i + 1) 0) tmap) k 0) l) (λ j. cell width work (d + j) l) (at b l))
     → On width p (cell width work (lo + (getD ptr (i + 1) 0 - 1))) → r ≡ each2 (div binary64) v p
     → On width r (λ l. backAt ptr tptr tind tmap (reg width work lo count l) (reg width work d m l) i)
-unfolding backAt
-back-value width W ptr tptr tind tmap work d lo m count i h g eb ev ep er =
-    each-on W (div binary64) er (ev ▹ (λ l z. rw (eb .lane l z, reg-cell width work d m i h l z)))
+unfolding backAt lessEach
+back-value width W ptr tptr tind tmap work d lo m count i h g R {b} eb ev ep er =
+    let es = cut (getD tptr i 0 + 1) (getD tptr (i + 1) 0) tind in
+    let ps = cut (getD tptr i 0 + 1) (getD tptr (i + 1) 0) tmap in
+    each-on W (div binary64) er
+    (ev ▹ (λ l z.
+    fold-same (length es) (λ k r. r ⊖ cell width work (d + getD es k 0) l ⊗ cell width work (lo + getD ps k 0) l) (λ k r. r ⊖ at (reg width work d m l) (getD es k 0) ⊗ at (reg width work lo count l) (getD ps k 0)) (at b l)
+    (λ k c r. ap₂ (λ (u v : Float). r ⊖ u ⊗ v) (reg-cell width work d m (getD es k 0) (R .rows k c) l z) (reg-cell width work lo count (getD ps k 0) (R .places k (omega (arith, R .sizes))) l z))
+    ∙ ap (fold (length es) (λ k r. r ⊖ at (reg width work d m l) (getD es k 0) ⊗ at (reg width work lo count l) (getD ps k 0))) (eb .lane l z ∙ reg-cell width work d m i h l z)))
     (ep ▹ reg-cell width work lo count (getD ptr (i + 1) 0 - 1) g)
 
 -- what is left to do from i down makes of the memory what all of it makes of the memory at the start
@@ -124,12 +139,9 @@ module _ {width : ℕ} {p : Plan} {index : List ℕ} {work : List Float} (B : Ba
   places-long : length (cut from to (ltmapIn p index)) ≡ to - from
   places-long = cut-length from to (ltmapIn p index) (column .places)
 
-  pub column-reads :
-      (length (cut from to (ltmapIn p index)) ≡ length (cut from to (ltindicesIn p index)))
-      × ((k : ℕ) → k < length (cut from to (ltindicesIn p index)) → getD (cut from to (ltindicesIn p index)) k 0 < p .m)
-      × ((k : ℕ) → k < length (cut from to (ltmapIn p index)) → getD (cut from to (ltmapIn p index)) k 0 < p .stored)
-  column-reads = (
-    places-long ∙ sym rows-long,
-    (λ k b. let c : k < to - from = omega (arith, rows-long) in rw (cut-at from to (ltindicesIn p index) k 0 c) (B .columns .below (from + k) (omega (arith, column .rows)))),
-    (λ k b. let c : k < to - from = omega (arith, places-long) in rw (cut-at from to (ltmapIn p index) k 0 c) (B .columns .places (from + k) (omega (arith, column .places)))),
-  )
+  pub column-reads : Reads (cut from to (ltindicesIn p index)) (cut from to (ltmapIn p index)) (p .m) (p .stored)
+  column-reads = record {
+    sizes = places-long ∙ sym rows-long;
+    rows = λ k b. let c : k < to - from = omega (arith, rows-long) in rw (cut-at from to (ltindicesIn p index) k 0 c) (B .columns .below (from + k) (omega (arith, column .rows)));
+    places = λ k b. let c : k < to - from = omega (arith, places-long) in rw (cut-at from to (ltmapIn p index) k 0 c) (B .columns .places (from + k) (omega (arith, column .places)));
+  }

@@ -41,17 +41,7 @@ fn back_entry(work: &[f64], width: usize, index: &[u32], plan: Plan, i: usize) -
     let a = word_at(ends, i) + 1;
     let e = word_at(ends, i + 1);
     let b = get(work, mem.dy + i, width);
-    let v = less_back(
-        &rows[a..e],
-        &places[a..e],
-        work,
-        width,
-        mem.dy,
-        plan.m,
-        mem.l,
-        plan.stored,
-        b,
-    );
+    let v = less_back(&rows[a..e], &places[a..e], work, width, mem.dy, mem.l, b);
     let g = word_at(plan.lindptr(index), i + 1) - 1;
     let p = get(work, mem.l + g, width);
     div4(v, p)

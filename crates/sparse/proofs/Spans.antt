@@ -49,7 +49,7 @@ module _ {off : List ℕ} {i size : ℕ} (P : Part off i size) where
 
 -- ---- what the matrix's ranges give a row and a column
 
-fits-in : {n size : ℕ} (o : ℕ) (es : List ℕ) → Names n es → o + n ≤ size → Fits size o es
+pub fits-in : {n size : ℕ} (o : ℕ) (es : List ℕ) → Names n es → o + n ≤ size → Fits size o es
 fits-in o es b h k l = let q = b k l in omega arith
 
 part-of : {m n i : ℕ} {off cols : List ℕ} → Ranges m n off cols → i < m → Part off i (length cols)

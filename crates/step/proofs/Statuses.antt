@@ -10,9 +10,10 @@ use lib.Ieee.{Float, lt, isNan}
 use Rattle.lanes.specs.Lists.{at, vec}
 use Rattle.lanes.specs.Arithmetic.{null}
 use Rattle.lanes.specs.Constants.{startValue}
-use Rattle.lanes.specs.Lanes.{On}
+use Rattle.lanes.specs.Lanes.{lanes, On, Width}
 use Rattle.lanes.specs.Region.{reg, Kept, Fills, Apart, before}
 use Rattle.lanes.proofs.Regions.{kept-apart}
+use Rattle.lanes.proofs.Quads.{on}
 use Rattle.machine.specs.Machine.{Problem, LaneData, Settings, State, R, Q, G, mu, status, direction, stepLength, stepped}
 use Rattle.machine.specs.declared.Status.{Status}
 use Rattle.machine.specs.declared.Status.the-variants.{Spoilt, Done, Step}
@@ -24,10 +25,14 @@ use Rattle.step.specs.Steps.{Fresh, Told, LanesStep}
 use Rattle.step.proofs.Steps.{Took, untouched, untouched-on}
 
 -- ---- the start
-pub fresh : (width m n s : ℕ) {v w0 w1 w2 w3 w4 : List Float} → On width v (λ t. startValue)
-    → Fills width 0 n (λ t. vec n (λ e. at v t)) w0 w1 → Fills width n n (λ t. vec n (λ e. at v t)) w1 w2
-    → Fills width (yAt n) m (λ t. vec m (λ e. at v t)) w2 w3 → Fills width (wAt n m) s (λ t. vec s (λ e. at v t)) w3 w4 → Fresh width m n s w0 w4
-fresh width m n s {v} {w0} {w1} {w2} {w3} {w4} ev F1 F2 F3 F4 =
+pub starts : {width : ℕ} {v : Float} {r : List Float} → Width width → r ≡ lanes (λ t. v) → v ≡ startValue → On width r (λ t. startValue)
+starts W e s = on W (e ∙ ap (λ (u : Float). lanes (λ t. u)) s)
+
+pub fresh : (width m n s : ℕ) {x z y w w0 w1 w2 w3 w4 : List Float}
+    → On width x (λ t. startValue) → On width z (λ t. startValue) → On width y (λ t. startValue) → On width w (λ t. startValue)
+    → Fills width 0 n (λ t. vec n (λ e. at x t)) w0 w1 → Fills width n n (λ t. vec n (λ e. at z t)) w1 w2
+    → Fills width (yAt n) m (λ t. vec m (λ e. at y t)) w2 w3 → Fills width (wAt n m) s (λ t. vec s (λ e. at w t)) w3 w4 → Fresh width m n s w0 w4
+fresh width m n s {x} {z} {y} {w} {w0} {w1} {w2} {w3} {w4} sx sz sy sw F1 F2 F3 F4 =
     record {
       frame =
           untouched-on (untouched (F1 .kept) (omega arith))
@@ -35,23 +40,20 @@ fresh width m n s {v} {w0} {w1} {w2} {w3} {w4} ev F1 F2 F3 F4 =
       all = λ t b i. record { x = ex t b i; z = ez t b i; y = ey t b i; w = ew t b i };
     }
   where
-    te : (t : ℕ) → t < width → at v t ≡ startValue
-    te t b = ev .lane t b
-
     still : (p j : ℕ) {o k : ℕ} {old new : List Float} → Kept width o k old new → Apart p j o k → (t : ℕ) → t < width → reg width new p j t ≡ reg width old p j t
     still p j K a t b = kept-apart K a t b
 
     ex : (t : ℕ) → t < width → reg width w4 0 n t ≡ vec n (λ _. startValue)
-    ex t b = still 0 n (F4 .kept) (before (omega arith)) t b ∙ still 0 n (F3 .kept) (before (omega arith)) t b ∙ still 0 n (F2 .kept) (before (omega arith)) t b ∙ F1 .within t b ∙ ap (λ (x : Float). vec n (λ _. x)) (te t b)
+    ex t b = still 0 n (F4 .kept) (before (omega arith)) t b ∙ still 0 n (F3 .kept) (before (omega arith)) t b ∙ still 0 n (F2 .kept) (before (omega arith)) t b ∙ F1 .within t b ∙ ap (λ (u : Float). vec n (λ _. u)) (sx .lane t b)
 
     ez : (t : ℕ) → t < width → reg width w4 n n t ≡ vec n (λ _. startValue)
-    ez t b = still n n (F4 .kept) (before (omega arith)) t b ∙ still n n (F3 .kept) (before (omega arith)) t b ∙ F2 .within t b ∙ ap (λ (x : Float). vec n (λ _. x)) (te t b)
+    ez t b = still n n (F4 .kept) (before (omega arith)) t b ∙ still n n (F3 .kept) (before (omega arith)) t b ∙ F2 .within t b ∙ ap (λ (u : Float). vec n (λ _. u)) (sz .lane t b)
 
     ey : (t : ℕ) → t < width → reg width w4 (yAt n) m t ≡ vec m (λ _. startValue)
-    ey t b = still (yAt n) m (F4 .kept) (before (omega arith)) t b ∙ F3 .within t b ∙ ap (λ (x : Float). vec m (λ _. x)) (te t b)
+    ey t b = still (yAt n) m (F4 .kept) (before (omega arith)) t b ∙ F3 .within t b ∙ ap (λ (u : Float). vec m (λ _. u)) (sy .lane t b)
 
     ew : (t : ℕ) → t < width → reg width w4 (wAt n m) s t ≡ vec s (λ _. startValue)
-    ew t b = F4 .within t b ∙ ap (λ (x : Float). vec s (λ _. x)) (te t b)
+    ew t b = F4 .within t b ∙ ap (λ (u : Float). vec s (λ _. u)) (sw .lane t b)
 
 -- ---- the step that the statuses ask for
 

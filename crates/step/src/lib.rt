@@ -1,9 +1,9 @@
 // A step of the path-following algorithm in a block of lanes, over its working memory.
 ghost use mathlib.Core.Path.{_≡_};
-ghost use mathlib.Core.Bool.{Bool, cond, false};
+ghost use mathlib.Core.Bool.{cond, false};
 ghost use mathlib.Core.List.{List};
-ghost use Prim.Native.Nat.{ℕ, _+_, _<_, _≤_, _*_};
-ghost use lib.ListN.{length, getD};
+ghost use Prim.Native.Nat.{ℕ, _<_, _≤_};
+ghost use lib.ListN.{getD};
 ghost use lib.Ieee.{Float};
 ghost use Rattle.lanes.specs.Lists.{at};
 ghost use Rattle.lanes.specs.Lanes.{lanes, Width, room};
@@ -155,17 +155,17 @@ fn advance(
     vector_update(work, width, mem.w, mem.dw, mem.s, h);
 }
 
-// Every number 1000.0.
+// Every number as it is at the start, 1000.0.
 pub fn normal_eqn_init(work: &mut [f64], width: usize, plan: Plan)
     requires { ⌜ (lIn plan ≤ room width (now work)) × Width width ⌝ }
     ensures { λ _. ⌜ Fresh width (plan .m) (plan .n) (plan .s) (now (work .entry)) (now (work .exit)) ⌝ }
 {
     let mem = plan.regions();
-    let v = splat(LaneState::START);
-    vector_set(work, width, mem.x, mem.n, v);
-    vector_set(work, width, mem.z, mem.n, v);
-    vector_set(work, width, mem.y, mem.m, v);
-    vector_set(work, width, mem.w, mem.s, v);
+    let start = LaneState::new();
+    vector_set(work, width, mem.x, mem.n, splat(start.x));
+    vector_set(work, width, mem.z, mem.n, splat(start.z));
+    vector_set(work, width, mem.y, mem.m, splat(start.y));
+    vector_set(work, width, mem.w, mem.s, splat(start.w));
 }
 
 fn lanes_done(statuses: [Status; 4]) -> [bool; 4]

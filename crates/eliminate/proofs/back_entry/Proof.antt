@@ -2,13 +2,14 @@
 use mathlib.Core.Path.{ap}
 use Prim.Native.Nat.{_+_}
 use native.Mathlib.Omega.{arith}
-use lib.ListN.{length}
+use lib.ListN.{length, getD}
 use Rattle.lanes.proofs.Regions.{room-le}
 use Rattle.layout.specs.Layout.{dyAt, lIn}
 use Rattle.layout.specs.Lists.{lindptrIn, ltindptrIn, ltindicesIn, ltmapIn}
-use Rattle.factor.proofs.Sums.{by-ends}
+use Rattle.factor_entry.proofs.Sums.{by-ends}
 use Rattle.eliminate.proofs.Turns.{column, column-reads, back-value}
-use Rattle.base.proofs.Numbers.{cut-length, cut-at}
+use Rattle.base.specs.Numbers.{cut}
+use Rattle.sparse.proofs.Spans.{fits-in}
 use Rattle.eliminate.proofs.back_entry.Statement.{statement}
 use Rattle.eliminate.proofs.back_entry.Tie as tie
 
@@ -68,8 +69,10 @@ part-less-back-end-2 c = omega (arith, by-ends (c .before .before .before .befor
 
 less-back-requires : tie.Need-less-back-requires
 less-back-requires c κs =
+    let s = c .before .before .before .before .before .before .before .before .before .before .before .before in
+    let R = column-reads (s .pre .0) (s .pre .1) in
     rw (c .before .before .before .before .before .before .before .before .before .regions .ensures, c .before .before .before .before .before .before .before .ltindices .ensures, c .before .before .before .before .before .before .ltmap .ensures, by-ends (c .before .before .before .before .before .before .before .before .before .before .before .before .args .i) (c .before .before .before .before .before .word-at .ensures) (c .before .before .before .before .before .before .before .before .ltindptr .ensures), by-ends (c .before .before .before .before .before .before .before .before .before .before .before .before .args .i + 1) (c .before .before .before .before .word-at2 .ensures) (c .before .before .before .before .before .before .before .before .ltindptr .ensures))
-    (column-reads (c .before .before .before .before .before .before .before .before .before .before .before .before .pre .0) (c .before .before .before .before .before .before .before .before .before .before .before .before .pre .1), (omega (arith, c .before .before .before .before .before .before .before .before .before .before .before .before .pre .0 .fits), c .before .before .before .before .before .before .before .before .before .before .before .before .pre .0 .fits, c .before .before .before .before .before .before .before .before .before .before .before .before .pre .0 .wide))
+    (R .sizes, fits-in (dyAt (s .args .plan .n) (s .args .plan .m)) (cut (getD (ltindptrIn (s .args .plan) (s .args .index .now)) (s .args .i) 0 + 1) (getD (ltindptrIn (s .args .plan) (s .args .index .now)) (s .args .i + 1) 0) (ltindicesIn (s .args .plan) (s .args .index .now))) (R .rows) (omega (arith, s .pre .0 .fits)), fits-in (lIn (s .args .plan)) (cut (getD (ltindptrIn (s .args .plan) (s .args .index .now)) (s .args .i) 0 + 1) (getD (ltindptrIn (s .args .plan) (s .args .index .now)) (s .args .i + 1) 0) (ltmapIn (s .args .plan) (s .args .index .now))) (R .places) (s .pre .0 .fits), s .pre .0 .wide)
 
 lindptr-requires : tie.Need-lindptr-requires
 lindptr-requires c κs = c .before .before .before .before .before .before .before .before .before .before .before .before .before .pre .0 .indexed
@@ -95,7 +98,7 @@ returns c =
     let p = s .args .plan in
     let x = s .args .index .now in
     back-value (s .args .width) (s .pre .0 .wide) (lindptrIn p x) (ltindptrIn p x) (ltindicesIn p x) (ltmapIn p x) (s .args .work .now) (dyAt (p .n) (p .m)) (lIn p) (p .m) (p .stored) (s .args .i) (s .pre .1)
-    (omega (arith, s .pre .0 .ends (s .args .i) (s .pre .1) .0, s .pre .0 .ends (s .args .i) (s .pre .1) .1))
+    (omega (arith, s .pre .0 .ends (s .args .i) (s .pre .1) .0, s .pre .0 .ends (s .args .i) (s .pre .1) .1)) (column-reads (s .pre .0) (s .pre .1))
     (rw (c .before .before .before .before .before .before .before .before .before .before .before .before .before .before .before .regions .ensures) at (c .before .before .before .before .before .before .before .before .get .ensures))
     (rw (c .before .before .before .before .before .before .before .before .before .before .before .before .before .before .before .regions .ensures, c .before .before .before .before .before .before .before .before .before .before .before .before .before .ltindices .ensures, c .before .before .before .before .before .before .before .before .before .before .before .before .ltmap .ensures, by-ends (c .before .before .before .before .before .before .before .before .before .before .before .before .before .before .before .before .before .before .args .i) (c .before .before .before .before .before .before .before .before .before .before .before .word-at .ensures) (c .before .before .before .before .before .before .before .before .before .before .before .before .before .before .ltindptr .ensures), by-ends (c .before .before .before .before .before .before .before .before .before .before .before .before .before .before .before .before .before .before .args .i + 1) (c .before .before .before .before .before .before .before .before .before .before .word-at2 .ensures) (c .before .before .before .before .before .before .before .before .before .before .before .before .before .before .ltindptr .ensures)) at (c .before .before .before .before .before .less-back .ensures))
     (rw (c .before .before .before .before .before .before .before .before .before .before .before .before .before .before .before .regions .ensures, by-ends (c .before .before .before .before .before .before .before .before .before .before .before .before .before .before .before .before .before .before .args .i + 1) (c .before .before .before .word-at3 .ensures) (c .before .before .before .before .lindptr .ensures)) at (c .before .get2 .ensures)) (c .div4 .ensures)

@@ -8,7 +8,7 @@ use Rattle.lanes.proofs.Quads.{on}
 use Rattle.plan_laws.proofs.Entry.{start-needs, normal-needs, product-needs, finish-needs}
 use Rattle.plan_laws.proofs.Fill.{lindptr-room, lindices-next, put-room}
 use Rattle.factor.specs.Row.{RowDue}
-use Rattle.factor.proofs.Sums.{by-ends}
+use Rattle.factor_entry.proofs.Sums.{by-ends}
 use Rattle.factor.proofs.Along.{Along, along-given, along-stands, value-below, off-diagonal, row-some, stands-last, along-none, along-more, row-kept, row-filled, row-entry}
 use Rattle.factor.proofs.normal_matrix_cholesky_row.Statement.{statement}
 use Rattle.factor.proofs.normal_matrix_cholesky_row.Tie as tie

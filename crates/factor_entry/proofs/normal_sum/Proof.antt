@@ -5,9 +5,9 @@ use Rattle.lanes.proofs.Quads.{on}
 use Prim.Native.Nat.{_+_, _-_, _≤_}
 use native.Mathlib.Omega.{arith}
 use Rattle.plan_laws.specs.Factoring.{normalStep, Summed}
-use Rattle.factor.proofs.Sums.{by-ends, normal-here, summed-none, normal-turn, summed-end, anorm-end}
-use Rattle.factor.proofs.normal_sum.Statement.{statement}
-use Rattle.factor.proofs.normal_sum.Tie as tie
+use Rattle.factor_entry.proofs.Sums.{by-ends, normal-here, summed-none, normal-turn, summed-end, anorm-end}
+use Rattle.factor_entry.proofs.normal_sum.Statement.{statement}
+use Rattle.factor_entry.proofs.normal_sum.Tie as tie
 
 abbrev Inv-loop : tie.InvT-loop
 Inv-loop work width values index mem e left right columns to acc₀ p₀ acc p = (p₀ ≤ p) × (p ≤ to) × Summed width (normalStep width values left right columns work (mem .x) (mem .z) p₀) acc₀ p₀ p acc

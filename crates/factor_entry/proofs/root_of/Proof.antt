@@ -1,12 +1,12 @@
--- `factor::root_of` meets its contract. Assumes nothing.
+-- `factor_entry::root_of` meets its contract. Assumes nothing.
 use mathlib.Core.Path.{_∙_}
 use Rattle.lanes.specs.Lists.{at}
 use Rattle.lanes.specs.Arithmetic.{magnitude}
 use Rattle.lanes.proofs.Magnitude.{positive}
 use Rattle.lanes.proofs.Quads.{array-lanes, lanes-ext}
-use Rattle.factor.proofs.Sums.{root-value}
-use Rattle.factor.proofs.root_of.Statement.{statement}
-use Rattle.factor.proofs.root_of.Tie as tie
+use Rattle.factor_entry.proofs.Sums.{root-value}
+use Rattle.factor_entry.proofs.root_of.Statement.{statement}
+use Rattle.factor_entry.proofs.root_of.Tie as tie
 
 returns : tie.Need-returns
 returns c =
