@@ -14,7 +14,7 @@ use Rattle.lanes.proofs.Lists.{vec-at, fold-same}
 use Rattle.lanes.specs.Lanes.{On}
 use Rattle.lanes.specs.Region.{reg}
 use Rattle.lanes.proofs.Regions.{reg-at}
-use Rattle.kernels.specs.Kernels.{qAt, rAt}
+use Rattle.residuals.specs.Residuals.{qAt, rAt}
 use Rattle.plan_laws.specs.Meaning.{RowsOf, ColsOf}
 use Rattle.layout.specs.Layout.{yAt, wAt}
 use Rattle.memory.specs.Numbers.{numbersAt}

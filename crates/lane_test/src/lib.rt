@@ -13,10 +13,9 @@ ghost use Rattle.memory.specs.Numbers.{Lent};
 ghost use Rattle.memory.specs.Planned.{Planned, problemIn, dataIn};
 ghost use Rattle.layout.specs.Layout.{lIn};
 ghost use Rattle.lane_test.specs.Measures.{judged, Measured, Judges, primalTol, dualTol, gapTol, judgedLane};
-ghost use Rattle.kernels.specs.Kernels.{Laid, Within, wIn, slackY, primalSum, dualSum};
+ghost use Rattle.kernels.specs.Kernels.{Laid, Within, wIn, slackY};
+ghost use Rattle.residuals.specs.Residuals.{primalSum, dualSum};
 use kernels::dot_product;
-use kernels::dual_squares;
-use kernels::primal_squares;
 use kernels::squares_and_products;
 use lanes::add4;
 use lanes::div4;
@@ -28,6 +27,8 @@ use layout::Block;
 use layout::Plan;
 use layout::Regions;
 use machine::Status;
+use residuals::dual_squares;
+use residuals::primal_squares;
 
 fn vector_norm(work: &[f64], width: usize, o: usize, k: usize) -> [f64; 4]
     requires { ⌜ (o + k ≤ room width (now work)) × Width width ⌝ }

@@ -16,7 +16,9 @@ use Rattle.lanes.proofs.Regions.{places-le, kept-apart}
 use Rattle.machine.specs.Machine.{Problem, LaneData, Settings, State, Direction, cell, factor, forward, backward, columnProduct, uOf, vOf, fOf, dyOf, dxOf, direction, complement, largestRatio, moved, theta, stepLength, rowProduct}
 use Rattle.machine.specs.Work.{stepBy}
 use Rattle.sparse.specs.Sparse.{front, back}
-use Rattle.kernels.specs.Kernels.{FillsTwo, FillsThree, costAt, uAt, dxAt, fAt}
+use Rattle.kernels.specs.Kernels.{FillsTwo, FillsThree}
+use Rattle.right_hand_side.specs.RightHandSide.{costAt, uAt, fAt}
+use Rattle.changes.specs.Changes.{dxAt}
 use Rattle.kernels.proofs.Loops.{ratio-same}
 use Rattle.eliminate.specs.Elimination.{KeptTwo, Eliminated}
 use Rattle.eliminate.proofs.Rows.{two-apart}

@@ -14,11 +14,9 @@ ghost use Rattle.machine.specs.Outcome.{isDone};
 ghost use Rattle.memory.specs.Planned.{Planned, Begins, problemIn, dataIn};
 ghost use Rattle.layout.specs.Layout.{lIn, topIn};
 ghost use Rattle.step.specs.Steps.{Fed, Ready, RightSide, Changed, Directed, Advanced, Fresh, StepTaken};
+use changes::column_changes;
+use changes::slack_changes;
 use eliminate::factor_solve;
-use kernels::column_changes;
-use kernels::rhs_f;
-use kernels::rhs_u;
-use kernels::slack_changes;
 use kernels::vector_set;
 use kernels::vector_update;
 use lanes::LaneState;
@@ -30,6 +28,8 @@ use lanes::splat;
 use layout::Block;
 use layout::Plan;
 use machine::Status;
+use right_hand_side::rhs_f;
+use right_hand_side::rhs_u;
 
 // The reduced costs and mu/x, in the regions of dx and dz; of them u, and of u f, the right-hand side.
 fn normal_eqn_rhs(

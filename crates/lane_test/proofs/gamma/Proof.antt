@@ -1,5 +1,5 @@
 use Rattle.lanes.proofs.Quads.{each-on, on-self}
-use Rattle.kernels.proofs.Turns.{all-w, all-slack-y}
+use Rattle.kernels.proofs.Laid.{all-w, all-slack-y}
 use lib.Ieee.{binary64, add}
 use borrow.Author.Needs.{needs}
 use Rattle.lane_test.proofs.gamma.Statement.{statement}

@@ -1,7 +1,7 @@
 use Rattle.lanes.proofs.Quads.{on}
 use Rattle.lanes.proofs.Regions.{room-le}
 use native.Mathlib.Omega.{arith}
-use Rattle.kernels.proofs.Turns.{laid}
+use Rattle.kernels.proofs.Laid.{laid}
 use Rattle.lane_test.proofs.Tests.{measured}
 use borrow.Author.Needs.{needs}
 use Rattle.lane_test.proofs.measure.Statement.{statement}

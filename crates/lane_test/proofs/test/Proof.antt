@@ -3,7 +3,7 @@ use native.Mathlib.Omega.{arith}
 use Rattle.plan_laws.proofs.Follows.{rows-for, cols-for}
 use Rattle.memory.specs.Numbers.{dataAt}
 use Rattle.memory.proofs.Plans.{indexed, prepared}
-use Rattle.kernels.proofs.Turns.{laid}
+use Rattle.kernels.proofs.Laid.{laid}
 use Rattle.lane_test.proofs.Tests.{tested}
 use borrow.Author.Needs.{needs}
 use Rattle.lane_test.proofs.test.Statement.{statement}

@@ -1,7 +1,7 @@
 use Rattle.lanes.proofs.Quads.{on}
 use Rattle.lanes.proofs.Regions.{room-le, kept-room}
 use native.Mathlib.Omega.{arith}
-use Rattle.kernels.proofs.Turns.{laid}
+use Rattle.kernels.proofs.Laid.{laid}
 use Rattle.plan_laws.proofs.Follows.{cols-for}
 use Rattle.memory.proofs.Plans.{indexed, prepared}
 use Rattle.step.proofs.Steps.{changed}

@@ -1,6 +1,6 @@
 use Rattle.lanes.proofs.Regions.{room-le, kept-room}
 use native.Mathlib.Omega.{arith}
-use Rattle.kernels.proofs.Turns.{laid}
+use Rattle.kernels.proofs.Laid.{laid}
 use Rattle.plan_laws.proofs.Follows.{rows-for, cols-for}
 use Rattle.memory.proofs.Plans.{indexed, prepared}
 use Rattle.memory.specs.Numbers.{dataAt}
