@@ -19,7 +19,7 @@ use Rattle.layout.specs.declared.Block.{Block}
 use Rattle.layout.specs.declared.Plan.{Plan}
 use Rattle.layout.specs.Layout.{dyAt, rhsAt, lAt, topIn}
 use Rattle.memory.specs.Numbers.{numbersAt, directionAt}
-use Rattle.memory.specs.Planned.{problemIn, dataIn}
+use Rattle.memory.specs.Planned.{Planned, problemIn, dataIn}
 
 -- a block's lanes are among those of b and c, which are as long as stated
 pub record Fed (k : Block) (width m n s : ℕ) (b c : List Float) : Type 0 where
@@ -99,6 +99,14 @@ module _ (width : ℕ) (A : Problem) where
       pub frame : Untouched width top old new
       pub taken :
           (l : ℕ) → l < width → let q = numbersIn old l in numbersIn new l ≡ stepOf A H (d l) q (status A H (d l) q)
+
+-- of whatever matrix the plan is, by whatever settings and lanes' data
+abbrev pub ChangesFor : ℕ → Plan → List Float → List ℕ → List Float → List Float → List Float → List Float → Type 0
+ChangesFor width plan vals index mu old new ratios =
+    (off cols : List ℕ) (H : Settings) (d : ℕ → LaneData)
+    → Planned off cols vals plan index
+    → Ready width (problemIn plan off cols vals) d mu old
+    → Changed width (problemIn plan off cols vals) H d mu old new ratios
 
 -- by the settings with this damping, of which the statuses and mu are told, each lane takes its own step
 abbrev pub StepTaken : Plan → Block → ℕ → List ℕ → List ℕ → List Float → List Float → List Float → List Status → List Float → Float → List Float → List Float → Type 0

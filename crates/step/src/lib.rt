@@ -8,12 +8,12 @@ ghost use lib.Ieee.{Float};
 ghost use Rattle.lanes.specs.Lists.{at};
 ghost use Rattle.lanes.specs.Lanes.{lanes, Width, room};
 ghost use Rattle.lanes.specs.Arithmetic.{_⊘_, null, one, smaller};
-ghost use Rattle.machine.specs.Machine.{Settings, LaneData};
+ghost use Rattle.machine.specs.Machine.{Settings};
 ghost use Rattle.machine.specs.declared.Status.the-variants.{Spoilt};
 ghost use Rattle.machine.specs.Outcome.{isDone};
 ghost use Rattle.memory.specs.Planned.{Planned, Begins, problemIn, dataIn};
 ghost use Rattle.layout.specs.Layout.{lIn, topIn};
-ghost use Rattle.step.specs.Steps.{Fed, Ready, RightSide, Changed, Directed, Advanced, Fresh, StepTaken};
+ghost use Rattle.step.specs.Steps.{Fed, RightSide, ChangesFor, Directed, Advanced, Fresh, StepTaken};
 use changes::column_changes;
 use changes::slack_changes;
 use eliminate::factor_solve;
@@ -77,7 +77,7 @@ fn compute_dx_dz_dw(
     mu: [f64; 4],
 ) -> [f64; 4]
     requires { ⌜ Begins (now vals) plan (now index) × (lIn plan ≤ room width (now work)) × Width width ⌝ }
-    ensures { λ r. ⌜ ((off cols : List ℕ) (H : Settings) (d : ℕ → LaneData) → Planned off cols (now (vals .entry)) plan (now (index .entry)) → Ready width (problemIn plan off cols (now (vals .entry))) d mu (now (work .entry)) → Changed width (problemIn plan off cols (now (vals .entry))) H d mu (now (work .entry)) (now (work .exit)) r) ⌝ }
+    ensures { λ r. ⌜ ChangesFor width plan (now (vals .entry)) (now (index .entry)) mu (now (work .entry)) (now (work .exit)) r ⌝ }
 {
     let mem = plan.regions();
     let atindptr = plan.atindptr(index);
