@@ -6,7 +6,7 @@ ghost use lib.ListN.{length, getD};
 ghost use Rattle.pattern.specs.Word.{bit, Put, Done, Seeded, OtherRows, rowOnes, Clear, Linked};
 ghost use Rattle.base.specs.Sums.{sum, one};
 ghost use Rattle.csr.specs.Pattern.{neighbours, row};
-ghost use Rattle.csr.specs.Csr.{Csr};
+ghost use Rattle.csr.specs.Csr.{Csr, RowOf};
 ghost use Rattle.pattern.specs.Links.{orElse, firstOf, links, Inside, Firsts};
 ghost use mathlib.Core.Bool.{cond};
 ghost use lib.Dec.{eqb};
@@ -103,8 +103,8 @@ fn link(p: &mut [u64], first: &mut [u32], e: usize, i: usize)
 }
 
 // Put the links and the diagonal of row i into a clear row. `first` holds one more than the first row of each column.
-pub fn seed_row(off: &[u32], cols: &[u32], m: usize, p: &mut [u64], first: &mut [u32], i: usize)
-    requires { ⌜ Csr (now off) (now cols) m × Inside (now off) (now cols) m 1024 × (i < m) × (length (now p) ≡ 1024) × Clear (now p) i × (length (now first) ≡ 1024) × Firsts (now first) (firstOf (now off) (now cols) i) ⌝ }
+pub fn seed_row(off: &[u32], cols: &[u32], p: &mut [u64], first: &mut [u32], i: usize)
+    requires { ⌜ RowOf (now off) (now cols) i 1024 × (i < 256) × (length (now p) ≡ 1024) × Clear (now p) i × (length (now first) ≡ 1024) × Firsts (now first) (firstOf (now off) (now cols) i) ⌝ }
     ensures other { λ _. ⌜ OtherRows (now (p .entry)) (now (p .exit)) i ⌝ }
     ensures row { λ _. ⌜ Seeded (links (now (off .entry)) (now (cols .entry))) (now (p .exit)) i ⌝ }
     ensures first { λ _. ⌜ Firsts (now (first .exit)) (firstOf (now (off .entry)) (now (cols .entry)) (i + 1)) ⌝ }
@@ -126,7 +126,7 @@ pub fn pattern(off: &[u32], cols: &[u32], m: usize, p: &mut [u64])
     let mut first = [0u32; 1024];
     let mut i: usize = 0;
     while i < m {
-        seed_row(off, cols, m, p, &mut first, i);
+        seed_row(off, cols, p, &mut first, i);
         fill_row(p, i);
         i += 1;
     }

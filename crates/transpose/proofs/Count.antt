@@ -1,6 +1,6 @@
 -- Counting by column, and where the columns start. Assumes nothing.
 use mathlib.Core.Path.{_≡_, refl, sym, ap, _∙_, subst}
-use mathlib.Core.Bool.{Bool}
+use mathlib.Core.Bool.{Bool, true}
 use mathlib.Core.List.{List, [], _∷_, _++_}
 use Prim.Native.Nat.{ℕ, suc, _+_, _-_, _*_, _<_, _≤_}
 use native.Mathlib.Omega.{arith}
@@ -10,6 +10,7 @@ use lib.Dec.{eqb}
 use borrow.Author.Tests.{eq-eqb, ne-eqb}
 use lib.ListN.{length, getD, set, length-append}
 use lib.Seq.{sets, getD-set-same, getD-set-other}
+use Rattle.csr.specs.Pattern.{has, row}
 use Rattle.base.specs.Sums.{sum, one}
 use Rattle.base.proofs.Sums.{sum-ext, sum-next, sum-times, count-le}
 use Rattle.base.specs.Cat.{cat, pick, Wrote}
@@ -19,23 +20,23 @@ use Rattle.lists.specs.declared.What.the-variants.{Numbers, Places}
 use Rattle.lists.specs.declared.Side.the-variants.{Matrix}
 use Rattle.base.proofs.Write.{length-cat, cat-ext, cat-next, length-pick, wrote-join, wrote-as, singles-length}
 use Rattle.lists.proofs.Whole.{side-is, three, three-length}
-use Rattle.transpose.specs.Bins.{Bins, onto, putIn, rowsOf, roomOf, inRow, Outside, Grid, Tally, Starts, seen, endsFrom, sideIn}
+use Rattle.transpose.specs.Bins.{Bins, onto, putIn, rowsOf, roomOf, inRow, Outside, Grid, RowCounting, Scattering, Tally, Starts, seen, endsFrom, sideIn}
 use Rattle.transpose.proofs.Fill.{in-step, in-room, in-start, in-end, bins-whole}
-use Rattle.transpose.proofs.Row.{row-long, in-q, e-at, e-below}
+use Rattle.csr.specs.Csr.{RowOf}
+use Rattle.csr.proofs.Rows.{row-of, row-long, in-row, entry-at, entry-below}
+use Rattle.base.proofs.Numbers.{below-more}
+use Rattle.csr.proofs.Has.{has-at, below-has}
 
 -- ---- one more in a bin
-tally-put : (next : List ℕ) (n : ℕ) (held : ℕ → List ℕ) (e x : ℕ) → e < n → e < length next → Tally next n held → Tally (set next e (getD next e 0 + 1)) n (putIn e x held)
-tally-put next n held e x he hn b = record { count = λ c hc. go c hc (ℕ-discrete c e) }
+count-put : (next : List ℕ) (held : ℕ → List ℕ) (e x : ℕ) → e < length next → (c : ℕ) → getD next c 0 ≡ length (held c) → getD (set next e (getD next e 0 + 1)) c 0 ≡ length (putIn e x held c)
+count-put next held e x hn c b = go (ℕ-discrete c e)
   where
-    go : (c : ℕ) → c < n → Dec (c ≡ e) → getD (set next e (getD next e 0 + 1)) c 0 ≡ length (onto (eqb c e) x (held c))
-    go c hc (yes q) =
+    go : Dec (c ≡ e) → getD (set next e (getD next e 0 + 1)) c 0 ≡ length (onto (eqb c e) x (held c))
+    go (yes q) =
         ap (λ (k : ℕ). getD (set next e (getD next e 0 + 1)) k 0) q
         ∙ getD-set-same next e (getD next e 0 + 1) 0 hn
-        ∙ omega (arith, b .count e he, ap (λ (k : ℕ). length (held k)) q, length-append (held c) (x ∷ []), ap (λ (t : Bool). length (onto t x (held c))) (eq-eqb c e q))
-    go c hc (no q) = getD-set-other next e c (getD next e 0 + 1) 0 q ∙ b .count c hc ∙ ap (λ (t : Bool). length (onto t x (held c))) (sym (ne-eqb c e q))
-
-tally-ext : (next : List ℕ) (n : ℕ) (f g : ℕ → List ℕ) → ((c : ℕ) → f c ≡ g c) → Tally next n f → Tally next n g
-tally-ext next n f g e b = record { count = λ c h. b .count c h ∙ ap length (e c) }
+        ∙ omega (arith, b, ap (λ (k : ℕ). getD next k 0) q, length-append (held c) (x ∷ []), ap (λ (t : Bool). length (onto t x (held c))) (eq-eqb c e q))
+    go (no q) = getD-set-other next e c (getD next e 0 + 1) 0 q ∙ b ∙ ap (λ (t : Bool). length (onto t x (held c))) (sym (ne-eqb c e q))
 
 pub room-few : (off cols : List ℕ) (m c : ℕ) → roomOf off cols m c ≤ m
 unfolding inColumn
@@ -54,40 +55,53 @@ column-long off cols w m c =
     length-cat m (λ r. pick (holds (shape off cols) Matrix r c) (entry (shape off cols) Matrix w r c))
     ∙ sum-ext m (λ r. length (pick (holds (shape off cols) Matrix r c) (entry (shape off cols) Matrix w r c))) (λ r. one (holds (shape off cols) Matrix r c)) (λ k l. length-pick (holds (shape off cols) Matrix k c) (entry (shape off cols) Matrix w k c))
 
-module _ (off cols : List ℕ) (m n i : ℕ) (ok : Grid off cols m n) (hi : i < m) where
-  pub count-start : (next : List ℕ) (k : ℕ) → k ≡ getD off i 0 → Tally next n (seen off cols i) → Tally next n (inRow off cols Numbers i (k - getD off i 0))
-  count-start next k e b =
+-- row i, each entry counted in its column
+module _ (off cols : List ℕ) (i n : ℕ) (ok : RowOf off cols i n) where
+  pub count-start : (next : List ℕ) (k : ℕ) → k ≡ getD off i 0 → (c : ℕ) → getD next c 0 ≡ length (seen off cols i c) → getD next c 0 ≡ length (inRow off cols Numbers i (k - getD off i 0) c)
+  count-start next k e c b =
       let z : 0 ≡ k - getD off i 0 = omega arith in
-      subst (λ (y : ℕ). Tally next n (inRow off cols Numbers i y)) z (tally-ext next n (seen off cols i) (inRow off cols Numbers i 0) (λ c. in-start off cols Numbers i c) b)
+      b ∙ ap length (in-start off cols Numbers i c) ∙ ap (λ (y : ℕ). length (inRow off cols Numbers i y c)) z
 
-  pub count-end : (next : List ℕ) (k : ℕ) → getD off (i + 1) 0 ≤ k → Tally next n (inRow off cols Numbers i (k - getD off i 0)) → Tally next n (seen off cols (i + 1))
-  count-end next k h b =
-      tally-ext next n (inRow off cols Numbers i (k - getD off i 0)) (seen off cols (i + 1)) (λ c. in-end off cols Numbers i (k - getD off i 0) c (omega (arith, row-long off cols m n i ok hi))) b
+  pub count-end : (next : List ℕ) (k : ℕ) → getD off (i + 1) 0 ≤ k → (c : ℕ) → getD next c 0 ≡ length (inRow off cols Numbers i (k - getD off i 0) c) → getD next c 0 ≡ length (seen off cols (i + 1) c)
+  count-end next k h c b = b ∙ ap length (in-end off cols Numbers i (k - getD off i 0) c (omega (arith, row-long off cols i n ok)))
 
-  module _ (k e : ℕ) (lo : getD off i 0 ≤ k) (hk : k < getD off (i + 1) 0) (he : e ≡ getD cols k 0) (next : List ℕ) (long : n ≤ length next)
-      (b : Tally next n (inRow off cols Numbers i (k - getD off i 0))) where
+  module _ (k e : ℕ) (lo : getD off i 0 ≤ k) (hk : k < getD off (i + 1) 0) (he : e ≡ getD cols k 0) (next : List ℕ) (long : n ≤ length next) where
+    q-in : k - getD off i 0 < length (row off cols i)
+    q-in = in-row off cols i n ok k e lo hk he
+
+    e-is : e ≡ getD (row off cols i) (k - getD off i 0) 0
+    e-is = entry-at off cols i n ok k e lo hk he
+
     e-in : e < n
-    e-in = e-below off cols m n i ok hi Numbers k e i lo hk he refl
+    e-in = entry-below off cols i n ok k e lo hk he
 
-    pub count-turn : Tally (set next e (getD next e 0 + 1)) n (inRow off cols Numbers i (k + 1 - getD off i 0))
-    count-turn =
+    pub count-turn : (c : ℕ) → getD next c 0 ≡ length (inRow off cols Numbers i (k - getD off i 0) c) → getD (set next e (getD next e 0 + 1)) c 0 ≡ length (inRow off cols Numbers i (k + 1 - getD off i 0) c)
+    count-turn c b =
         let z : k - getD off i 0 + 1 ≡ k + 1 - getD off i 0 = omega arith in
-        subst (λ (y : ℕ). Tally (set next e (getD next e 0 + 1)) n (inRow off cols Numbers i y)) z
-        (tally-ext _ n (putIn e i (inRow off cols Numbers i (k - getD off i 0))) (inRow off cols Numbers i (k - getD off i 0 + 1))
-        (in-step off cols Numbers i (k - getD off i 0) e i (ok .csr .rising i hi) (in-q off cols m n i ok hi Numbers k e i lo hk he refl) (e-at off cols m n i ok hi Numbers k e i lo hk he refl) refl)
-        (tally-put next n (inRow off cols Numbers i (k - getD off i 0)) e i e-in (omega (arith, e-in)) b))
+        count-put next (inRow off cols Numbers i (k - getD off i 0)) e i (omega (arith, e-in)) c b
+        ∙ ap length (in-step off cols Numbers i (k - getD off i 0) e i (ok .rising) q-in e-is refl c)
+        ∙ ap (λ (y : ℕ). length (inRow off cols Numbers i y c)) z
 
-    pub count-asks : (e < length next) × (getD next e 0 < 256)
-    count-asks = (
+    pub count-has : has (row off cols i) e ≡ true
+    count-has = ap (has (row off cols i)) e-is ∙ has-at (row off cols i) (k - getD off i 0) q-in
+
+    pub count-asks : i < 256 → getD next e 0 ≡ length (inRow off cols Numbers i (k - getD off i 0) e) → (e < length next) × (getD next e 0 < 256)
+    count-asks few b = (
       omega (arith, e-in),
       omega (
         arith,
-        b .count e e-in,
-        in-room off cols Numbers i (k - getD off i 0) e i (ok .csr .rising i hi) (in-q off cols m n i ok hi Numbers k e i lo hk he refl) (e-at off cols m n i ok hi Numbers k e i lo hk he refl) refl m hi,
-        room-few off cols m e,
-        ok .csr .few,
+        b,
+        in-room off cols Numbers i (k - getD off i 0) e i (ok .rising) q-in e-is refl (i + 1) (omega arith),
+        room-few off cols (i + 1) e,
       ),
     )
+
+pub row-counting : (off cols : List ℕ) (m n i : ℕ) → Grid off cols m n → i < m → (next : List ℕ) → n ≤ length next → Tally next n (seen off cols i) → RowCounting off cols i next
+row-counting off cols m n i g l next long t = record {
+  at = row-of off cols m i (length next) (g .csr) l (below-more n (length next) (row off cols i) long (g .within i l));
+  few = omega (arith, g .csr .few);
+  counts = λ c h. t .count c (below-has n c (row off cols i) (g .within i l) h);
+}
 
 -- ---- from counts to ends and starts
 module _ (f : ℕ → ℕ) where
@@ -161,6 +175,11 @@ bins-start off cols w m n index next start s = record {
   fits = λ c h. omega arith;
   words = λ c k h l. absurd (omega arith);
 }
+
+-- row i can follow the rows before it
+pub scattering : (off cols : List ℕ) (m n : ℕ) (w : What) (i : ℕ) (index next : List ℕ) (start : ℕ) → Grid off cols m n → i < m → n ≤ length next → start + sum n (roomOf off cols m) ≤ length index
+    → Bins index next start n (roomOf off cols m) (rowsOf off cols w i) → Scattering off cols m n w i index next start
+scattering off cols m n w i index next start g l long room b = record { grid = g; inside = l; long = long; room = room; few = room-sum off cols m n (g .csr .few) (g .wide); bins = b }
 
 pub outside-join : (a b c : List ℕ) (s e : ℕ) → Outside a b s e → Outside b c s e → Outside a c s e
 outside-join a b c s e u v = record { low = λ q h. v .low q h ∙ u .low q h; high = λ q h. v .high q h ∙ u .high q h }

@@ -6,7 +6,7 @@ ghost use Rattle.base.specs.Sums.{sum};
 ghost use Rattle.csr.specs.Counts.{countS};
 ghost use lib.Seq.{sets};
 ghost use Rattle.base.specs.Cat.{Wrote, cat};
-ghost use Rattle.transpose.specs.Bins.{rowsOf, roomOf, Scattering, Scattered, Grid, Tally, Starts, seen, RowCounted, endsFrom, sideIn, colsOf};
+ghost use Rattle.transpose.specs.Bins.{rowsOf, roomOf, Scattering, Scattered, Grid, Tally, Starts, seen, RowCounting, RowCounted, endsFrom, sideIn, colsOf};
 use base::word_at;
 ghost use Rattle.lists.specs.Lists.{byWhat};
 use lists::Side;
@@ -51,15 +51,13 @@ pub fn scatter_row(
     off: &[u32],
     cols: &[u32],
     bytes: &[u8],
-    m: usize,
-    n: usize,
     i: usize,
     index: &mut [u32],
     next: &mut [u32],
     start: usize,
 )
-    requires { ⌜ Scattering (now off) (colsOf side (now cols) (now bytes)) m n what i (now index) (now next) start × (i < m) ⌝ }
-    ensures { λ _. ⌜ Scattered (now (off .entry)) (colsOf side (now (cols .entry)) (now (bytes .entry))) m n what (i + 1) (now (index .entry)) (now (index .exit)) (now (next .exit)) start ⌝ }
+    requires { ⌜ ((m : ℕ) × (n : ℕ) × Scattering (now off) (colsOf side (now cols) (now bytes)) m n what i (now index) (now next) start) ⌝ }
+    ensures { λ _. ⌜ ((m n : ℕ) → Scattering (now (off .entry)) (colsOf side (now (cols .entry)) (now (bytes .entry))) m n what i (now (index .entry)) (now (next .entry)) start → Scattered (now (off .entry)) (colsOf side (now (cols .entry)) (now (bytes .entry))) m n what (i + 1) (now (index .entry)) (now (index .exit)) (now (next .exit)) start) ⌝ }
 {
     let a = word_at(off, i);
     let b = word_at(off, i + 1);
@@ -88,13 +86,11 @@ pub fn count_row(
     off: &[u32],
     cols: &[u32],
     bytes: &[u8],
-    m: usize,
-    n: usize,
     i: usize,
     next: &mut [u32],
 ) -> usize
-    requires { ⌜ Grid (now off) (colsOf side (now cols) (now bytes)) m n × (i < m) × (n ≤ length (now next)) × Tally (now next) n (seen (now off) (colsOf side (now cols) (now bytes)) i) ⌝ }
-    ensures { λ r. ⌜ RowCounted (now (off .entry)) (colsOf side (now (cols .entry)) (now (bytes .entry))) n i (now (next .exit)) r ⌝ }
+    requires { ⌜ RowCounting (now off) (colsOf side (now cols) (now bytes)) i (now next) ⌝ }
+    ensures { λ r. ⌜ RowCounted (now (off .entry)) (colsOf side (now (cols .entry)) (now (bytes .entry))) i (now (next .entry)) (now (next .exit)) r ⌝ }
 {
     let a = word_at(off, i);
     let b = word_at(off, i + 1);
@@ -124,7 +120,7 @@ pub fn count_rows(
     let mut s: usize = 0;
     let mut i: usize = 0;
     while i < m {
-        s += count_row(side, off, cols, bytes, m, n, i, next);
+        s += count_row(side, off, cols, bytes, i, next);
         i += 1;
     }
     s
@@ -183,7 +179,7 @@ pub fn scatter(
 {
     let mut i: usize = 0;
     while i < m {
-        scatter_row(side, what, off, cols, bytes, m, n, i, index, next, start);
+        scatter_row(side, what, off, cols, bytes, i, index, next, start);
         i += 1;
     }
 }

@@ -30,8 +30,9 @@ loop-holds c =
 count-row-requires : tie.Need-count-row-requires Inv-loop μ-loop
 count-row-requires c κs =
     let s = c .before .before .before .before .before .before .before in
+    let a = s .args in
     let l = c .before .before .loop in
-    (s .pre .0, c .before .loop-test .taken, omega (arith, s .pre .1, l .inv .1), l .inv .2)
+    law.row-counting (a .off .now) (colsOf (a .side) (a .cols .now) (a .bytes .now)) (a .m) (a .n) (l .i) (s .pre .0) (c .before .loop-test .taken) (l .next) (omega (arith, s .pre .1, l .inv .1)) (l .inv .2)
 
 add-s : tie.Need-add-s Inv-loop μ-loop
 add-s c =
@@ -54,8 +55,8 @@ loop-again c =
     let q = c .before .before .count-row in
     let h : l .i < a .m = c .before .before .before .before .loop-test .taken in (
       omega (arith, h),
-      q .kept .1 .1 .1 .1 .1 .1 .1 .0 ∙ l .inv .1,
-      q .ensures .tally,
+      q .kept .1 .1 .1 .1 .1 .0 ∙ l .inv .1,
+      record { count = λ x g. q .ensures .counts x (l .inv .2 .count x g) },
       ap₂ _+_ (l .inv .3) (q .ensures .pairs) ∙ sym (sum-next (l .i) (λ x. sum (suc x) (λ y. common (row (a .off .now) (colsOf (a .side) (a .cols .now) (a .bytes .now)) x) (row (a .off .now) (colsOf (a .side) (a .cols .now) (a .bytes .now)) y)))),
       omega (arith, l .inv .4, q .ensures .few, s .pre .0 .csr .order (l .i) h),
     )

@@ -27,8 +27,7 @@ scatter-row-requires c κs =
     let s = c .before .before .before .before .before .before .before .before .before in
     let a = s .args in
     let l = c .before .before .before .loop in
-    let room = law.room-sum (a .off .now) (colsOf (a .side) (a .cols .now) (a .bytes .now)) (a .m) (a .n) (s .pre .0 .csr .few) (s .pre .0 .wide) in
-    (record { grid = s .pre .0; long = omega (arith, s .pre .1, l .inv .2); room = omega (arith, s .pre .2, l .inv .1); few = room; bins = l .inv .3 }, c .before .before .loop-test .taken)
+    (a .m, a .n, law.scattering (a .off .now) (colsOf (a .side) (a .cols .now) (a .bytes .now)) (a .m) (a .n) (a .what) (l .i) (l .index) (l .next) (a .start) (s .pre .0) (c .before .before .loop-test .taken) (omega (arith, s .pre .1, l .inv .2)) (omega (arith, s .pre .2, l .inv .1)) (l .inv .3))
 
 add-i : tie.Need-add-i Inv-loop μ-loop
 add-i c = omega (arith, c .before .before .before .before .before .before .before .before .before .before .before .before .before .before .pre .0 .csr .few, c .before .before .before .before .before .before .before .loop-test .taken)
@@ -42,7 +41,8 @@ loop-again c =
     let a = s .args in
     let l = c .before .before .before .before .before .before .before .before .loop in
     let q = c .before .before .before .before .scatter-row in
-    (omega (arith, c .before .before .before .before .before .before .before .loop-test .taken), q .kept .1 .1 .1 .1 .1 .1 .1 .1 .0 ∙ l .inv .1, q .kept .1 .1 .1 .1 .1 .1 .1 .1 .1 .0 ∙ l .inv .2, q .ensures .bins, law.outside-join (a .index .now) (l .index) (q .last .1 .1 .1 .1 .1 .1 .1 .1 .0) (a .start) (a .start + sum (a .n) (roomOf (a .off .now) (colsOf (a .side) (a .cols .now) (a .bytes .now)) (a .m))) (l .inv .4) (q .ensures .outside))
+    let t = q .ensures (a .m) (a .n) (law.scattering (a .off .now) (colsOf (a .side) (a .cols .now) (a .bytes .now)) (a .m) (a .n) (a .what) (l .i) (l .index) (l .next) (a .start) (s .pre .0) (c .before .before .before .before .before .before .before .loop-test .taken) (omega (arith, s .pre .1, l .inv .2)) (omega (arith, s .pre .2, l .inv .1)) (l .inv .3)) in
+    (omega (arith, c .before .before .before .before .before .before .before .loop-test .taken), q .kept .1 .1 .1 .1 .1 .1 .0 ∙ l .inv .1, q .kept .1 .1 .1 .1 .1 .1 .1 .0 ∙ l .inv .2, t .bins, law.outside-join (a .index .now) (l .index) (q .last .1 .1 .1 .1 .1 .1 .0) (a .start) (a .start + sum (a .n) (roomOf (a .off .now) (colsOf (a .side) (a .cols .now) (a .bytes .now)) (a .m))) (l .inv .4) (t .outside))
 
 same-length : tie.Need-same-length Inv-loop μ-loop
 same-length c = c .before .loop .inv .1
