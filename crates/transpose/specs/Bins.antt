@@ -66,6 +66,13 @@ pub record Tally (next : List ℕ) (n : ℕ) (held : ℕ → List ℕ) : Type 0 
 pub record Starts (next : List ℕ) (n : ℕ) (size : ℕ → ℕ) : Type 0 where
   pub first : (c : ℕ) → c < n → getD next c 0 ≡ sum c size
 
+-- m rows, and n empty bins with room for them
+pub record EmptyBins (off cols : List ℕ) (m n : ℕ) (index next : List ℕ) (start : ℕ) : Type 0 where
+  pub grid : Grid off cols m n
+  pub long : n ≤ length next
+  pub room : start + sum n (roomOf off cols m) ≤ length index
+  pub starts : Starts next n (roomOf off cols m)
+
 -- the first i of m rows stand in their bins, and row i can follow
 pub record Scattering (off cols : List ℕ) (m n : ℕ) (w : What) (i : ℕ) (index next : List ℕ) (start : ℕ) : Type 0 where
   pub grid : Grid off cols m n
@@ -83,6 +90,13 @@ pub record Scattered (off cols : List ℕ) (m n : ℕ) (w : What) (i : ℕ) (old
 -- what the columns hold of the first i rows, by row
 abbrev pub seen : List ℕ → List ℕ → ℕ → ℕ → List ℕ
 seen off cols i c = rowsOf off cols Numbers i c
+
+-- m rows, and a memory with a 0 for each of their columns
+pub record Uncounted (off cols : List ℕ) (m : ℕ) (next : List ℕ) : Type 0 where
+  pub n : ℕ
+  pub grid : Grid off cols m n
+  pub long : n ≤ length next
+  pub clear : (c : ℕ) → c < n → getD next c 0 ≡ 0
 
 -- row i and a memory that counts, for each column of it, the rows before it that hold the column
 pub record RowCounting (off cols : List ℕ) (i : ℕ) (next : List ℕ) : Type 0 where

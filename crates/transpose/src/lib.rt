@@ -2,11 +2,10 @@
 ghost use mathlib.Core.Path.{_≡_};
 ghost use Prim.Native.Nat.{ℕ, _+_, _<_, _≤_};
 ghost use lib.ListN.{length, getD, set};
-ghost use Rattle.base.specs.Sums.{sum};
 ghost use Rattle.csr.specs.Counts.{countS};
 ghost use lib.Seq.{sets};
 ghost use Rattle.base.specs.Cat.{Wrote, cat};
-ghost use Rattle.transpose.specs.Bins.{rowsOf, roomOf, Scattering, Scattered, Grid, Tally, Starts, seen, RowCounting, RowCounted, endsFrom, sideIn, colsOf};
+ghost use Rattle.transpose.specs.Bins.{rowsOf, EmptyBins, Scattering, Scattered, Grid, Uncounted, Starts, seen, RowCounting, RowCounted, endsFrom, sideIn, colsOf};
 use base::word_at;
 ghost use Rattle.lists.specs.Lists.{byWhat};
 use lists::Side;
@@ -111,11 +110,10 @@ pub fn count_rows(
     cols: &[u32],
     bytes: &[u8],
     m: usize,
-    n: usize,
     next: &mut [u32],
 ) -> usize
-    requires { ⌜ Grid (now off) (colsOf side (now cols) (now bytes)) m n × (n ≤ length (now next)) × ((c : ℕ) → c < n → getD (now next) c 0 ≡ 0) ⌝ }
-    ensures { λ r. ⌜ Tally (now (next .exit)) n (seen (now (off .entry)) (colsOf side (now (cols .entry)) (now (bytes .entry))) m) × (r ≡ countS (now (off .entry)) (colsOf side (now (cols .entry)) (now (bytes .entry))) m) × (r ≤ 16777216) ⌝ }
+    requires { ⌜ Uncounted (now off) (colsOf side (now cols) (now bytes)) m (now next) ⌝ }
+    ensures { λ r. ⌜ ((c : ℕ) → getD (now (next .entry)) c 0 ≡ 0 → getD (now (next .exit)) c 0 ≡ length (seen (now (off .entry)) (colsOf side (now (cols .entry)) (now (bytes .entry))) m c)) × (r ≡ countS (now (off .entry)) (colsOf side (now (cols .entry)) (now (bytes .entry))) m) × (r ≤ 16777216) ⌝ }
 {
     let mut s: usize = 0;
     let mut i: usize = 0;
@@ -169,13 +167,12 @@ pub fn scatter(
     cols: &[u32],
     bytes: &[u8],
     m: usize,
-    n: usize,
     index: &mut [u32],
     next: &mut [u32],
     start: usize,
 )
-    requires { ⌜ Grid (now off) (colsOf side (now cols) (now bytes)) m n × (n ≤ length (now next)) × (start + sum n (roomOf (now off) (colsOf side (now cols) (now bytes)) m) ≤ length (now index)) × Starts (now next) n (roomOf (now off) (colsOf side (now cols) (now bytes)) m) ⌝ }
-    ensures { λ _. ⌜ now (index .exit) ≡ sets (now (index .entry)) start (cat n (rowsOf (now (off .entry)) (colsOf side (now (cols .entry)) (now (bytes .entry))) what m)) ⌝ }
+    requires { ⌜ ((n : ℕ) × EmptyBins (now off) (colsOf side (now cols) (now bytes)) m n (now index) (now next) start) ⌝ }
+    ensures { λ _. ⌜ ((n : ℕ) → EmptyBins (now (off .entry)) (colsOf side (now (cols .entry)) (now (bytes .entry))) m n (now (index .entry)) (now (next .entry)) start → now (index .exit) ≡ sets (now (index .entry)) start (cat n (rowsOf (now (off .entry)) (colsOf side (now (cols .entry)) (now (bytes .entry))) what m))) ⌝ }
 {
     let mut i: usize = 0;
     while i < m {
@@ -201,21 +198,10 @@ pub fn transpose(
     ensures { λ r. ⌜ Wrote (now (index .entry)) (now (index .exit)) start (sideIn (now (off .entry)) (colsOf side (now (cols .entry)) (now (bytes .entry))) m n) r ⌝ }
 {
     base::clear(next, n);
-    count_rows(side, off, cols, bytes, m, n, next);
+    count_rows(side, off, cols, bytes, m, next);
     let a = put_ends(n, index, next, again, start);
     let t = word_at(again, n);
-    scatter(side, What::Numbers, off, cols, bytes, m, n, index, next, a);
-    scatter(
-        side,
-        What::Places,
-        off,
-        cols,
-        bytes,
-        m,
-        n,
-        index,
-        again,
-        a + t,
-    );
+    scatter(side, What::Numbers, off, cols, bytes, m, index, next, a);
+    scatter(side, What::Places, off, cols, bytes, m, index, again, a + t);
     a + t + t
 }
