@@ -32,17 +32,17 @@ loop-holds c =
     let s = c .before .before .before .before .before in
     (omega arith, linking-start (s .args .off .now) (s .args .cols .now) (s .args .i) (s .args .p .now) (s .args .first .now) (s .pre .1) (s .pre .2) (s .pre .4) (s .pre .3) (s .pre .5))
 
-at-requires : tie.Need-at-requires Inv-loop μ-loop
-at-requires c κs = omega arith
+word-at-requires : tie.Need-word-at-requires Inv-loop μ-loop
+word-at-requires c κs = omega arith
 
 link-requires : tie.Need-link-requires Inv-loop μ-loop
 link-requires c κs =
     let s = c .before .before .before .before .before .before .before .before .before .before in
     let l = c .before .before .before .before .loop in
-    let e = c .at .ensures in
+    let e = c .word-at .ensures in
     let he = column (s .args .off .now) (s .args .cols .now) (s .args .i) (c .before .before .before .before .before .get-row .result .now) (l .q) (s .pre .0) (c .before .before .before .before .before .get-row .ensures) (omega arith) in
-    let h : c .at .result < 1024 = omega (arith, e, he) in
-    (l .inv .1 .words, omega (arith, h, l .inv .1 .long), s .pre .1, first-most (s .args .off .now) (s .args .cols .now) (s .args .i) (l .inv .1) (c .at .result) h)
+    let h : c .word-at .result < 1024 = omega (arith, e, he) in
+    (l .inv .1 .words, omega (arith, h, l .inv .1 .long), s .pre .1, first-most (s .args .off .now) (s .args .cols .now) (s .args .i) (l .inv .1) (c .word-at .result) h)
 
 add-q : tie.Need-add-q Inv-loop μ-loop
 add-q c = omega arith
@@ -56,7 +56,7 @@ loop-again c =
     let l = c .before .before .before .before .before .before .before .before .before .loop in
     let g = c .before .before .before .before .before .before .before .before .before .before .get-row in
     let k = c .before .before .before .before .link in
-    let a = c .before .before .before .before .before .at in
+    let a = c .before .before .before .before .before .word-at in
     let lt : l .q < length (g .result .now) = omega arith in
     let he : a .result < 1024 = omega (arith, a .ensures, column (s .args .off .now) (s .args .cols .now) (s .args .i) (g .result .now) (l .q) (s .pre .0) (g .ensures) lt) in (
       omega arith,
@@ -102,7 +102,7 @@ seed-row-spec =
     μ-loop
     get-row-requires
     loop-holds
-    at-requires
+    word-at-requires
     link-requires
     add-q
     loop-less
