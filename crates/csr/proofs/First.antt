@@ -1,5 +1,5 @@
 -- A loop that looks for the first number below m at which p holds: what one turn, a find and the end show. Assumes nothing.
-use mathlib.Core.Path.{_≡_, refl, sym, _∙_, ap}
+use mathlib.Core.Path.{_≡_, refl, sym, _∙_, ap, ap₂}
 use mathlib.Core.Bool.{Bool, true, false, cond, true≢false}
 use Prim.Native.Nat.{ℕ, zero, suc, _+_, _-_, _≤_, _<_}
 use native.Mathlib.Numerals.{add-one}
@@ -83,3 +83,12 @@ first-some p m i l e = go (ltb (firstFrom p 0 m) m) refl
     go : (t : Bool) → ltb (firstFrom p 0 m) m ≡ t → ltb (firstFrom p 0 m) m ≡ true
     go true q = q
     go false q = absurd (true≢false (sym e ∙ none-below p m i q l))
+
+-- two tests that agree below m
+first-same : (p q : ℕ → Bool) (i f : ℕ) → ((k : ℕ) → i ≤ k → k < i + f → p k ≡ q k) → firstFrom p i f ≡ firstFrom q i f
+unfolding firstFrom
+first-same p q i zero h = refl
+first-same p q i (suc f) h = ap₂ (λ (t : Bool) (r : ℕ). cond t i r) (h i (omega arith) (omega arith)) (first-same p q (suc i) f (λ k a b. h k (omega arith) (omega arith)))
+
+pub first-ext : (p q : ℕ → Bool) (m : ℕ) → ((k : ℕ) → k < m → p k ≡ q k) → firstFrom p 0 m ≡ firstFrom q 0 m
+first-ext p q m h = first-same p q 0 m (λ k a b. h k (omega arith))

@@ -1,10 +1,12 @@
 -- Laws of the rows of a matrix. Assumes nothing.
-use mathlib.Core.Path.{_≡_, ap₂}
+use mathlib.Core.Path.{_≡_, sym, ap, ap₂, _∙_, subst}
 use mathlib.Core.List.{List}
 use Prim.Native.Nat.{ℕ, _+_, _-_, _<_, _≤_}
+use native.Mathlib.Omega.{arith}
 use lib.ListN.{length, getD}
-use Rattle.base.specs.Numbers.{cut}
-use Rattle.base.proofs.Numbers.{part-le, cut-length, cut-at}
+use Rattle.base.specs.Numbers.{cut, Below}
+use Rattle.base.proofs.Numbers.{part-le, cut-length, cut-at, below-at}
+use Rattle.csr.specs.Csr.{Csr, RowOf}
 use Rattle.csr.specs.Pattern.{row}
 
 -- the part that the code lends is the row
@@ -24,3 +26,30 @@ row-at off cols i q h = cut-at (getD off i 0) (getD off (i + 1) 0) cols q 0 h
 pub row-le : (off cols : List ℕ) (i : ℕ) → length (row off cols i) ≤ length cols
 unfolding row
 row-le off cols i = part-le (getD off (i + 1) 0 - getD off i 0) (getD off i 0) cols
+
+-- ---- row i, whatever the others are
+pub row-of : (off cols : List ℕ) (m i n : ℕ) → Csr off cols m → i < m → Below n (row off cols i) → RowOf off cols i n
+row-of off cols m i n g l b = record {
+  offsets = omega (arith, g .offsets);
+  order = g .order i l;
+  ends = g .ends (i + 1) (omega arith);
+  rising = g .rising i l;
+  within = b;
+}
+
+module _ (off cols : List ℕ) (i n : ℕ) (ok : RowOf off cols i n) where
+  pub row-long : length (row off cols i) ≡ getD off (i + 1) 0 - getD off i 0
+  row-long = row-length off cols i (ok .ends)
+
+  -- entry k of the columns is one of row i
+  module _ (k e : ℕ) (lo : getD off i 0 ≤ k) (hk : k < getD off (i + 1) 0) (he : e ≡ getD cols k 0) where
+    pub in-row : k - getD off i 0 < length (row off cols i)
+    in-row = omega (arith, row-long)
+
+    pub entry-at : e ≡ getD (row off cols i) (k - getD off i 0) 0
+    entry-at =
+        let z : getD off i 0 + (k - getD off i 0) ≡ k = omega arith in
+        he ∙ sym (row-at off cols i (k - getD off i 0) (omega arith) ∙ ap (λ (y : ℕ). getD cols y 0) z)
+
+    pub entry-below : e < n
+    entry-below = subst (λ (y : ℕ). y < n) (sym entry-at) (below-at n (row off cols i) (k - getD off i 0) (ok .within) in-row)

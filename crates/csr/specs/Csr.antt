@@ -1,6 +1,6 @@
 -- CSR lists that are well formed. Assumes nothing.
 use mathlib.Core.Path.{_≡_}
-use mathlib.Core.List.{List, [], _∷_}
+use mathlib.Core.List.{List}
 use Prim.Native.Nat.{ℕ, _+_, _<_, _≤_}
 use lib.ListN.{getD, length}
 use Rattle.csr.specs.Pattern.{row}
@@ -13,6 +13,14 @@ pub record Csr (off cols : List ℕ) (m : ℕ) : Type 0 where
   pub order : (i : ℕ) → i < m → getD off i 0 ≤ getD off (i + 1) 0
   pub ends : (i : ℕ) → i ≤ m → getD off i 0 ≤ length cols
   pub rising : (i : ℕ) → i < m → Rising (row off cols i)
+
+-- row i of the lists: a part of the columns, rising and below n
+pub record RowOf (off cols : List ℕ) (i n : ℕ) : Type 0 where
+  pub offsets : i + 1 < length off
+  pub order : getD off i 0 ≤ getD off (i + 1) 0
+  pub ends : getD off (i + 1) 0 ≤ length cols
+  pub rising : Rising (row off cols i)
+  pub within : Below n (row off cols i)
 
 -- what a yes at question 3 says of the offsets of m rows with t entries
 pub record Offsets (m : ℕ) (off : List ℕ) (t : ℕ) : Type 0 where

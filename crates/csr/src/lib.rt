@@ -2,12 +2,13 @@
 ghost use mathlib.Core.Path.{_≡_};
 ghost use mathlib.Core.Bool.{true, _&&_};
 ghost use Prim.Native.Nat.{ℕ, _+_, _-_, _≤_, _<_};
-ghost use lib.Dec.{leb};
+ghost use lib.Dec.{leb, ltb};
 ghost use lib.ListN.{length, getD};
 ghost use Rattle.csr.specs.Pattern.{row};
 ghost use Rattle.csr.specs.Csr.{Offsets};
 ghost use Rattle.csr.specs.Verdict.{refused, refusal, toldAsked};
-ghost use Rattle.csr.specs.Questions.{firstFrom, falls, empty, badRow, offsetsRight, firstNo};
+ghost use Rattle.csr.specs.Questions.{firstFrom, badRow, offsetsRight, firstNo};
+use base::word_at;
 
 // A no: the question, its place and its lane, 0 where the question names none.
 pub struct Refusal {
@@ -63,29 +64,14 @@ fn between(low: usize, x: usize, high: usize) -> bool
     if low <= x { x <= high } else { false }
 }
 
-// The first k below m at which an offset is above the next, or m.
-fn first_fall(offsets: &[u32], m: usize) -> usize
-    requires { ⌜ length (now offsets) ≡ m + 1 ⌝ }
-    ensures { λ r. ⌜ r ≡ firstFrom (falls (now (offsets .entry))) 0 m ⌝ }
+// The first row below m with fewer than `least` entries, or m. Where the offsets fall a row has fewer than none.
+fn first_short(offsets: &[u32], least: usize, m: usize) -> usize
+    requires { ⌜ (length (now offsets) ≡ m + 1) × (least ≤ 1) ⌝ }
+    ensures { λ r. ⌜ r ≡ firstFrom (λ (k : ℕ). ltb (getD (now (offsets .entry)) (k + 1) 0) (getD (now (offsets .entry)) k 0 + least)) 0 m ⌝ }
 {
     let mut i = 0;
     while i < m {
-        if offsets[i + 1] < offsets[i] {
-            return i;
-        }
-        i += 1;
-    }
-    i
-}
-
-// The first row below m with no entry, or m.
-fn first_empty(offsets: &[u32], m: usize) -> usize
-    requires { ⌜ length (now offsets) ≡ m + 1 ⌝ }
-    ensures { λ r. ⌜ r ≡ firstFrom (empty (now (offsets .entry))) 0 m ⌝ }
-{
-    let mut i = 0;
-    while i < m {
-        if offsets[i + 1] == offsets[i] {
+        if word_at(offsets, i + 1) < word_at(offsets, i) + least {
             return i;
         }
         i += 1;
@@ -138,7 +124,7 @@ fn offsets_right(offsets: &[u32], t: usize, values: usize, m: usize) -> bool
     if offsets[0] != 0 {
         return false;
     }
-    if first_fall(offsets, m) < m {
+    if first_short(offsets, 0, m) < m {
         return false;
     }
     if offsets[m] as usize != t {
@@ -163,7 +149,7 @@ pub fn ask(m: usize, n: usize, offsets: &[u32], columns: &[u32], values: usize) 
     if !offsets_right(offsets, columns.len(), values, m) {
         return Asked::Refused(Refusal::new(Refusal::OFFSETS, 0, 0));
     }
-    let e = first_empty(offsets, m);
+    let e = first_short(offsets, 1, m);
     if e < m {
         return Asked::Refused(Refusal::new(Refusal::EMPTY_ROW, e, 0));
     }

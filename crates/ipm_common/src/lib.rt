@@ -80,9 +80,9 @@ pub fn count_all(
 {
     let e = pattern::count(p, m);
     base::clear(next, n);
-    let s = transpose::count_rows(Side::Matrix, offsets, columns, lindices, m, n, next);
+    let s = transpose::count_rows(Side::Matrix, offsets, columns, lindices, m, next);
     base::clear(next, m);
-    let b = transpose::count_rows(Side::Factor, lindptr, columns, lindices, m, m, next);
+    let b = transpose::count_rows(Side::Factor, lindptr, columns, lindices, m, next);
     Counts {
         e,
         s,

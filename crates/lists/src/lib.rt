@@ -1,9 +1,5 @@
 // The words of the plan's lists, and their order.
 ghost use mathlib.Core.Path.{_≡_};
-ghost use mathlib.Core.List.{[], _∷_};
-ghost use Prim.Native.Nat.{ℕ, _+_, _<_, _≤_};
-ghost use lib.ListN.{length, getD};
-ghost use Rattle.base.specs.Cat.{pick, Wrote};
 ghost use Rattle.lists.specs.Lists.{begins, field};
 
 // The ten lists that are written pair by pair, by the names of the Rust's fields. An entry is a stored pair (i, j) of the factor.

@@ -20,15 +20,14 @@ pub record Row : Type 0 where
   pub bits : List ℕ
 
 -- the answer to a row's call is the row's, and so is the output
-abbrev pub Answers : Row → Type 0
-Answers r = solved (r .call) (r .limit) ≡ r .answer
-
-abbrev pub Writes : Row → Type 0
-Writes r = map (toBits binary64) (outputAfter (r .call) (λ q. q .x) (r .call .problem .n) (r .answer) []) ≡ r .bits
+abbrev pub Holds : Row → Type 0
+Holds r =
+    (solved (r .call) (r .limit) ≡ r .answer)
+    × (map (toBits binary64) (outputAfter (r .call) (λ q. q .x) (r .call .problem .n) (r .answer) []) ≡ r .bits)
 
 abbrev pub All : List Row → Type 0
 All [] = Unit {0}
-All (r ∷ rs) = Answers r × Writes r × All rs
+All (r ∷ rs) = Holds r × All rs
 
 -- ---- the calls
 
@@ -148,9 +147,6 @@ empty-done = record { call = empty one; limit = 2; answer = accepted 1; bits = [
 abbrev pub empty-spent : Row
 empty-spent = record { call = empty null; limit = 2; answer = noAt12 2; bits = [] }
 
-abbrev pub firstTest : List Row
-firstTest = paper-accepted ∷ paper-strict ∷ divisors ∷ strict-R ∷ strict-G ∷ layout ∷ spent ∷ empty-done ∷ empty-spent ∷ []
-
 -- ---- rows with steps
 
 -- 'The first with b NaN in lane 2 and N 2, tolerances 1e-8: refused 11 2 2.'
@@ -161,8 +157,5 @@ paper-nan = record { call = single 4 (lanes one one nan one) one (four small) (f
 abbrev pub chained : Row
 chained = record { call = star; limit = 3; answer = accepted 3; bits = 0x40318bbcfab550d0 ∷ 0x403438ca154eeaf8 ∷ [] }
 
-abbrev pub later : List Row
-later = paper-nan ∷ chained ∷ []
-
 abbrev pub rows : List Row
-rows = firstTest ++ later
+rows = paper-accepted ∷ paper-strict ∷ divisors ∷ strict-R ∷ strict-G ∷ layout ∷ spent ∷ empty-done ∷ empty-spent ∷ paper-nan ∷ chained ∷ []

@@ -11,14 +11,21 @@ use Rattle.base.specs.Sums.{sum}
 use Rattle.pattern.specs.Word.{bit}
 use Rattle.base.specs.Cat.{cat, pick, pairs, Wrote}
 use Rattle.lists.specs.Lists.{Shape, shape, weight, piece, before, listOf, begins}
+use Rattle.csr.specs.Csr.{RowOf}
+use Rattle.csr.specs.Pattern.{row}
+use Rattle.csr.proofs.Rows.{row-length, row-of}
+use Rattle.transpose.specs.Bins.{Grid}
+use Rattle.shared_columns.specs.Marked.{MarkedOver}
+use Rattle.shared_columns.proofs.Marks.{over-next}
+use Rattle.base.proofs.Numbers.{below-more}
 use Rattle.pattern.specs.Ready.{Ready}
 use Rattle.lists.specs.declared.Which.{Which}
 use Rattle.base.proofs.Write.{cat-room, wrote-join, wrote-as, pairs-next}
 use Rattle.pair_lists.proofs.Bits.{bit-held}
 use Rattle.lists.proofs.Counts.{before-next, before-row}
 use Rattle.base.proofs.Sums.{sum-zero}
-use Rattle.pair_lists.specs.Kept.{kept, Rows, diagonalOnly}
-use Rattle.pair_lists.proofs.Stored.{Last, last-of}
+use Rattle.pair_lists.specs.Kept.{kept, Rows, diagonalOnly, marksRead}
+use Rattle.pair_lists.proofs.Stored.{last-of}
 use Rattle.pair_lists.proofs.Diagonal.{cat-none, left-silent, left-weightless}
 use Rattle.pair_lists.proofs.Lists.{rows-up, kept-short}
 use Rattle.pair_lists.proofs.Through.{over, total, over-snoc, total-snoc, over-kept, total-kept, q-in, entry-is, entry-below, part-kept, silent, weightless}
@@ -146,3 +153,15 @@ module _ (g : Shape) (w : Which) where
   pub whole : (a b c : List ℕ) (start at r m i : ℕ) (t : Bool) → i ≡ m → t ≡ begins w → Wrote a b start (pick t 0) at → Wrote b c at (pairs i (piece g w)) r → Wrote a c start (listOf g w m) r
   unfolding listOf
   whole a b c start at r m i t e q u v = wrote-as a c start r _ _ (ap₂ (λ (x : Bool) (k : ℕ). pick x 0 ++ pairs k (piece g w)) q e) (wrote-join a b c start at r _ _ u v)
+
+-- ---- a memory over the columns, marked row by row
+pub markable : (off cols : List ℕ) (m wide i : ℕ) (mark : List ℕ) → Grid off cols m wide → i < m → wide ≤ length mark → RowOf off cols i (length mark)
+markable off cols m wide i mark g l long = row-of off cols m i (length mark) (g .csr) l (below-more wide (length mark) (row off cols i) long (g .within i l))
+
+pub mark-low : (w : Which) (off cols old mark : List ℕ) (i : ℕ) → getD off i 0 ≤ getD off (i + 1) 0 → getD off (i + 1) 0 ≤ length cols
+    → (marksRead w ≡ true → MarkedOver old mark (getD off i 0) (row off cols i)) → (marksRead w ≡ false → mark ≡ old) → (x : ℕ) → getD old x 0 ≤ getD off i 0 → getD mark x 0 ≤ getD off (i + 1) 0
+mark-low w off cols old mark i up end read unread x low = go (marksRead w) refl
+  where
+    go : (t : Bool) → marksRead w ≡ t → getD mark x 0 ≤ getD off (i + 1) 0
+    go true e = omega (arith, over-next old mark (getD off i 0) (row off cols i) (read e) x low, row-length off cols i end)
+    go false e = omega (arith, ap (λ (l : List ℕ). getD l x 0) (unread e))

@@ -19,6 +19,13 @@ pub record Listing (off cols : List ℕ) (m : ℕ) (p lindptr lindices : List �
   pub rows : Rows (bit p) lindptr lindices m
   pub grid : Grid off cols m wide
 
+-- and a memory over the columns with no mark above the first row's start
+pub record Unmarked (off cols : List ℕ) (m : ℕ) (p lindptr lindices mark : List ℕ) : Type 0 where
+  pub wide : ℕ
+  pub listing : Listing off cols m p lindptr lindices wide
+  pub long : wide ≤ length mark
+  pub low : (c : ℕ) → c < wide → getD mark c 0 ≤ getD off 0 0
+
 -- row i of accepted lists and their pattern, marked if the list reads marks
 pub record RowReady (w : Which) (off cols p mark : List ℕ) (i : ℕ) : Type 0 where
   pub m : ℕ

@@ -1,7 +1,7 @@
 // The ten lists that are written pair by pair, for the stored pairs of the factor.
 ghost use mathlib.Core.Path.{_≡_};
 ghost use mathlib.Core.Bool.{true, false};
-ghost use Prim.Native.Nat.{ℕ, suc, _+_, _-_, _<_, _≤_};
+ghost use Prim.Native.Nat.{suc, _+_, _-_, _<_, _≤_};
 ghost use lib.ListN.{length, getD};
 ghost use Rattle.pattern.specs.Word.{bit};
 ghost use Rattle.base.specs.Sums.{sum};
@@ -9,9 +9,9 @@ ghost use Rattle.base.specs.Cat.{Wrote, cat};
 ghost use Rattle.base.specs.Numbers.{Below};
 ghost use Rattle.lists.specs.Lists.{shape, walkOf, piece, weight, listOf, tenOf};
 ghost use Rattle.pair_lists.specs.Kept.{kept, Rows, placesOf, marksRead, diagonalOnly};
-ghost use Rattle.pair_lists.specs.Listing.{Listing, RowReady, RowListing, InRow, Counting, AtPair};
-ghost use Rattle.shared_columns.specs.Marked.{Marked};
-ghost use Rattle.transpose.specs.Bins.{Grid};
+ghost use Rattle.pair_lists.specs.Listing.{Listing, Unmarked, RowReady, RowListing, InRow, Counting, AtPair};
+ghost use Rattle.shared_columns.specs.Marked.{MarkedOver};
+ghost use Rattle.csr.specs.Csr.{RowOf};
 ghost use Rattle.csr.specs.Pattern.{row};
 use base::byte_at;
 use base::keep;
@@ -106,21 +106,13 @@ fn reads_marks(which: Which) -> bool
 }
 
 // Row i marked for a list that reads the marks.
-pub fn mark_for(
-    which: Which,
-    off: &[u32],
-    cols: &[u32],
-    m: usize,
-    wide: usize,
-    i: usize,
-    mark: &mut [u32],
-)
-    requires { ⌜ Grid (now off) (now cols) m wide × (i < m) × (wide ≤ length (now mark)) × ((c : ℕ) → c < wide → getD (now mark) c 0 ≤ getD (now off) i 0) ⌝ }
-    ensures now { λ _. ⌜ (marksRead which ≡ true → Marked (now (mark .exit)) (getD (now (off .entry)) i 0) (row (now (off .entry)) (now (cols .entry)) i) wide) ⌝ }
-    ensures next { λ _. ⌜ ((c : ℕ) → c < wide → getD (now (mark .exit)) c 0 ≤ getD (now (off .entry)) (i + 1) 0) ⌝ }
+pub fn mark_for(which: Which, off: &[u32], cols: &[u32], i: usize, mark: &mut [u32])
+    requires { ⌜ RowOf (now off) (now cols) i (length (now mark)) ⌝ }
+    ensures read { λ _. ⌜ (marksRead which ≡ true → MarkedOver (now (mark .entry)) (now (mark .exit)) (getD (now (off .entry)) i 0) (row (now (off .entry)) (now (cols .entry)) i)) ⌝ }
+    ensures unread { λ _. ⌜ (marksRead which ≡ false → now (mark .exit) ≡ now (mark .entry)) ⌝ }
 {
     if reads_marks(which) {
-        mark_row(off, cols, m, wide, i, mark);
+        mark_row(off, cols, i, mark);
     }
 }
 
@@ -280,19 +272,18 @@ pub fn fill(
     p: &[u64],
     lindptr: &[u32],
     lindices: &[u8],
-    wide: usize,
     mark: &mut [u32],
     index: &mut [u32],
     start: usize,
 ) -> usize
-    requires { ⌜ Listing (now off) (now cols) m (now p) (now lindptr) (now lindices) wide × (start + length (listOf (shape (now off) (now cols)) which m) ≤ length (now index)) × (wide ≤ length (now mark)) × ((c : ℕ) → c < wide → getD (now mark) c 0 ≤ getD (now off) 0 0) ⌝ }
+    requires { ⌜ Unmarked (now off) (now cols) m (now p) (now lindptr) (now lindices) (now mark) × (start + length (listOf (shape (now off) (now cols)) which m) ≤ length (now index)) ⌝ }
     ensures { λ r. ⌜ Wrote (now (index .entry)) (now (index .exit)) start (listOf (shape (now (off .entry)) (now (cols .entry))) which m) r ⌝ }
 {
     let mut at = keep(index, start, lists::has_head(which), 0);
     let mut n: u32 = 0;
     let mut i: usize = 0;
     while i < m {
-        mark_for(which, off, cols, m, wide, i, mark);
+        mark_for(which, off, cols, i, mark);
         let s = fill_row(
             which,
             off,
@@ -344,7 +335,6 @@ pub fn put_ten(
             p,
             lindptr,
             lindices,
-            wide,
             mark,
             index,
             at,

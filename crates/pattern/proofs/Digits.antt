@@ -6,7 +6,7 @@ use Prim.Native.Nat.{ℕ, zero, suc, _+_, _-_, _*_, _/_, _%_, _^_, _<_, min, max
 use native.Mathlib.Omega.{arith}
 use native.Mathlib.Decide.{ℕ-discrete, decLt}
 use native.Mathlib.Numerals.{add-one}
-use native.Mathlib.Nat.{mod-lt, div-eq-of-lt, zero-lt-suc, mul-assoc, one-mul, div-one, add-zero, add-suc}
+use native.Mathlib.Nat.{mod-lt, div-eq-of-lt, zero-lt-suc, mul-assoc, one-mul, div-one}
 use lib.Dec.{eqb, lit<}
 use lib.Bits.{bitAnd, bitOr, and-shr, or-shr, and-step, or-step, shifted-even}
 use lib.Pow.{pow-pos, pow-add, shl-shr, shl-exact, shr-shr, shr-lt, pow-lt}

@@ -7,7 +7,7 @@ use Prim.Native.Nat.{ℕ, _+_, _-_, _*_, _/_, _%_, _^_, _<_, _≤_}
 use native.Mathlib.Omega.{arith}
 use native.Mathlib.Decide.{ℕ-discrete, decLt}
 use lib.Dec.{eqb, ltb, leb}
-use lib.Bits.{bitAnd, bitOr, or-lt, and-lt}
+use lib.Bits.{bitAnd, bitOr, or-lt}
 use lib.Count.{ones}
 use lib.ListN.{length, getD, set}
 use lib.Seq.{getD-set-same, getD-set-other}
@@ -18,7 +18,7 @@ use Rattle.csr.specs.Chain.{Meets}
 use Rattle.csr.proofs.Rule.{stored-diag, fill-out, fill-in, off-diag}
 use Rattle.csr.specs.Walks.{fill-nb}
 use Rattle.base.specs.Sums.{sum, one}
-use Rattle.pattern.specs.Word.{digit, bit, Put, Done, Seeded, OtherRows, rowOnes}
+use Rattle.pattern.specs.Word.{digit, bit, Put, Done, Seeded, OtherRows, rowOnes, CommonWord}
 use Rattle.pattern.proofs.Digits.{digit-and, digit-or, digit-zero, digit-pow, shl-one, set-digit, ones-sum}
 use Rattle.base.proofs.Sums.{sum-ext, sum-add}
 
@@ -71,54 +71,13 @@ put-law p i j hp hi hj a b ha hb = go (ℕ-discrete (a * 4 + b / 64) at)
 
 -- ---- two rows that meet
 
--- what `meets` works out of two rows
-unfoldable pub meetWord : List ℕ → ℕ → ℕ → ℕ
-meetWord p a b =
-    bitOr
-    (bitOr
-    (bitOr (bitAnd (getD p a 0) (getD p b 0)) (bitAnd (getD p (a + 1) 0) (getD p (b + 1) 0)))
-    (bitAnd (getD p (a + 2) 0) (getD p (b + 2) 0)))
-    (bitAnd (getD p (a + 3) 0) (getD p (b + 3) 0))
-
-abbrev pub Words : List ℕ → Type 0
-Words p = (k : ℕ) → getD p k 0 < 2 ^ 64
-
-meet-lt : (p : List ℕ) (a b : ℕ) → Words p → meetWord p a b < 2 ^ 64
-unfolding meetWord
-meet-lt p a b h =
-    or-lt 64 _ _
-    (or-lt 64 _ _ (or-lt 64 _ _ (and-lt 64 _ _ (h a) (h b)) (and-lt 64 _ _ (h (a + 1)) (h (b + 1)))) (and-lt 64 _ _ (h (a + 2)) (h (b + 2))))
-    (and-lt 64 _ _ (h (a + 3)) (h (b + 3)))
-
 -- digit d of word w of a row is bit 64 w + d
-at-word : (p : List ℕ) (i w d k x : ℕ) → k ≡ w * 64 + d → d < 64 → x ≡ i * 4 + w → bit p i k ≡ digit (getD p x 0) d
-at-word p i w d k x e h q =
-    bit-is p i k ∙ ap₂ (λ (y z : ℕ). digit (getD p y 0) z) (omega arith) (omega arith)
+at-word : (p : List ℕ) (i w d : ℕ) → d < 64 → bit p i (w * 64 + d) ≡ digit (getD p (i * 4 + w) 0) d
+at-word p i w d h = bit-is p i (w * 64 + d) ∙ ap₂ (λ (y z : ℕ). digit (getD p y 0) z) (omega arith) (omega arith)
 
--- digit d of word w of two rows
-both-word : (p : List ℕ) (i j w d k x y : ℕ) → k ≡ w * 64 + d → d < 64 → x ≡ i * 4 + w → y ≡ j * 4 + w
-    → bit p i k && bit p j k ≡ digit (bitAnd (getD p x 0) (getD p y 0)) d
-both-word p i j w d k x y e h q r =
-    ap₂ _&&_ (at-word p i w d k x e h q) (at-word p j w d k y e h r) ∙ sym (digit-and (getD p x 0) (getD p y 0) d)
-
-meet-digit : (p : List ℕ) (i j d : ℕ) → d < 64
-    → digit (meetWord p (i * 4) (j * 4)) d
-    ≡ (bit p i d && bit p j d) || (bit p i (64 + d) && bit p j (64 + d)) || (bit p i (128 + d) && bit p j (128 + d)) || (bit p i (192 + d) && bit p j (192 + d))
-unfolding meetWord
-meet-digit p i j d h =
-    let a = bitAnd (getD p (i * 4) 0) (getD p (j * 4) 0) in
-    let b = bitAnd (getD p (i * 4 + 1) 0) (getD p (j * 4 + 1) 0) in
-    let c = bitAnd (getD p (i * 4 + 2) 0) (getD p (j * 4 + 2) 0) in
-    let e = bitAnd (getD p (i * 4 + 3) 0) (getD p (j * 4 + 3) 0) in
-    digit-or (bitOr (bitOr a b) c) e d
-    ∙ ap₂ _||_
-    (digit-or (bitOr a b) c d
-    ∙ ap₂ _||_
-    (digit-or a b d
-    ∙ ap₂ _||_ (sym (both-word p i j 0 d d (i * 4) (j * 4) (omega arith) h (omega arith) (omega arith)))
-    (sym (both-word p i j 1 d (64 + d) (i * 4 + 1) (j * 4 + 1) (omega arith) h refl refl)))
-    (sym (both-word p i j 2 d (128 + d) (i * 4 + 2) (j * 4 + 2) (omega arith) h refl refl)))
-    (sym (both-word p i j 3 d (192 + d) (i * 4 + 3) (j * 4 + 3) (omega arith) h refl refl))
+-- the word of `common_word`
+pub common-law : (p : List ℕ) (i j w : ℕ) → CommonWord p i j w (bitAnd (getD p (i * 4 + w) 0) (getD p (j * 4 + w) 0))
+common-law p i j w d h = ap₂ _&&_ (at-word p i w d h) (at-word p j w d h) ∙ sym (digit-and (getD p (i * 4 + w) 0) (getD p (j * 4 + w) 0) d)
 
 -- rows i and j have bit k in common
 abbrev pub Common : List ℕ → ℕ → ℕ → Type 0
@@ -136,50 +95,55 @@ four-false false true c d e = absurd (true≢false e)
 four-false false false true d e = absurd (true≢false e)
 four-false false false false d e = (refl, refl, refl, e)
 
-pub meet-yes : (p : List ℕ) (i j : ℕ) → Words p → not (eqb (meetWord p (i * 4) (j * 4)) 0) ≡ true → Common p i j
-meet-yes p i j hw e = go (set-digit 64 (meetWord p (i * 4) (j * 4)) (meet-lt p (i * 4) (j * 4) hw))
-  where
-    found : (d w : ℕ) → d < 64 → w < 4 → bit p i (64 * w + d) && bit p j (64 * w + d) ≡ true → Common p i j
-    found d w h g q =
-        let s = and-out (bit p i (64 * w + d)) (bit p j (64 * w + d)) q in
-        (64 * w + d, omega arith, s .0, s .1)
+-- what `meets` works out of the four words that rows i and j have in common
+abbrev meetWord : ℕ → ℕ → ℕ → ℕ → ℕ
+meetWord x y z w = bitOr (bitOr (bitOr x y) z) w
 
-    pick : (d : ℕ) → d < 64
-        → (bit p i d && bit p j d ≡ true)
-        ⊎ ((bit p i (64 + d) && bit p j (64 + d) ≡ true) ⊎ ((bit p i (128 + d) && bit p j (128 + d) ≡ true) ⊎ (bit p i (192 + d) && bit p j (192 + d) ≡ true)))
-        → Common p i j
-    pick d h (inl q) = let s = and-out (bit p i d) (bit p j d) q in (d, omega arith, s .0, s .1)
-    pick d h (inr (inl q)) = found d 1 h (omega arith) q
-    pick d h (inr (inr (inl q))) = found d 2 h (omega arith) q
-    pick d h (inr (inr (inr q))) = found d 3 h (omega arith) q
+module _ (p : List ℕ) (i j x y z w : ℕ) (hx : CommonWord p i j 0 x) (hy : CommonWord p i j 1 y) (hz : CommonWord p i j 2 z) (hw : CommonWord p i j 3 w) where
+  B : ℕ → Bool
+  B k = bit p i k && bit p j k
 
-    go : (meetWord p (i * 4) (j * 4) ≡ 0) ⊎ ((d : ℕ) × (d < 64) × (digit (meetWord p (i * 4) (j * 4)) d ≡ true)) → Common p i j
-    go (inl z) = absurd (eqb-false (meetWord p (i * 4) (j * 4)) 0 (not-true (eqb (meetWord p (i * 4) (j * 4)) 0) e) z)
-    go (inr f) =
-        pick (f .0) (f .1)
-        (four-out (bit p i (f .0) && bit p j (f .0)) (bit p i (64 + f .0) && bit p j (64 + f .0)) (bit p i (128 + f .0) && bit p j (128 + f .0))
-        (bit p i (192 + f .0) && bit p j (192 + f .0)) (sym (meet-digit p i j (f .0) (f .1)) ∙ f .2))
+  meet-digit : (d : ℕ) → d < 64 → digit (meetWord x y z w) d ≡ B (0 + d) || B (64 + d) || B (128 + d) || B (192 + d)
+  unfolding B
+  meet-digit d h =
+      digit-or (bitOr (bitOr x y) z) w d
+      ∙ ap₂ _||_ (digit-or (bitOr x y) z d ∙ ap₂ _||_ (digit-or x y d ∙ ap₂ _||_ (sym (hx d h)) (sym (hy d h))) (sym (hz d h))) (sym (hw d h))
 
-pub meet-no : (p : List ℕ) (i j : ℕ) → not (eqb (meetWord p (i * 4) (j * 4)) 0) ≡ false → (k : ℕ) → k < 256 → bit p i k && bit p j k ≡ false
-meet-no p i j e k h = go (decLt k 64) (decLt k 128) (decLt k 192)
-  where
-    d : ℕ
-    d = k % 64
+  pub meet-yes : x < 2 ^ 64 → y < 2 ^ 64 → z < 2 ^ 64 → w < 2 ^ 64 → not (eqb (meetWord x y z w) 0) ≡ true → Common p i j
+  unfolding B
+  meet-yes lx ly lz lw e = go (set-digit 64 (meetWord x y z w) (or-lt 64 _ _ (or-lt 64 _ _ (or-lt 64 _ _ lx ly) lz) lw))
+    where
+      found : (k : ℕ) → k < 256 → B k ≡ true → Common p i j
+      found k h q = let s = and-out (bit p i k) (bit p j k) q in (k, h, s .0, s .1)
 
-    B : ℕ → Bool
-    B n = bit p i n && bit p j n
+      pick : (d : ℕ) → d < 64 → (B (0 + d) ≡ true) ⊎ ((B (64 + d) ≡ true) ⊎ ((B (128 + d) ≡ true) ⊎ (B (192 + d) ≡ true))) → Common p i j
+      pick d h (inl q) = found (0 + d) (omega arith) q
+      pick d h (inr (inl q)) = found (64 + d) (omega arith) q
+      pick d h (inr (inr (inl q))) = found (128 + d) (omega arith) q
+      pick d h (inr (inr (inr q))) = found (192 + d) (omega arith) q
 
-    z : digit (meetWord p (i * 4) (j * 4)) d ≡ false
-    z = ap (λ (x : ℕ). digit x d) (eqb-true (meetWord p (i * 4) (j * 4)) 0 (not-false (eqb (meetWord p (i * 4) (j * 4)) 0) e)) ∙ digit-zero d
+      go : (meetWord x y z w ≡ 0) ⊎ ((d : ℕ) × (d < 64) × (digit (meetWord x y z w) d ≡ true)) → Common p i j
+      go (inl o) = absurd (eqb-false (meetWord x y z w) 0 (not-true (eqb (meetWord x y z w) 0) e) o)
+      go (inr f) = pick (f .0) (f .1) (four-out (B (0 + f .0)) (B (64 + f .0)) (B (128 + f .0)) (B (192 + f .0)) (sym (meet-digit (f .0) (f .1)) ∙ f .2))
 
-    f : (B d ≡ false) × (B (64 + d) ≡ false) × (B (128 + d) ≡ false) × (B (192 + d) ≡ false)
-    f = four-false (B d) (B (64 + d)) (B (128 + d)) (B (192 + d)) (sym (meet-digit p i j d (omega arith)) ∙ z)
+  pub meet-no : not (eqb (meetWord x y z w) 0) ≡ false → (k : ℕ) → k < 256 → bit p i k && bit p j k ≡ false
+  unfolding B
+  meet-no e k h = go (decLt k 64) (decLt k 128) (decLt k 192)
+    where
+      d : ℕ
+      d = k % 64
 
-    go : Dec (k < 64) → Dec (k < 128) → Dec (k < 192) → B k ≡ false
-    go (yes l) y w = ap B (omega arith) ∙ f .0
-    go (no l) (yes y) w = ap B (omega arith) ∙ f .1
-    go (no l) (no y) (yes w) = ap B (omega arith) ∙ f .2
-    go (no l) (no y) (no w) = ap B (omega arith) ∙ f .3
+      none : digit (meetWord x y z w) d ≡ false
+      none = ap (λ (v : ℕ). digit v d) (eqb-true (meetWord x y z w) 0 (not-false (eqb (meetWord x y z w) 0) e)) ∙ digit-zero d
+
+      f : (B (0 + d) ≡ false) × (B (64 + d) ≡ false) × (B (128 + d) ≡ false) × (B (192 + d) ≡ false)
+      f = four-false (B (0 + d)) (B (64 + d)) (B (128 + d)) (B (192 + d)) (sym (meet-digit d (omega arith)) ∙ none)
+
+      go : Dec (k < 64) → Dec (k < 128) → Dec (k < 192) → B k ≡ false
+      go (yes l) q r = ap B (omega arith) ∙ f .0
+      go (no l) (yes q) r = ap B (omega arith) ∙ f .1
+      go (no l) (no q) (yes r) = ap B (omega arith) ∙ f .2
+      go (no l) (no q) (no r) = ap B (omega arith) ∙ f .3
 
 -- ---- a row counted
 
@@ -200,37 +164,18 @@ four-words x y z w f hx hy hz hw ex ey ez ew =
     word : (base v : ℕ) → v < 2 ^ 64 → ((d : ℕ) → d < 64 → f (base + d) ≡ digit v d) → ones v ≡ sum 64 (λ k. g (base + k))
     word base v h e = ones-sum 64 v h ∙ sum-ext 64 (λ d. one (digit v d)) (λ k. g (base + k)) (λ d l. ap one (sym (e d l)))
 
-pub row-ones-law : (p : List ℕ) (i : ℕ) → Words p
-    → ones (getD p (i * 4) 0) + ones (getD p (i * 4 + 1) 0) + ones (getD p (i * 4 + 2) 0) + ones (getD p (i * 4 + 3) 0) ≡ rowOnes p i
+pub both-ones-law : (p : List ℕ) (i j x y z w : ℕ) → CommonWord p i j 0 x → CommonWord p i j 1 y → CommonWord p i j 2 z → CommonWord p i j 3 w → x < 2 ^ 64 → y < 2 ^ 64 → z < 2 ^ 64 → w < 2 ^ 64
+    → ones x + ones y + ones z + ones w ≡ sum 256 (λ k. one (bit p i k && bit p j k))
+both-ones-law p i j x y z w hx hy hz hw lx ly lz lw = four-words x y z w (λ k. bit p i k && bit p j k) lx ly lz lw hx hy hz hw
+
+and-same : (t : Bool) → t && t ≡ t
+and-same true = refl
+and-same false = refl
+
+-- a row has in common with itself what it holds
+pub row-ones-law : (p : List ℕ) (i : ℕ) → sum 256 (λ k. one (bit p i k && bit p i k)) ≡ rowOnes p i
 unfolding rowOnes
-row-ones-law p i h =
-    four-words (getD p (i * 4) 0) (getD p (i * 4 + 1) 0) (getD p (i * 4 + 2) 0) (getD p (i * 4 + 3) 0) (bit p i)
-    (h (i * 4)) (h (i * 4 + 1)) (h (i * 4 + 2)) (h (i * 4 + 3))
-    (λ d l. at-word p i 0 d (0 + d) (i * 4) (omega arith) l (omega arith))
-    (λ d l. at-word p i 1 d (64 + d) (i * 4 + 1) (omega arith) l refl)
-    (λ d l. at-word p i 2 d (128 + d) (i * 4 + 2) (omega arith) l refl)
-    (λ d l. at-word p i 3 d (192 + d) (i * 4 + 3) (omega arith) l refl)
-
--- word w of what rows i and j have in common
-unfoldable pub meetAt : List ℕ → ℕ → ℕ → ℕ
-meetAt p x y = bitAnd (getD p x 0) (getD p y 0)
-
-pub meet-at-lt : (p : List ℕ) (x y : ℕ) → Words p → meetAt p x y < 2 ^ 64
-unfolding meetAt
-meet-at-lt p x y h = and-lt 64 (getD p x 0) (getD p y 0) (h x) (h y)
-
-pub both-ones-law : (p : List ℕ) (i j : ℕ) → Words p
-    → ones (meetAt p (i * 4) (j * 4)) + ones (meetAt p (i * 4 + 1) (j * 4 + 1)) + ones (meetAt p (i * 4 + 2) (j * 4 + 2)) + ones (meetAt p (i * 4 + 3) (j * 4 + 3))
-    ≡ sum 256 (λ k. one (bit p i k && bit p j k))
-unfolding meetAt
-both-ones-law p i j h =
-    four-words (meetAt p (i * 4) (j * 4)) (meetAt p (i * 4 + 1) (j * 4 + 1)) (meetAt p (i * 4 + 2) (j * 4 + 2)) (meetAt p (i * 4 + 3) (j * 4 + 3))
-    (λ k. bit p i k && bit p j k)
-    (meet-at-lt p (i * 4) (j * 4) h) (meet-at-lt p (i * 4 + 1) (j * 4 + 1) h) (meet-at-lt p (i * 4 + 2) (j * 4 + 2) h) (meet-at-lt p (i * 4 + 3) (j * 4 + 3) h)
-    (λ d l. both-word p i j 0 d (0 + d) (i * 4) (j * 4) (omega arith) l (omega arith) (omega arith))
-    (λ d l. both-word p i j 1 d (64 + d) (i * 4 + 1) (j * 4 + 1) (omega arith) l refl refl)
-    (λ d l. both-word p i j 2 d (128 + d) (i * 4 + 2) (j * 4 + 2) (omega arith) l refl refl)
-    (λ d l. both-word p i j 3 d (192 + d) (i * 4 + 3) (j * 4 + 3) (omega arith) l refl refl)
+row-ones-law p i = sum-ext 256 (λ k. one (bit p i k && bit p i k)) (λ k. one (bit p i k)) (λ k l. ap one (and-same (bit p i k)))
 
 -- ---- a row filled
 

@@ -39,6 +39,10 @@ unfoldable pub rowOnes : List ℕ → ℕ → ℕ
 unfolding bit sum
 rowOnes p i = sum 256 (λ j. one (bit p i j))
 
+-- r is word w of what rows i and j have in common
+abbrev pub CommonWord : List ℕ → ℕ → ℕ → ℕ → ℕ → Type 0
+CommonWord p i j w r = (d : ℕ) → d < 64 → bit p i (w * 64 + d) && bit p j (w * 64 + d) ≡ digit r d
+
 -- row i of p is clear
 abbrev pub Clear : List ℕ → ℕ → Type 0
 Clear p i = (b : ℕ) → b < 256 → bit p i b ≡ false

@@ -2,11 +2,12 @@
 ghost use mathlib.Core.Path.{_≡_};
 ghost use mathlib.Core.Bool.{Bool, true, false, _&&_};
 ghost use Prim.Native.Nat.{ℕ, _+_, _*_, _<_, _≤_};
+ghost use lib.Count.{ones};
 ghost use lib.ListN.{length, getD};
-ghost use Rattle.pattern.specs.Word.{bit, Put, Done, Seeded, OtherRows, rowOnes, Clear, Linked};
+ghost use Rattle.pattern.specs.Word.{bit, Put, Done, Seeded, OtherRows, rowOnes, CommonWord, Clear, Linked};
 ghost use Rattle.base.specs.Sums.{sum, one};
 ghost use Rattle.csr.specs.Pattern.{neighbours, row};
-ghost use Rattle.csr.specs.Csr.{Csr};
+ghost use Rattle.csr.specs.Csr.{Csr, RowOf};
 ghost use Rattle.pattern.specs.Links.{orElse, firstOf, links, Inside, Firsts};
 ghost use mathlib.Core.Bool.{cond};
 ghost use lib.Dec.{eqb};
@@ -29,15 +30,25 @@ pub fn put(p: &mut [u64], i: usize, j: usize)
     p[at] = p[at] | (1u64 << (j % 64));
 }
 
+// Word w of what rows i and j have in common.
+fn common_word(p: &[u64], i: usize, j: usize, w: usize) -> u64
+    requires { ⌜ (length (now p) ≡ 1024) × (i < 256) × (j < 256) × (w < 4) ⌝ }
+    ensures { λ r. ⌜ CommonWord (now (p .entry)) i j w r ⌝ }
+{
+    p[i * 4 + w] & p[j * 4 + w]
+}
+
 // Have rows i and j a bit in common?
 pub fn meets(p: &[u64], i: usize, j: usize) -> bool
     requires { ⌜ (length (now p) ≡ 1024) × (i < 256) × (j < 256) ⌝ }
     ensures yes { λ r. ⌜ (r ≡ true → (k : ℕ) × (k < 256) × (bit (now (p .entry)) i k ≡ true) × (bit (now (p .entry)) j k ≡ true)) ⌝ }
     ensures no { λ r. ⌜ (r ≡ false → (k : ℕ) → k < 256 → bit (now (p .entry)) i k && bit (now (p .entry)) j k ≡ false) ⌝ }
 {
-    let a = i * 4;
-    let b = j * 4;
-    (p[a] & p[b]) | (p[a + 1] & p[b + 1]) | (p[a + 2] & p[b + 2]) | (p[a + 3] & p[b + 3]) != 0
+    common_word(p, i, j, 0)
+        | common_word(p, i, j, 1)
+        | common_word(p, i, j, 2)
+        | common_word(p, i, j, 3)
+        != 0
 }
 
 // Fill row i: the rows below it are done, and it holds its diagonal and its neighbours.
@@ -55,16 +66,32 @@ pub fn fill_row(p: &mut [u64], i: usize)
     }
 }
 
+// How many bits are set in four words.
+fn four_ones(a: u64, b: u64, c: u64, d: u64) -> u32
+    ensures { λ r. ⌜ (r ≡ ones a + ones b + ones c + ones d) × (r ≤ 256) ⌝ }
+{
+    u64::count_ones(a) + u64::count_ones(b) + u64::count_ones(c) + u64::count_ones(d)
+}
+
+// How many bits rows i and j have in common.
+pub fn both_ones(p: &[u64], i: usize, j: usize) -> u32
+    requires { ⌜ (length (now p) ≡ 1024) × (i < 256) × (j < 256) ⌝ }
+    ensures { λ r. ⌜ (r ≡ sum 256 (λ k. one (bit (now (p .entry)) i k && bit (now (p .entry)) j k))) × (r ≤ 256) ⌝ }
+{
+    four_ones(
+        common_word(p, i, j, 0),
+        common_word(p, i, j, 1),
+        common_word(p, i, j, 2),
+        common_word(p, i, j, 3),
+    )
+}
+
 // How many bits are set in row i.
 pub fn row_ones(p: &[u64], i: usize) -> u32
     requires { ⌜ (length (now p) ≡ 1024) × (i < 256) ⌝ }
     ensures { λ r. ⌜ (r ≡ rowOnes (now (p .entry)) i) × (r ≤ 256) ⌝ }
 {
-    let a = i * 4;
-    u64::count_ones(p[a])
-        + u64::count_ones(p[a + 1])
-        + u64::count_ones(p[a + 2])
-        + u64::count_ones(p[a + 3])
+    both_ones(p, i, i)
 }
 
 // How many bits are set in the first m rows.
@@ -79,13 +106,6 @@ pub fn count(p: &[u64], m: usize) -> u32
         i += 1;
     }
     e
-}
-
-fn at(s: &[u32], i: usize) -> usize
-    requires { ⌜ i < length (now s) ⌝ }
-    ensures { λ r. ⌜ r ≡ getD (now (s .entry)) i 0 ⌝ }
-{
-    s[i] as usize
 }
 
 // Row i is linked to the first row of column e, or is that row itself.
@@ -103,8 +123,8 @@ fn link(p: &mut [u64], first: &mut [u32], e: usize, i: usize)
 }
 
 // Put the links and the diagonal of row i into a clear row. `first` holds one more than the first row of each column.
-pub fn seed_row(off: &[u32], cols: &[u32], m: usize, p: &mut [u64], first: &mut [u32], i: usize)
-    requires { ⌜ Csr (now off) (now cols) m × Inside (now off) (now cols) m 1024 × (i < m) × (length (now p) ≡ 1024) × Clear (now p) i × (length (now first) ≡ 1024) × Firsts (now first) (firstOf (now off) (now cols) i) ⌝ }
+pub fn seed_row(off: &[u32], cols: &[u32], p: &mut [u64], first: &mut [u32], i: usize)
+    requires { ⌜ RowOf (now off) (now cols) i 1024 × (i < 256) × (length (now p) ≡ 1024) × Clear (now p) i × (length (now first) ≡ 1024) × Firsts (now first) (firstOf (now off) (now cols) i) ⌝ }
     ensures other { λ _. ⌜ OtherRows (now (p .entry)) (now (p .exit)) i ⌝ }
     ensures row { λ _. ⌜ Seeded (links (now (off .entry)) (now (cols .entry))) (now (p .exit)) i ⌝ }
     ensures first { λ _. ⌜ Firsts (now (first .exit)) (firstOf (now (off .entry)) (now (cols .entry)) (i + 1)) ⌝ }
@@ -112,7 +132,7 @@ pub fn seed_row(off: &[u32], cols: &[u32], m: usize, p: &mut [u64], first: &mut 
     let r = csr::get_row(off, cols, i);
     let mut q: usize = 0;
     while q < r.len() {
-        link(p, first, at(r, q), i);
+        link(p, first, base::word_at(r, q), i);
         q += 1;
     }
     put(p, i, i);
@@ -126,21 +146,8 @@ pub fn pattern(off: &[u32], cols: &[u32], m: usize, p: &mut [u64])
     let mut first = [0u32; 1024];
     let mut i: usize = 0;
     while i < m {
-        seed_row(off, cols, m, p, &mut first, i);
+        seed_row(off, cols, p, &mut first, i);
         fill_row(p, i);
         i += 1;
     }
-}
-
-// How many bits rows i and j have in common.
-pub fn both_ones(p: &[u64], i: usize, j: usize) -> u32
-    requires { ⌜ (length (now p) ≡ 1024) × (i < 256) × (j < 256) ⌝ }
-    ensures { λ r. ⌜ (r ≡ sum 256 (λ k. one (bit (now (p .entry)) i k && bit (now (p .entry)) j k))) × (r ≤ 256) ⌝ }
-{
-    let a = i * 4;
-    let b = j * 4;
-    u64::count_ones(p[a] & p[b])
-        + u64::count_ones(p[a + 1] & p[b + 1])
-        + u64::count_ones(p[a + 2] & p[b + 2])
-        + u64::count_ones(p[a + 3] & p[b + 3])
 }

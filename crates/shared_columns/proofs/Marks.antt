@@ -1,6 +1,6 @@
 -- A walk through one row over the marks of another. Assumes nothing.
 use mathlib.Core.Path.{_≡_, refl, sym, ap, ap₂, _∙_, subst}
-use mathlib.Core.Bool.{Bool, true, false, _||_}
+use mathlib.Core.Bool.{Bool, true, false, _||_, true≢false, false≢true}
 use mathlib.Core.List.{List, [], _∷_, _++_, append-assoc, append-nil, map}
 use Prim.Native.Nat.{ℕ, zero, suc, _+_, _-_, _<_, _≤_}
 use native.Mathlib.Omega.{arith}
@@ -19,8 +19,8 @@ use Rattle.lists.specs.declared.Take.{Take}
 use Rattle.lists.proofs.Merge.{both-eq, both-lt, both-gt, both-nil}
 use Rattle.base.proofs.Numbers.{find-at, below-at, length-takes, below-more}
 use Rattle.base.proofs.Maps.{map-join, map-pick}
-use Rattle.csr.proofs.Has.{has-last}
-use Rattle.shared_columns.specs.Marked.{alongOf, Marked, hit}
+use Rattle.csr.proofs.Has.{has-last, find-lt}
+use Rattle.shared_columns.specs.Marked.{alongOf, Marked, MarkedOver, hit}
 use Rattle.base.proofs.Bools.{or-nil, or-true}
 use Rattle.csr.proofs.Rows.{row-is}
 
@@ -117,25 +117,22 @@ module _ (t : Take) (mark : List ℕ) (lo n : ℕ) (xs : List ℕ) (k : Marked m
         ∙ ap (λ (i : List ℕ). map value (both i xs)) (take-all (length ys) ys (omega arith))
         ∙ ap (map value) (both-sym ys xs up ux)
 
--- ---- marking a row
-pub record Marking (mark : List ℕ) (lo : ℕ) (xs : List ℕ) (n q : ℕ) : Type 0 where
-  pub into : (c : ℕ) → c < n → has (take q xs) c ≡ true → getD mark c 0 ≡ lo + find c xs + 1
-  pub out : (c : ℕ) → c < n → has (take q xs) c ≡ false → getD mark c 0 ≤ lo
-  pub top : (c : ℕ) → c < n → getD mark c 0 ≤ lo + q
+-- ---- marking a row: its first q columns are marked
+pub record Marking (old mark : List ℕ) (lo : ℕ) (xs : List ℕ) (q : ℕ) : Type 0 where
+  pub into : (c : ℕ) → has (take q xs) c ≡ true → getD mark c 0 ≡ lo + find c xs + 1
+  pub out : (c : ℕ) → has (take q xs) c ≡ false → getD mark c 0 ≡ getD old c 0
 
-pub marking-start : (mark : List ℕ) (lo : ℕ) (xs : List ℕ) (n q : ℕ) → q ≡ 0 → ((c : ℕ) → c < n → getD mark c 0 ≤ lo) → Marking mark lo xs n q
+pub marking-start : (mark : List ℕ) (lo : ℕ) (xs : List ℕ) (q : ℕ) → q ≡ 0 → Marking mark mark lo xs q
 unfolding has
-marking-start mark lo xs n q e h = subst (Marking mark lo xs n) (sym e) (record {
-  into = λ c l z. absurd (let y : _≡_ {A = ℕ} 0 1 = cc in omega arith);
-  out = λ c l z. h c l;
-  top = λ c l. omega (arith, h c l);
+marking-start mark lo xs q e = subst (Marking mark mark lo xs) (sym e) (record {
+  into = λ c z. absurd (false≢true z);
+  out = λ c z. refl;
 })
 
-pub marking-next : (mark : List ℕ) (lo : ℕ) (xs : List ℕ) (n q e x : ℕ) → Rising xs → q < length xs → e ≡ getD xs q 0 → x ≡ lo + q + 1 → e < length mark → Marking mark lo xs n q → Marking (set mark e x) lo xs n (q + 1)
-marking-next mark lo xs n q e x up l he hx long k = record {
-  into = λ c b h. in-go c b h (ℕ-discrete c e);
-  out = λ c b h. out-go c b h (ℕ-discrete c e);
-  top = λ c b. top-go c b (ℕ-discrete c e);
+pub marking-next : (old mark : List ℕ) (lo : ℕ) (xs : List ℕ) (q e x : ℕ) → Rising xs → q < length xs → e ≡ getD xs q 0 → x ≡ lo + q + 1 → e < length mark → Marking old mark lo xs q → Marking old (set mark e x) lo xs (q + 1)
+marking-next old mark lo xs q e x up l he hx long k = record {
+  into = λ c h. in-go c h (ℕ-discrete c e);
+  out = λ c h. out-go c h (ℕ-discrete c e);
 }
   where
     more : (c : ℕ) → has (take (q + 1) xs) c ≡ has (take q xs) c || eqb c e
@@ -146,26 +143,36 @@ marking-next mark lo xs n q e x up l he hx long k = record {
     other : (c : ℕ) → (c ≡ e → ⊥) → has (take (q + 1) xs) c ≡ has (take q xs) c
     other c d = more c ∙ ap (λ (b : Bool). has (take q xs) c || b) (ne-eqb c e d) ∙ or-nil (has (take q xs) c)
 
-    same : (c : ℕ) → c ≡ e → getD (set mark e x) c 0 ≡ lo + q + 1
-    same c d = ap (λ (i : ℕ). getD (set mark e x) i 0) d ∙ getD-set-same mark e x 0 long ∙ hx
+    in-go : (c : ℕ) → has (take (q + 1) xs) c ≡ true → Dec (c ≡ e) → getD (set mark e x) c 0 ≡ lo + find c xs + 1
+    in-go c h (yes d) =
+        ap (λ (i : ℕ). getD (set mark e x) i 0) d ∙ getD-set-same mark e x 0 long ∙ hx
+        ∙ ap (λ (i : ℕ). lo + i + 1) (sym (ap (λ (i : ℕ). find i xs) (d ∙ he) ∙ find-at xs q up l))
+    in-go c h (no d) = getD-set-other mark e c x 0 d ∙ k .into c (sym (other c d) ∙ h)
 
-    in-go : (c : ℕ) → c < n → has (take (q + 1) xs) c ≡ true → Dec (c ≡ e) → getD (set mark e x) c 0 ≡ lo + find c xs + 1
-    in-go c b h (yes d) = same c d ∙ ap (λ (i : ℕ). lo + i + 1) (sym (ap (λ (i : ℕ). find i xs) (d ∙ he) ∙ find-at xs q up l))
-    in-go c b h (no d) = getD-set-other mark e c x 0 d ∙ k .into c b (sym (other c d) ∙ h)
+    out-go : (c : ℕ) → has (take (q + 1) xs) c ≡ false → Dec (c ≡ e) → getD (set mark e x) c 0 ≡ getD old c 0
+    out-go c h (yes d) = absurd (true≢false (sym (more c ∙ ap (λ (i : Bool). has (take q xs) c || i) (eq-eqb c e d) ∙ or-true (has (take q xs) c)) ∙ h))
+    out-go c h (no d) = getD-set-other mark e c x 0 d ∙ k .out c (sym (other c d) ∙ h)
 
-    out-go : (c : ℕ) → c < n → has (take (q + 1) xs) c ≡ false → Dec (c ≡ e) → getD (set mark e x) c 0 ≤ lo
-    out-go c b h (yes d) = absurd (let z : _≡_ {A = Bool} true false = sym (more c ∙ ap (λ (i : Bool). has (take q xs) c || i) (eq-eqb c e d) ∙ or-true (has (take q xs) c)) ∙ h in let y : _≡_ {A = ℕ} 0 1 = cc in omega arith)
-    out-go c b h (no d) = subst (λ (i : ℕ). i ≤ lo) (sym (getD-set-other mark e c x 0 d)) (k .out c b (sym (other c d) ∙ h))
-
-    top-go : (c : ℕ) → c < n → Dec (c ≡ e) → getD (set mark e x) c 0 ≤ lo + (q + 1)
-    top-go c b (yes d) = omega (arith, same c d)
-    top-go c b (no d) = omega (arith, getD-set-other mark e c x 0 d, k .top c b)
-
-pub marking-end : (mark : List ℕ) (lo : ℕ) (xs : List ℕ) (n q : ℕ) → length xs ≤ q → Marking mark lo xs n q → Marked mark lo xs n
-marking-end mark lo xs n q l k = record {
-  into = λ c b h. k .into c b (ap (λ (i : List ℕ). has i c) (take-all q xs l) ∙ h);
-  out = λ c b h. k .out c b (ap (λ (i : List ℕ). has i c) (take-all q xs l) ∙ h);
+pub marking-end : (old mark : List ℕ) (lo : ℕ) (xs : List ℕ) (q : ℕ) → length xs ≤ q → Marking old mark lo xs q → MarkedOver old mark lo xs
+marking-end old mark lo xs q l k = record {
+  into = λ c h. k .into c (ap (λ (i : List ℕ). has i c) (take-all q xs l) ∙ h);
+  out = λ c h. k .out c (ap (λ (i : List ℕ). has i c) (take-all q xs l) ∙ h);
 }
+
+-- ---- what marking a row says of marks that were low
+module _ (old mark : List ℕ) (lo : ℕ) (xs : List ℕ) (k : MarkedOver old mark lo xs) where
+  pub over-low : (n : ℕ) → ((c : ℕ) → c < n → getD old c 0 ≤ lo) → Marked mark lo xs n
+  over-low n low = record {
+    into = λ c l h. k .into c h;
+    out = λ c l h. omega (arith, k .out c h, low c l);
+  }
+
+  pub over-next : (c : ℕ) → getD old c 0 ≤ lo → getD mark c 0 ≤ lo + length xs
+  over-next c l = go (has xs c) refl
+    where
+      go : (t : Bool) → has xs c ≡ t → getD mark c 0 ≤ lo + length xs
+      go true h = omega (arith, k .into c h, find-lt c xs h)
+      go false h = omega (arith, k .out c h)
 
 pub hit-yes : (t : Take) (mark : List ℕ) (lo y v : ℕ) → lo < getD mark v 0 → hit t mark lo y v ≡ chosen t (getD mark v 0 - 1) y v ∷ []
 unfolding hit

@@ -23,6 +23,11 @@ pub record Marked (mark : List ℕ) (lo : ℕ) (xs : List ℕ) (n : ℕ) : Type 
   pub into : (c : ℕ) → c < n → has xs c ≡ true → getD mark c 0 ≡ lo + find c xs + 1
   pub out : (c : ℕ) → c < n → has xs c ≡ false → getD mark c 0 ≤ lo
 
+-- the row that starts at lo marked over old marks: 1 + the place of its columns, and nothing else has changed
+pub record MarkedOver (old mark : List ℕ) (lo : ℕ) (xs : List ℕ) : Type 0 where
+  pub into : (c : ℕ) → has xs c ≡ true → getD mark c 0 ≡ lo + find c xs + 1
+  pub out : (c : ℕ) → has xs c ≡ false → getD mark c 0 ≡ getD old c 0
+
 -- i and j are rows of the lists, and row i is marked
 pub record RowMarked (off cols mark : List ℕ) (i j : ℕ) : Type 0 where
   pub m : ℕ

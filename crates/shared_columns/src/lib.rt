@@ -1,24 +1,23 @@
 // What rows of the matrix share, found by marks: mark[c] is above off[i] just where row i holds column c.
 ghost use mathlib.Core.Path.{_≡_};
-ghost use Prim.Native.Nat.{ℕ, _+_, _<_, _≤_};
+ghost use Prim.Native.Nat.{_+_, _<_, _≤_};
 ghost use lib.ListN.{length, getD};
+ghost use Rattle.csr.specs.Csr.{RowOf};
 ghost use Rattle.csr.specs.Pattern.{row};
 ghost use Rattle.base.specs.Numbers.{Below};
 ghost use Rattle.csr.specs.Counts.{common};
 ghost use Rattle.base.specs.Cat.{Wrote};
 ghost use Rattle.lists.specs.Lists.{shape, chosen, sharedOf};
-ghost use Rattle.transpose.specs.Bins.{Grid};
-ghost use Rattle.shared_columns.specs.Marked.{Marked, RowMarked, hit, alongOf, marked, countOf};
+ghost use Rattle.shared_columns.specs.Marked.{MarkedOver, RowMarked, hit, alongOf, marked, countOf};
 use base::store;
 use base::word;
 use base::word_at;
 use lists::Take;
 
-// The columns of row i marked, above what earlier rows marked.
-pub fn mark_row(off: &[u32], cols: &[u32], m: usize, n: usize, i: usize, mark: &mut [u32])
-    requires { ⌜ Grid (now off) (now cols) m n × (i < m) × (n ≤ length (now mark)) × ((c : ℕ) → c < n → getD (now mark) c 0 ≤ getD (now off) i 0) ⌝ }
-    ensures now { λ _. ⌜ Marked (now (mark .exit)) (getD (now (off .entry)) i 0) (row (now (off .entry)) (now (cols .entry)) i) n ⌝ }
-    ensures next { λ _. ⌜ ((c : ℕ) → c < n → getD (now (mark .exit)) c 0 ≤ getD (now (off .entry)) (i + 1) 0) ⌝ }
+// The columns of row i marked, each by 1 and its place, over the marks of earlier rows.
+pub fn mark_row(off: &[u32], cols: &[u32], i: usize, mark: &mut [u32])
+    requires { ⌜ RowOf (now off) (now cols) i (length (now mark)) ⌝ }
+    ensures { λ _. ⌜ MarkedOver (now (mark .entry)) (now (mark .exit)) (getD (now (off .entry)) i 0) (row (now (off .entry)) (now (cols .entry)) i) ⌝ }
 {
     let a = word_at(off, i);
     let b = word_at(off, i + 1);

@@ -1,6 +1,6 @@
 -- Counting by column, and where the columns start. Assumes nothing.
 use mathlib.Core.Path.{_≡_, refl, sym, ap, _∙_, subst}
-use mathlib.Core.Bool.{Bool}
+use mathlib.Core.Bool.{Bool, true}
 use mathlib.Core.List.{List, [], _∷_, _++_}
 use Prim.Native.Nat.{ℕ, suc, _+_, _-_, _*_, _<_, _≤_}
 use native.Mathlib.Omega.{arith}
@@ -10,6 +10,7 @@ use lib.Dec.{eqb}
 use borrow.Author.Tests.{eq-eqb, ne-eqb}
 use lib.ListN.{length, getD, set, length-append}
 use lib.Seq.{sets, getD-set-same, getD-set-other}
+use Rattle.csr.specs.Pattern.{has, row}
 use Rattle.base.specs.Sums.{sum, one}
 use Rattle.base.proofs.Sums.{sum-ext, sum-next, sum-times, count-le}
 use Rattle.base.specs.Cat.{cat, pick, Wrote}
@@ -19,23 +20,23 @@ use Rattle.lists.specs.declared.What.the-variants.{Numbers, Places}
 use Rattle.lists.specs.declared.Side.the-variants.{Matrix}
 use Rattle.base.proofs.Write.{length-cat, cat-ext, cat-next, length-pick, wrote-join, wrote-as, singles-length}
 use Rattle.lists.proofs.Whole.{side-is, three, three-length}
-use Rattle.transpose.specs.Bins.{Bins, onto, putIn, rowsOf, roomOf, inRow, Outside, Grid, Tally, Starts, seen, endsFrom, sideIn}
+use Rattle.transpose.specs.Bins.{Bins, onto, putIn, rowsOf, roomOf, inRow, Grid, EmptyBins, Uncounted, RowCounting, Scattering, Scattered, Tally, Starts, seen, endsFrom, sideIn}
 use Rattle.transpose.proofs.Fill.{in-step, in-room, in-start, in-end, bins-whole}
-use Rattle.transpose.proofs.Row.{row-long, in-q, e-at, e-below}
+use Rattle.csr.specs.Csr.{RowOf}
+use Rattle.csr.proofs.Rows.{row-of, row-long, in-row, entry-at, entry-below}
+use Rattle.base.proofs.Numbers.{below-more}
+use Rattle.csr.proofs.Has.{has-at, below-has}
 
 -- ---- one more in a bin
-tally-put : (next : List ℕ) (n : ℕ) (held : ℕ → List ℕ) (e x : ℕ) → e < n → e < length next → Tally next n held → Tally (set next e (getD next e 0 + 1)) n (putIn e x held)
-tally-put next n held e x he hn b = record { count = λ c hc. go c hc (ℕ-discrete c e) }
+count-put : (next : List ℕ) (held : ℕ → List ℕ) (e x : ℕ) → e < length next → (c : ℕ) → getD next c 0 ≡ length (held c) → getD (set next e (getD next e 0 + 1)) c 0 ≡ length (putIn e x held c)
+count-put next held e x hn c b = go (ℕ-discrete c e)
   where
-    go : (c : ℕ) → c < n → Dec (c ≡ e) → getD (set next e (getD next e 0 + 1)) c 0 ≡ length (onto (eqb c e) x (held c))
-    go c hc (yes q) =
+    go : Dec (c ≡ e) → getD (set next e (getD next e 0 + 1)) c 0 ≡ length (onto (eqb c e) x (held c))
+    go (yes q) =
         ap (λ (k : ℕ). getD (set next e (getD next e 0 + 1)) k 0) q
         ∙ getD-set-same next e (getD next e 0 + 1) 0 hn
-        ∙ omega (arith, b .count e he, ap (λ (k : ℕ). length (held k)) q, length-append (held c) (x ∷ []), ap (λ (t : Bool). length (onto t x (held c))) (eq-eqb c e q))
-    go c hc (no q) = getD-set-other next e c (getD next e 0 + 1) 0 q ∙ b .count c hc ∙ ap (λ (t : Bool). length (onto t x (held c))) (sym (ne-eqb c e q))
-
-tally-ext : (next : List ℕ) (n : ℕ) (f g : ℕ → List ℕ) → ((c : ℕ) → f c ≡ g c) → Tally next n f → Tally next n g
-tally-ext next n f g e b = record { count = λ c h. b .count c h ∙ ap length (e c) }
+        ∙ omega (arith, b, ap (λ (k : ℕ). getD next k 0) q, length-append (held c) (x ∷ []), ap (λ (t : Bool). length (onto t x (held c))) (eq-eqb c e q))
+    go (no q) = getD-set-other next e c (getD next e 0 + 1) 0 q ∙ b ∙ ap (λ (t : Bool). length (onto t x (held c))) (sym (ne-eqb c e q))
 
 pub room-few : (off cols : List ℕ) (m c : ℕ) → roomOf off cols m c ≤ m
 unfolding inColumn
@@ -44,9 +45,9 @@ room-few off cols m c = count-le m (λ i. holds (shape off cols) Matrix i c)
 pub room-sum : (off cols : List ℕ) (m n : ℕ) → m ≤ 256 → n ≤ 1024 → sum n (roomOf off cols m) ≤ 262144
 room-sum off cols m n hm hn = omega (arith, sum-times n 256 (roomOf off cols m) (λ c l. omega (arith, room-few off cols m c)))
 
-pub seen-start : (off cols : List ℕ) (n : ℕ) (next : List ℕ) → ((c : ℕ) → c < n → getD next c 0 ≡ 0) → Tally next n (seen off cols 0)
+pub seen-start : (off cols next : List ℕ) (c : ℕ) → getD next c 0 ≡ 0 → getD next c 0 ≡ length (seen off cols 0 c)
 unfolding column cat
-seen-start off cols n next z = record { count = λ c h. z c h }
+seen-start off cols next c z = z
 
 pub column-long : (off cols : List ℕ) (w : What) (m c : ℕ) → length (rowsOf off cols w m c) ≡ roomOf off cols m c
 unfolding column inColumn
@@ -54,40 +55,57 @@ column-long off cols w m c =
     length-cat m (λ r. pick (holds (shape off cols) Matrix r c) (entry (shape off cols) Matrix w r c))
     ∙ sum-ext m (λ r. length (pick (holds (shape off cols) Matrix r c) (entry (shape off cols) Matrix w r c))) (λ r. one (holds (shape off cols) Matrix r c)) (λ k l. length-pick (holds (shape off cols) Matrix k c) (entry (shape off cols) Matrix w k c))
 
-module _ (off cols : List ℕ) (m n i : ℕ) (ok : Grid off cols m n) (hi : i < m) where
-  pub count-start : (next : List ℕ) (k : ℕ) → k ≡ getD off i 0 → Tally next n (seen off cols i) → Tally next n (inRow off cols Numbers i (k - getD off i 0))
-  count-start next k e b =
+-- row i, each entry counted in its column
+module _ (off cols : List ℕ) (i n : ℕ) (ok : RowOf off cols i n) where
+  pub count-start : (next : List ℕ) (k : ℕ) → k ≡ getD off i 0 → (c : ℕ) → getD next c 0 ≡ length (seen off cols i c) → getD next c 0 ≡ length (inRow off cols Numbers i (k - getD off i 0) c)
+  count-start next k e c b =
       let z : 0 ≡ k - getD off i 0 = omega arith in
-      subst (λ (y : ℕ). Tally next n (inRow off cols Numbers i y)) z (tally-ext next n (seen off cols i) (inRow off cols Numbers i 0) (λ c. in-start off cols Numbers i c) b)
+      b ∙ ap length (in-start off cols Numbers i c) ∙ ap (λ (y : ℕ). length (inRow off cols Numbers i y c)) z
 
-  pub count-end : (next : List ℕ) (k : ℕ) → getD off (i + 1) 0 ≤ k → Tally next n (inRow off cols Numbers i (k - getD off i 0)) → Tally next n (seen off cols (i + 1))
-  count-end next k h b =
-      tally-ext next n (inRow off cols Numbers i (k - getD off i 0)) (seen off cols (i + 1)) (λ c. in-end off cols Numbers i (k - getD off i 0) c (omega (arith, row-long off cols m n i ok hi))) b
+  pub count-end : (next : List ℕ) (k : ℕ) → getD off (i + 1) 0 ≤ k → (c : ℕ) → getD next c 0 ≡ length (inRow off cols Numbers i (k - getD off i 0) c) → getD next c 0 ≡ length (seen off cols (i + 1) c)
+  count-end next k h c b = b ∙ ap length (in-end off cols Numbers i (k - getD off i 0) c (omega (arith, row-long off cols i n ok)))
 
-  module _ (k e : ℕ) (lo : getD off i 0 ≤ k) (hk : k < getD off (i + 1) 0) (he : e ≡ getD cols k 0) (next : List ℕ) (long : n ≤ length next)
-      (b : Tally next n (inRow off cols Numbers i (k - getD off i 0))) where
+  module _ (k e : ℕ) (lo : getD off i 0 ≤ k) (hk : k < getD off (i + 1) 0) (he : e ≡ getD cols k 0) (next : List ℕ) (long : n ≤ length next) where
+    q-in : k - getD off i 0 < length (row off cols i)
+    q-in = in-row off cols i n ok k e lo hk he
+
+    e-is : e ≡ getD (row off cols i) (k - getD off i 0) 0
+    e-is = entry-at off cols i n ok k e lo hk he
+
     e-in : e < n
-    e-in = e-below off cols m n i ok hi Numbers k e i lo hk he refl
+    e-in = entry-below off cols i n ok k e lo hk he
 
-    pub count-turn : Tally (set next e (getD next e 0 + 1)) n (inRow off cols Numbers i (k + 1 - getD off i 0))
-    count-turn =
+    pub count-turn : (c : ℕ) → getD next c 0 ≡ length (inRow off cols Numbers i (k - getD off i 0) c) → getD (set next e (getD next e 0 + 1)) c 0 ≡ length (inRow off cols Numbers i (k + 1 - getD off i 0) c)
+    count-turn c b =
         let z : k - getD off i 0 + 1 ≡ k + 1 - getD off i 0 = omega arith in
-        subst (λ (y : ℕ). Tally (set next e (getD next e 0 + 1)) n (inRow off cols Numbers i y)) z
-        (tally-ext _ n (putIn e i (inRow off cols Numbers i (k - getD off i 0))) (inRow off cols Numbers i (k - getD off i 0 + 1))
-        (in-step off cols Numbers i (k - getD off i 0) e i (ok .csr .rising i hi) (in-q off cols m n i ok hi Numbers k e i lo hk he refl) (e-at off cols m n i ok hi Numbers k e i lo hk he refl) refl)
-        (tally-put next n (inRow off cols Numbers i (k - getD off i 0)) e i e-in (omega (arith, e-in)) b))
+        count-put next (inRow off cols Numbers i (k - getD off i 0)) e i (omega (arith, e-in)) c b
+        ∙ ap length (in-step off cols Numbers i (k - getD off i 0) e i (ok .rising) q-in e-is refl c)
+        ∙ ap (λ (y : ℕ). length (inRow off cols Numbers i y c)) z
 
-    pub count-asks : (e < length next) × (getD next e 0 < 256)
-    count-asks = (
+    pub count-has : has (row off cols i) e ≡ true
+    count-has = ap (has (row off cols i)) e-is ∙ has-at (row off cols i) (k - getD off i 0) q-in
+
+    pub count-asks : i < 256 → getD next e 0 ≡ length (inRow off cols Numbers i (k - getD off i 0) e) → (e < length next) × (getD next e 0 < 256)
+    count-asks few b = (
       omega (arith, e-in),
       omega (
         arith,
-        b .count e e-in,
-        in-room off cols Numbers i (k - getD off i 0) e i (ok .csr .rising i hi) (in-q off cols m n i ok hi Numbers k e i lo hk he refl) (e-at off cols m n i ok hi Numbers k e i lo hk he refl) refl m hi,
-        room-few off cols m e,
-        ok .csr .few,
+        b,
+        in-room off cols Numbers i (k - getD off i 0) e i (ok .rising) q-in e-is refl (i + 1) (omega arith),
+        room-few off cols (i + 1) e,
       ),
     )
+
+pub row-counting : (off cols : List ℕ) (m i : ℕ) (old : List ℕ) → Uncounted off cols m old → i < m → (next : List ℕ) → length next ≡ length old
+    → ((c : ℕ) → getD old c 0 ≡ 0 → getD next c 0 ≡ length (seen off cols i c)) → RowCounting off cols i next
+row-counting off cols m i old u l next long t = record {
+  at = row-of off cols m i (length next) (u .grid .csr) l (below-more (u .n) (length next) (row off cols i) (omega (arith, u .long)) (u .grid .within i l));
+  few = omega (arith, u .grid .csr .few);
+  counts = λ c h. t c (u .clear c (below-has (u .n) c (row off cols i) (u .grid .within i l) h));
+}
+
+pub tallied : (off cols : List ℕ) (m n : ℕ) (old next : List ℕ) → ((c : ℕ) → c < n → getD old c 0 ≡ 0) → ((c : ℕ) → getD old c 0 ≡ 0 → getD next c 0 ≡ length (seen off cols m c)) → Tally next n (seen off cols m)
+tallied off cols m n old next z t = record { count = λ c h. t c (z c h) }
 
 -- ---- from counts to ends and starts
 module _ (f : ℕ → ℕ) where
@@ -154,32 +172,51 @@ module _ (f : ℕ → ℕ) where
       (subst (λ (k : ℕ). Wrote index₀ index start (0 ∷ cat k (λ x. sum (suc x) f ∷ [])) at) q u, (subst (λ (k : ℕ). Starts next k f) q (v .starts), starts-next again n t l (v .total ∙ ap (λ (k : ℕ). sum k f) q) (subst (λ (k : ℕ). Starts again k f) q (v .starts2))))
 
 -- ---- the scatter of all rows
-pub bins-start : (off cols : List ℕ) (w : What) (m n : ℕ) (index next : List ℕ) (start : ℕ) → Starts next n (roomOf off cols m) → Bins index next start n (roomOf off cols m) (rowsOf off cols w 0)
-unfolding column cat
-bins-start off cols w m n index next start s = record {
-  cursor = λ c h. s .first c h ∙ omega arith;
-  fits = λ c h. omega arith;
-  words = λ c k h l. absurd (omega arith);
-}
+module _ (off cols : List ℕ) (w : What) (m n : ℕ) (old first : List ℕ) (start : ℕ) (b : EmptyBins off cols m n old first start) where
+  pub scatter-start : Scattered off cols m n w 0 old old first start
+  unfolding column cat
+  scatter-start = record {
+    bins = record {
+      cursor = λ c h. b .starts .first c h ∙ omega arith;
+      fits = λ c h. omega arith;
+      words = λ c k h l. absurd (omega arith);
+    };
+    outside = record { low = λ q h. refl; high = λ q h. refl };
+  }
 
-pub outside-join : (a b c : List ℕ) (s e : ℕ) → Outside a b s e → Outside b c s e → Outside a c s e
-outside-join a b c s e u v = record { low = λ q h. v .low q h ∙ u .low q h; high = λ q h. v .high q h ∙ u .high q h }
+  module _ (i : ℕ) (index next : List ℕ) (li : length index ≡ length old) (v : Scattered off cols m n w i old index next start) where
+    -- row i can follow the rows before it
+    pub scatter-asks : i < m → length next ≡ length first → Scattering off cols m n w i index next start
+    scatter-asks l ln = record {
+      grid = b .grid;
+      inside = l;
+      long = omega (arith, b .long);
+      room = omega (arith, b .room);
+      few = room-sum off cols m n (b .grid .csr .few) (b .grid .wide);
+      bins = v .bins;
+    }
 
-pub scattered : (off cols : List ℕ) (w : What) (m n : ℕ) (old index next : List ℕ) (start : ℕ) → length index ≡ length old → start + sum n (roomOf off cols m) ≤ length old
-    → Bins index next start n (roomOf off cols m) (rowsOf off cols w m) → Outside old index start (start + sum n (roomOf off cols m)) → index ≡ sets old start (cat n (rowsOf off cols w m))
-scattered off cols w m n old index next start len room b o =
-    bins-whole index next start n (roomOf off cols m) (rowsOf off cols w m) b (λ c h. column-long off cols w m c) old len room (o .low) (o .high)
+    pub scatter-turn : (index′ next′ : List ℕ) → Scattered off cols m n w (i + 1) index index′ next′ start → Scattered off cols m n w (i + 1) old index′ next′ start
+    scatter-turn index′ next′ u = record {
+      bins = u .bins;
+      outside = record { low = λ q h. u .outside .low q h ∙ v .outside .low q h; high = λ q h. u .outside .high q h ∙ v .outside .high q h };
+    }
+
+    pub scatter-end : i ≡ m → index ≡ sets old start (cat n (rowsOf off cols w m))
+    scatter-end e =
+        bins-whole index next start n (roomOf off cols m) (rowsOf off cols w m) (subst (λ (k : ℕ). Bins index next start n (roomOf off cols m) (rowsOf off cols w k)) e (v .bins))
+        (λ c h. column-long off cols w m c) old li (b .room) (v .outside .low) (v .outside .high)
 
 -- ---- the whole transpose
 module _ (off cols : List ℕ) (m n : ℕ) where
-  pub ends-are : (next : List ℕ) → Tally next n (seen off cols m) → endsFrom (λ c. getD next c 0) n ≡ endsOf (shape off cols) Matrix m n
+  ends-are : (next : List ℕ) → Tally next n (seen off cols m) → endsFrom (λ c. getD next c 0) n ≡ endsOf (shape off cols) Matrix m n
   unfolding endsFrom endsOf columnEnds
   ends-are next t =
       ap (λ (l : List ℕ). 0 ∷ l)
       (cat-ext n (λ e. sum (suc e) (λ c. getD next c 0) ∷ []) (λ e. sum (suc e) (λ c. roomOf off cols m c) ∷ [])
       (λ e h. ap (λ (k : ℕ). k ∷ []) (sum-ext (suc e) (λ c. getD next c 0) (λ c. roomOf off cols m c) (λ c l. t .count c (omega arith) ∙ column-long off cols Numbers m c))))
 
-  pub starts-are : (next l : List ℕ) (k : ℕ) → k ≤ n + 1 → Tally next n (seen off cols m) → Starts l k (λ c. getD next c 0) → Starts l k (roomOf off cols m)
+  starts-are : (next l : List ℕ) (k : ℕ) → k ≤ n + 1 → Tally next n (seen off cols m) → Starts l k (λ c. getD next c 0) → Starts l k (roomOf off cols m)
   starts-are next l k hk t s = record { first = λ c h. s .first c h ∙ sum-ext c (λ d. getD next d 0) (roomOf off cols m) (λ d u. t .count d (omega arith) ∙ column-long off cols Numbers m d) }
 
   pub cols-are : (w : What) → cat n (rowsOf off cols w m) ≡ columnsOf (shape off cols) Matrix w m n
@@ -189,20 +226,55 @@ module _ (off cols : List ℕ) (m n : ℕ) where
   pub cols-long : (w : What) → length (cat n (rowsOf off cols w m)) ≡ sum n (roomOf off cols m)
   cols-long w = length-cat n (rowsOf off cols w m) ∙ sum-ext n (λ c. length (rowsOf off cols w m c)) (roomOf off cols m) (λ c h. column-long off cols w m c)
 
-  pub ends-long : length (endsOf (shape off cols) Matrix m n) ≡ n + 1
+  ends-long : length (endsOf (shape off cols) Matrix m n) ≡ n + 1
   unfolding endsOf columnEnds
   ends-long = omega (arith, singles-length n (λ e. sum (suc e) (λ c. roomOf off cols m c)))
 
-  pub side-long : length (sideIn off cols m n) ≡ n + 1 + sum n (roomOf off cols m) + sum n (roomOf off cols m)
+  side-long : length (sideIn off cols m n) ≡ n + 1 + sum n (roomOf off cols m) + sum n (roomOf off cols m)
   side-long =
       ap length (side-is (shape off cols) Matrix m n)
       ∙ three-length (endsOf (shape off cols) Matrix m n) (columnsOf (shape off cols) Matrix Numbers m n) (columnsOf (shape off cols) Matrix Places m n)
       ∙ omega (arith, ends-long, ap length (cols-are Numbers), ap length (cols-are Places), cols-long Numbers, cols-long Places)
 
-  pub side-wrote : (a b c d : List ℕ) (start p t : ℕ) → t ≡ sum n (roomOf off cols m) → Wrote a b start (endsOf (shape off cols) Matrix m n) p
+  pub ends-fit : (start l : ℕ) → start + length (sideIn off cols m n) ≤ l → start + n + 1 ≤ l
+  ends-fit start l h = omega (arith, side-long)
+
+  side-wrote : (a b c d : List ℕ) (start p t : ℕ) → t ≡ sum n (roomOf off cols m) → Wrote a b start (endsOf (shape off cols) Matrix m n) p
       → c ≡ sets b p (cat n (rowsOf off cols Numbers m)) → d ≡ sets c (p + t) (cat n (rowsOf off cols Places m)) → Wrote a d start (sideIn off cols m n) (p + t + t)
   side-wrote a b c d start p t q w u v =
       wrote-as a d start (p + t + t) _ _ (sym (side-is (shape off cols) Matrix m n))
       (three a b c d start p (p + t) (p + t + t) _ _ _ w
       (record { is = u ∙ ap (sets b p) (cols-are Numbers); next = omega (arith, q, cols-long Numbers, ap length (cols-are Numbers)) })
       (record { is = v ∙ ap (sets c (p + t)) (cols-are Places); next = omega (arith, q, cols-long Places, ap length (cols-are Places)) }))
+
+-- the bins of the rows and of the places, after the ends
+module _ (off cols : List ℕ) (m n : ℕ) (g : Grid off cols m n) (counts : List ℕ) (t : Tally counts n (seen off cols m)) (old index : List ℕ) (start p : ℕ)
+    (fits : start + length (sideIn off cols m n) ≤ length old) (w : Wrote old index start (endsFrom (λ c. getD counts c 0) n) p) where
+  ends-past : p ≡ start + n + 1
+  ends-past = omega (arith, w .next, ap length (ends-are off cols m n counts t), ends-long off cols m n)
+
+  pub row-bins : (next : List ℕ) → length index ≡ length old → n ≤ length next → Starts next n (λ c. getD counts c 0) → EmptyBins off cols m n index next p
+  row-bins next same long s = record {
+    grid = g;
+    long = long;
+    room = omega (arith, fits, side-long off cols m n, ends-past);
+    starts = starts-are off cols m n counts next n (omega arith) t s;
+  }
+
+  module _ (again : List ℕ) (s : Starts again (n + 1) (λ c. getD counts c 0)) (k : ℕ) (e : k ≡ getD again n 0) where
+    pub all-entries : k ≡ sum n (roomOf off cols m)
+    all-entries = e ∙ starts-are off cols m n counts again (n + 1) (omega arith) t s .first n (omega arith)
+
+    pub places-fit : p + k + k ≤ length old
+    places-fit = omega (arith, fits, side-long off cols m n, ends-past, all-entries)
+
+    pub place-bins : (index′ : List ℕ) → length index′ ≡ length old → n ≤ length again → EmptyBins off cols m n index′ again (p + k)
+    place-bins index′ same long = record {
+      grid = g;
+      long = long;
+      room = omega (arith, places-fit, all-entries);
+      starts = starts-are off cols m n counts again n (omega arith) t (record { first = λ c h. s .first c (omega arith) });
+    }
+
+    pub transposed : (c d : List ℕ) → c ≡ sets index p (cat n (rowsOf off cols Numbers m)) → d ≡ sets c (p + k) (cat n (rowsOf off cols Places m)) → Wrote old d start (sideIn off cols m n) (p + k + k)
+    transposed c d = side-wrote off cols m n old index c d start p k all-entries (subst (λ (x : List ℕ). Wrote old index start x p) (ends-are off cols m n counts t) w)

@@ -15,9 +15,10 @@ use Rattle.base.specs.Cat.{cat, pick}
 use Rattle.base.proofs.Write.{cat-next}
 use Rattle.lists.specs.Lists.{inColumn, column}
 use Rattle.lists.specs.declared.What.the-variants.{Numbers}
-use Rattle.transpose.specs.Bins.{inRow, Grid, Tally, seen}
+use Rattle.transpose.specs.Bins.{inRow, seen}
 use Rattle.csr.proofs.Has.{has-at, has-last}
-use Rattle.transpose.proofs.Row.{row-long, in-q, e-at, e-below}
+use Rattle.csr.specs.Csr.{RowOf}
+use Rattle.csr.proofs.Rows.{row-long, in-row, entry-at}
 use Rattle.transpose.proofs.Count.{column-long}
 use Rattle.base.proofs.Sums.{sum-zero, sum-plus}
 use Rattle.base.proofs.Bools.{or-true}
@@ -60,7 +61,7 @@ has-to l q h =
 abbrev pub upTo : List ℕ → List ℕ → ℕ → ℕ → ℕ
 upTo off cols i c = length (seen off cols (i + 1) c)
 
-module _ (off cols : List ℕ) (m n i : ℕ) (ok : Grid off cols m n) (hi : i < m) where
+module _ (off cols : List ℕ) (i n : ℕ) (ok : RowOf off cols i n) where
   -- row i shares so many columns with the rows up to it
   pub row-pairs : over (upTo off cols i) (row off cols i) ≡ sum (suc i) (λ j. common (row off cols i) (row off cols j))
   unfolding inColumn
@@ -75,11 +76,11 @@ module _ (off cols : List ℕ) (m n i : ℕ) (ok : Grid off cols m n) (hi : i < 
 
     q-in : q < length (row off cols i)
     unfolding q
-    q-in = in-q off cols m n i ok hi Numbers k e i lo hk he refl
+    q-in = in-row off cols i n ok k e lo hk he
 
     e-is : e ≡ getD (row off cols i) q 0
     unfolding q
-    e-is = e-at off cols m n i ok hi Numbers k e i lo hk he refl
+    e-is = entry-at off cols i n ok k e lo hk he
 
     -- the count of an entry's column, its row included
     counted : length (inRow off cols Numbers i (q + 1) e) ≡ upTo off cols i e
@@ -92,12 +93,12 @@ module _ (off cols : List ℕ) (m n i : ℕ) (ok : Grid off cols m n) (hi : i < 
         held : ℕ → List ℕ
         held r = pick (has (row off cols r) e) r
 
-    pub pairs-turn : (next : List ℕ) (s x : ℕ) → s ≡ over (upTo off cols i) (take (k - getD off i 0) (row off cols i)) → x ≡ getD next e 0 → Tally next n (inRow off cols Numbers i (k + 1 - getD off i 0))
+    pub pairs-turn : (next : List ℕ) (s x : ℕ) → s ≡ over (upTo off cols i) (take (k - getD off i 0) (row off cols i)) → x ≡ getD next e 0 → getD next e 0 ≡ length (inRow off cols Numbers i (k + 1 - getD off i 0) e)
         → s + x ≡ over (upTo off cols i) (take (k + 1 - getD off i 0) (row off cols i))
     unfolding q
     pairs-turn next s x hs hx t =
         let z : k - getD off i 0 + 1 ≡ k + 1 - getD off i 0 = omega arith in
-        ap₂ _+_ hs (hx ∙ t .count e (e-below off cols m n i ok hi Numbers k e i lo hk he refl) ∙ ap (λ (y : ℕ). length (inRow off cols Numbers i y e)) (sym z) ∙ counted ∙ ap (upTo off cols i) e-is)
+        ap₂ _+_ hs (hx ∙ t ∙ ap (λ (y : ℕ). length (inRow off cols Numbers i y e)) (sym z) ∙ counted ∙ ap (upTo off cols i) e-is)
         ∙ sym (over-next (upTo off cols i) (row off cols i) (k - getD off i 0) q-in)
         ∙ ap (λ (y : ℕ). over (upTo off cols i) (take y (row off cols i))) z
 
@@ -106,4 +107,4 @@ module _ (off cols : List ℕ) (m n i : ℕ) (ok : Grid off cols m n) (hi : i < 
   pairs-start k e = let z : 0 ≡ k - getD off i 0 = omega arith in ap (λ (y : ℕ). over (upTo off cols i) (take y (row off cols i))) z
 
   pub pairs-end : (k s : ℕ) → getD off (i + 1) 0 ≤ k → s ≡ over (upTo off cols i) (take (k - getD off i 0) (row off cols i)) → s ≡ sum (suc i) (λ j. common (row off cols i) (row off cols j))
-  pairs-end k s h e = e ∙ ap (over (upTo off cols i)) (take-all (k - getD off i 0) (row off cols i) (omega (arith, row-long off cols m n i ok hi))) ∙ row-pairs
+  pairs-end k s h e = e ∙ ap (over (upTo off cols i)) (take-all (k - getD off i 0) (row off cols i) (omega (arith, row-long off cols i n ok))) ∙ row-pairs

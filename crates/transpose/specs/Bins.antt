@@ -7,7 +7,7 @@ use lib.Dec.{eqb}
 use lib.ListN.{length, getD, take}
 use Rattle.csr.specs.Counts.{common}
 use Rattle.csr.specs.Pattern.{has, row}
-use Rattle.csr.specs.Csr.{Csr}
+use Rattle.csr.specs.Csr.{Csr, RowOf}
 use Rattle.base.specs.Cat.{pick, cat}
 use Rattle.base.specs.Numbers.{Below}
 use Rattle.lists.specs.Lists.{shape, holds, entry, column, inColumn, sideOf}
@@ -66,9 +66,17 @@ pub record Tally (next : List ℕ) (n : ℕ) (held : ℕ → List ℕ) : Type 0 
 pub record Starts (next : List ℕ) (n : ℕ) (size : ℕ → ℕ) : Type 0 where
   pub first : (c : ℕ) → c < n → getD next c 0 ≡ sum c size
 
--- the first i of m rows stand in their bins, and the next can follow
+-- m rows, and n empty bins with room for them
+pub record EmptyBins (off cols : List ℕ) (m n : ℕ) (index next : List ℕ) (start : ℕ) : Type 0 where
+  pub grid : Grid off cols m n
+  pub long : n ≤ length next
+  pub room : start + sum n (roomOf off cols m) ≤ length index
+  pub starts : Starts next n (roomOf off cols m)
+
+-- the first i of m rows stand in their bins, and row i can follow
 pub record Scattering (off cols : List ℕ) (m n : ℕ) (w : What) (i : ℕ) (index next : List ℕ) (start : ℕ) : Type 0 where
   pub grid : Grid off cols m n
+  pub inside : i < m
   pub long : n ≤ length next
   pub room : start + sum n (roomOf off cols m) ≤ length index
   pub few : sum n (roomOf off cols m) ≤ 262144
@@ -83,9 +91,22 @@ pub record Scattered (off cols : List ℕ) (m n : ℕ) (w : What) (i : ℕ) (old
 abbrev pub seen : List ℕ → List ℕ → ℕ → ℕ → List ℕ
 seen off cols i c = rowsOf off cols Numbers i c
 
+-- m rows, and a memory with a 0 for each of their columns
+pub record Uncounted (off cols : List ℕ) (m : ℕ) (next : List ℕ) : Type 0 where
+  pub n : ℕ
+  pub grid : Grid off cols m n
+  pub long : n ≤ length next
+  pub clear : (c : ℕ) → c < n → getD next c 0 ≡ 0
+
+-- row i and a memory that counts, for each column of it, the rows before it that hold the column
+pub record RowCounting (off cols : List ℕ) (i : ℕ) (next : List ℕ) : Type 0 where
+  pub at : RowOf off cols i (length next)
+  pub few : i < 256
+  pub counts : (c : ℕ) → has (row off cols i) c ≡ true → getD next c 0 ≡ length (seen off cols i c)
+
 -- row i is counted: in its columns, and how many columns it shares with the rows up to it
-pub record RowCounted (off cols : List ℕ) (n i : ℕ) (next : List ℕ) (shares : ℕ) : Type 0 where
-  pub tally : Tally next n (seen off cols (i + 1))
+pub record RowCounted (off cols : List ℕ) (i : ℕ) (old next : List ℕ) (shares : ℕ) : Type 0 where
+  pub counts : (c : ℕ) → getD old c 0 ≡ length (seen off cols i c) → getD next c 0 ≡ length (seen off cols (i + 1) c)
   pub pairs : shares ≡ sum (suc i) (λ j. common (row off cols i) (row off cols j))
   pub few : shares ≤ 256 * (getD off (i + 1) 0 - getD off i 0)
 

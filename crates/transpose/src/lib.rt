@@ -2,11 +2,10 @@
 ghost use mathlib.Core.Path.{_≡_};
 ghost use Prim.Native.Nat.{ℕ, _+_, _<_, _≤_};
 ghost use lib.ListN.{length, getD, set};
-ghost use Rattle.base.specs.Sums.{sum};
 ghost use Rattle.csr.specs.Counts.{countS};
 ghost use lib.Seq.{sets};
 ghost use Rattle.base.specs.Cat.{Wrote, cat};
-ghost use Rattle.transpose.specs.Bins.{rowsOf, roomOf, Scattering, Scattered, Grid, Tally, Starts, seen, RowCounted, endsFrom, sideIn, colsOf};
+ghost use Rattle.transpose.specs.Bins.{rowsOf, EmptyBins, Scattering, Scattered, Grid, Uncounted, Starts, seen, RowCounting, RowCounted, endsFrom, sideIn, colsOf};
 use base::word_at;
 ghost use Rattle.lists.specs.Lists.{byWhat};
 use lists::Side;
@@ -51,15 +50,13 @@ pub fn scatter_row(
     off: &[u32],
     cols: &[u32],
     bytes: &[u8],
-    m: usize,
-    n: usize,
     i: usize,
     index: &mut [u32],
     next: &mut [u32],
     start: usize,
 )
-    requires { ⌜ Scattering (now off) (colsOf side (now cols) (now bytes)) m n what i (now index) (now next) start × (i < m) ⌝ }
-    ensures { λ _. ⌜ Scattered (now (off .entry)) (colsOf side (now (cols .entry)) (now (bytes .entry))) m n what (i + 1) (now (index .entry)) (now (index .exit)) (now (next .exit)) start ⌝ }
+    requires { ⌜ ((m : ℕ) × (n : ℕ) × Scattering (now off) (colsOf side (now cols) (now bytes)) m n what i (now index) (now next) start) ⌝ }
+    ensures { λ _. ⌜ ((m n : ℕ) → Scattering (now (off .entry)) (colsOf side (now (cols .entry)) (now (bytes .entry))) m n what i (now (index .entry)) (now (next .entry)) start → Scattered (now (off .entry)) (colsOf side (now (cols .entry)) (now (bytes .entry))) m n what (i + 1) (now (index .entry)) (now (index .exit)) (now (next .exit)) start) ⌝ }
 {
     let a = word_at(off, i);
     let b = word_at(off, i + 1);
@@ -88,13 +85,11 @@ pub fn count_row(
     off: &[u32],
     cols: &[u32],
     bytes: &[u8],
-    m: usize,
-    n: usize,
     i: usize,
     next: &mut [u32],
 ) -> usize
-    requires { ⌜ Grid (now off) (colsOf side (now cols) (now bytes)) m n × (i < m) × (n ≤ length (now next)) × Tally (now next) n (seen (now off) (colsOf side (now cols) (now bytes)) i) ⌝ }
-    ensures { λ r. ⌜ RowCounted (now (off .entry)) (colsOf side (now (cols .entry)) (now (bytes .entry))) n i (now (next .exit)) r ⌝ }
+    requires { ⌜ RowCounting (now off) (colsOf side (now cols) (now bytes)) i (now next) ⌝ }
+    ensures { λ r. ⌜ RowCounted (now (off .entry)) (colsOf side (now (cols .entry)) (now (bytes .entry))) i (now (next .entry)) (now (next .exit)) r ⌝ }
 {
     let a = word_at(off, i);
     let b = word_at(off, i + 1);
@@ -115,16 +110,15 @@ pub fn count_rows(
     cols: &[u32],
     bytes: &[u8],
     m: usize,
-    n: usize,
     next: &mut [u32],
 ) -> usize
-    requires { ⌜ Grid (now off) (colsOf side (now cols) (now bytes)) m n × (n ≤ length (now next)) × ((c : ℕ) → c < n → getD (now next) c 0 ≡ 0) ⌝ }
-    ensures { λ r. ⌜ Tally (now (next .exit)) n (seen (now (off .entry)) (colsOf side (now (cols .entry)) (now (bytes .entry))) m) × (r ≡ countS (now (off .entry)) (colsOf side (now (cols .entry)) (now (bytes .entry))) m) × (r ≤ 16777216) ⌝ }
+    requires { ⌜ Uncounted (now off) (colsOf side (now cols) (now bytes)) m (now next) ⌝ }
+    ensures { λ r. ⌜ ((c : ℕ) → getD (now (next .entry)) c 0 ≡ 0 → getD (now (next .exit)) c 0 ≡ length (seen (now (off .entry)) (colsOf side (now (cols .entry)) (now (bytes .entry))) m c)) × (r ≡ countS (now (off .entry)) (colsOf side (now (cols .entry)) (now (bytes .entry))) m) × (r ≤ 16777216) ⌝ }
 {
     let mut s: usize = 0;
     let mut i: usize = 0;
     while i < m {
-        s += count_row(side, off, cols, bytes, m, n, i, next);
+        s += count_row(side, off, cols, bytes, i, next);
         i += 1;
     }
     s
@@ -173,17 +167,16 @@ pub fn scatter(
     cols: &[u32],
     bytes: &[u8],
     m: usize,
-    n: usize,
     index: &mut [u32],
     next: &mut [u32],
     start: usize,
 )
-    requires { ⌜ Grid (now off) (colsOf side (now cols) (now bytes)) m n × (n ≤ length (now next)) × (start + sum n (roomOf (now off) (colsOf side (now cols) (now bytes)) m) ≤ length (now index)) × Starts (now next) n (roomOf (now off) (colsOf side (now cols) (now bytes)) m) ⌝ }
-    ensures { λ _. ⌜ now (index .exit) ≡ sets (now (index .entry)) start (cat n (rowsOf (now (off .entry)) (colsOf side (now (cols .entry)) (now (bytes .entry))) what m)) ⌝ }
+    requires { ⌜ ((n : ℕ) × EmptyBins (now off) (colsOf side (now cols) (now bytes)) m n (now index) (now next) start) ⌝ }
+    ensures { λ _. ⌜ ((n : ℕ) → EmptyBins (now (off .entry)) (colsOf side (now (cols .entry)) (now (bytes .entry))) m n (now (index .entry)) (now (next .entry)) start → now (index .exit) ≡ sets (now (index .entry)) start (cat n (rowsOf (now (off .entry)) (colsOf side (now (cols .entry)) (now (bytes .entry))) what m))) ⌝ }
 {
     let mut i: usize = 0;
     while i < m {
-        scatter_row(side, what, off, cols, bytes, m, n, i, index, next, start);
+        scatter_row(side, what, off, cols, bytes, i, index, next, start);
         i += 1;
     }
 }
@@ -205,21 +198,10 @@ pub fn transpose(
     ensures { λ r. ⌜ Wrote (now (index .entry)) (now (index .exit)) start (sideIn (now (off .entry)) (colsOf side (now (cols .entry)) (now (bytes .entry))) m n) r ⌝ }
 {
     base::clear(next, n);
-    count_rows(side, off, cols, bytes, m, n, next);
+    count_rows(side, off, cols, bytes, m, next);
     let a = put_ends(n, index, next, again, start);
     let t = word_at(again, n);
-    scatter(side, What::Numbers, off, cols, bytes, m, n, index, next, a);
-    scatter(
-        side,
-        What::Places,
-        off,
-        cols,
-        bytes,
-        m,
-        n,
-        index,
-        again,
-        a + t,
-    );
+    scatter(side, What::Numbers, off, cols, bytes, m, index, next, a);
+    scatter(side, What::Places, off, cols, bytes, m, index, again, a + t);
     a + t + t
 }

@@ -1,13 +1,23 @@
 -- `csr::ask` meets its contract: each return follows the definition's tests in their order. Assumes nothing.
-use mathlib.Core.Path.{sym, _∙_}
-use lib.Dec.{leb}
+use mathlib.Core.Path.{_≡_, sym, _∙_}
+use mathlib.Core.Bool.{Bool, false, not}
+use mathlib.Core.List.{List}
+use Prim.Native.Nat.{ℕ, _+_}
+use native.Mathlib.Omega.{arith}
+use lib.Dec.{leb, ltb}
+use lib.ListN.{length, getD}
 use borrow.Author.Needs.{needs}
 use borrow.Author.Tests.{lt-ltb, le-ltb, leb-true, not-true, not-false}
-use Rattle.csr.specs.Questions.{firstNo}
-use Rattle.csr.proofs.Right.{right}
+use Rattle.csr.specs.Questions.{firstFrom, empty, offsetsRight, firstNo}
+use Rattle.csr.proofs.Right.{right, short-empty}
 use Rattle.base.proofs.Bools.{and-right}
 use Rattle.csr.proofs.ask.Statement.{statement}
 use Rattle.csr.proofs.ask.Tie as tie
+
+-- after a yes at question 3, a row with fewer than one entry has none
+empties : (m : ℕ) (offsets : List ℕ) (t values : ℕ) (b : Bool) → b ≡ offsetsRight m offsets t values → not b ≡ false
+    → firstFrom (λ k. ltb (getD offsets (k + 1) 0) (getD offsets k 0 + 1)) 0 m ≡ firstFrom (empty offsets) 0 m
+empties m offsets t values b e h = short-empty m offsets t (right m offsets t values (sym e ∙ not-false b h))
 
 between-requires : tie.Need-between-requires
 between-requires c κs = search needs
@@ -59,8 +69,8 @@ returns-3 c =
       not-true (c .before .before .offsets-right .result) (c .before .if3 .taken),
     )
 
-first-empty-requires : tie.Need-first-empty-requires
-first-empty-requires c κs = right _ _ _ _ (sym (c .before .offsets-right .ensures) ∙ not-false (c .before .offsets-right .result) (c .if3 .left)) .count
+first-short-requires : tie.Need-first-short-requires
+first-short-requires c κs = (right _ _ _ _ (sym (c .before .offsets-right .ensures) ∙ not-false (c .before .offsets-right .result) (c .if3 .left)) .count, omega arith)
 
 new-requires-4 : tie.Need-new-requires-4
 new-requires-4 c κs = search needs
@@ -75,7 +85,7 @@ returns-4 c =
       not-false (c .before .before .before .before .before .before .between2 .result) (c .before .before .before .before .before .if2 .left),
       ← c .before .before .before .before .offsets-right .ensures,
       not-false (c .before .before .before .before .offsets-right .result) (c .before .before .before .if3 .left),
-      ← c .before .before .first-empty .ensures,
+      ← (c .before .before .first-short .ensures ∙ empties (c .before .before .before .before .before .before .before .before .before .before .before .args .m) (c .before .before .before .before .before .before .before .before .before .before .before .args .offsets .now) (length (c .before .before .before .before .before .before .before .before .before .before .before .args .columns .now)) (c .before .before .before .before .before .before .before .before .before .before .before .args .values) (c .before .before .before .before .offsets-right .result) (c .before .before .before .before .offsets-right .ensures) (c .before .before .before .if3 .left)),
       lt-ltb _ _ (c .before .if4 .taken),
     )
 
@@ -95,7 +105,7 @@ returns-5 c =
       not-false (c .before .before .before .before .before .before .before .before .between2 .result) (c .before .before .before .before .before .before .before .if2 .left),
       ← c .before .before .before .before .before .before .offsets-right .ensures,
       not-false (c .before .before .before .before .before .before .offsets-right .result) (c .before .before .before .before .before .if3 .left),
-      ← c .before .before .before .before .first-empty .ensures,
+      ← (c .before .before .before .before .first-short .ensures ∙ empties (c .before .before .before .before .before .before .before .before .before .before .before .before .before .args .m) (c .before .before .before .before .before .before .before .before .before .before .before .before .before .args .offsets .now) (length (c .before .before .before .before .before .before .before .before .before .before .before .before .before .args .columns .now)) (c .before .before .before .before .before .before .before .before .before .before .before .before .before .args .values) (c .before .before .before .before .before .before .offsets-right .result) (c .before .before .before .before .before .before .offsets-right .ensures) (c .before .before .before .before .before .if3 .left)),
       le-ltb _ _ (c .before .before .before .if4 .left),
       ← c .before .before .first-bad .ensures,
       lt-ltb _ _ (c .before .if5 .taken),
@@ -111,7 +121,7 @@ returns-6 c =
       not-false (c .before .before .before .before .before .before .before .between2 .result) (c .before .before .before .before .before .before .if2 .left),
       ← c .before .before .before .before .before .offsets-right .ensures,
       not-false (c .before .before .before .before .before .offsets-right .result) (c .before .before .before .before .if3 .left),
-      ← c .before .before .before .first-empty .ensures,
+      ← (c .before .before .before .first-short .ensures ∙ empties (c .before .before .before .before .before .before .before .before .before .before .before .before .args .m) (c .before .before .before .before .before .before .before .before .before .before .before .before .args .offsets .now) (length (c .before .before .before .before .before .before .before .before .before .before .before .before .args .columns .now)) (c .before .before .before .before .before .before .before .before .before .before .before .before .args .values) (c .before .before .before .before .before .offsets-right .result) (c .before .before .before .before .before .offsets-right .ensures) (c .before .before .before .before .if3 .left)),
       le-ltb _ _ (c .before .before .if4 .left),
       ← c .before .first-bad .ensures,
       le-ltb _ _ (c .if5 .left),
@@ -130,7 +140,7 @@ ask-spec =
     offsets-right-requires
     new-requires-3
     returns-3
-    first-empty-requires
+    first-short-requires
     new-requires-4
     returns-4
     first-bad-requires

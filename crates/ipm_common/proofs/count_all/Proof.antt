@@ -19,16 +19,16 @@ count-rows-requires : tie.Need-count-rows-requires
 count-rows-requires c κs =
     let s = c .before .before .before .before .before .before .before .before .before .before .before .before in
     let a = s .args in
-    (accepted-grid (a .offsets .now) (a .columns .now) (a .m) (a .n) (s .pre .0), omega (arith, s .pre .3 .columns, c .before .before .before .clear .kept .0), c .before .before .before .clear .ensures)
+    record { n = a .n; grid = accepted-grid (a .offsets .now) (a .columns .now) (a .m) (a .n) (s .pre .0); long = omega (arith, s .pre .3 .columns, c .before .before .before .clear .kept .0); clear = c .before .before .before .clear .ensures }
 
 clear-requires-2 : tie.Need-clear-requires-2
-clear-requires-2 c κs = omega (arith, c .before .before .before .before .before .before .before .before .before .before .before .before .before .before .before .before .pre .3 .rows, c .before .before .before .before .before .before .before .clear .kept .0, c .before .before .before .count-rows .kept .1 .1 .1 .1 .1 .1 .0)
+clear-requires-2 c κs = omega (arith, c .before .before .before .before .before .before .before .before .before .before .before .before .before .before .before .before .pre .3 .rows, c .before .before .before .before .before .before .before .clear .kept .0, c .before .before .before .count-rows .kept .1 .1 .1 .1 .1 .0)
 
 count-rows-requires-2 : tie.Need-count-rows-requires-2
 count-rows-requires-2 c κs =
     let s = c .before .before .before .before .before .before .before .before .before .before .before .before .before .before .before .before .before .before .before .before in
     let a = s .args in
-    (rows-grid (bit (a .p .now)) (a .lindptr .now) (a .lindices .now) (a .m) (s .pre .2), omega (arith, s .pre .3 .rows, c .before .before .before .before .before .before .before .before .before .before .before .clear .kept .0, c .before .before .before .before .before .before .before .count-rows .kept .1 .1 .1 .1 .1 .1 .0, c .before .before .before .clear2 .kept .0), c .before .before .before .clear2 .ensures)
+    record { n = a .m; grid = rows-grid (bit (a .p .now)) (a .lindptr .now) (a .lindices .now) (a .m) (s .pre .2); long = omega (arith, s .pre .3 .rows, c .before .before .before .before .before .before .before .before .before .before .before .clear .kept .0, c .before .before .before .before .before .before .before .count-rows .kept .1 .1 .1 .1 .1 .0, c .before .before .before .clear2 .kept .0); clear = c .before .before .before .clear2 .ensures }
 
 cast-t22 : tie.Need-cast-t22
 cast-t22 c = omega (arith, c .before .before .count-rows2 .ensures .2)
@@ -42,7 +42,7 @@ sub-t23 c =
     omega (arith, c .before .before .before .before .before .before .before .before .before .before .before .before .before .before .before .before .count .ensures, e, c .before .before .count-rows2 .ensures .1, d)
 
 same-length : tie.Need-same-length
-same-length c = c .before .before .count-rows2 .kept .1 .1 .1 .1 .1 .1 .0 ∙ c .before .before .before .before .before .before .clear2 .kept .0 ∙ c .before .before .before .before .before .before .before .before .before .before .count-rows .kept .1 .1 .1 .1 .1 .1 .0 ∙ c .before .before .before .before .before .before .before .before .before .before .before .before .before .before .clear .kept .0
+same-length c = c .before .before .count-rows2 .kept .1 .1 .1 .1 .1 .0 ∙ c .before .before .before .before .before .before .clear2 .kept .0 ∙ c .before .before .before .before .before .before .before .before .before .before .count-rows .kept .1 .1 .1 .1 .1 .0 ∙ c .before .before .before .before .before .before .before .before .before .before .before .before .before .before .clear .kept .0
 
 returns : tie.Need-returns
 returns c =

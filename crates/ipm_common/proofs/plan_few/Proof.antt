@@ -1,10 +1,8 @@
 -- `ipm_common::plan_few` meets its contract. Assumes nothing.
 use mathlib.Core.Path.{refl}
-use Prim.Native.Nat.{suc}
 use native.Mathlib.Omega.{arith}
 use borrow.Author.Needs.{needs}
 use Rattle.ipm_common.proofs.Memories.{memories-for}
-use Rattle.base.proofs.Sums.{sum-more}
 use Rattle.lists.proofs.Few.{pairs-16}
 use Rattle.ipm_common.proofs.plan_few.Statement.{statement}
 use Rattle.ipm_common.proofs.plan_few.Tie as tie

@@ -1,7 +1,6 @@
 -- `pair_lists::mark_for` meets its contract. Assumes nothing.
-use mathlib.Core.Path.{sym, _∙_}
+use mathlib.Core.Path.{refl, sym, _∙_}
 use mathlib.Core.Bool.{true≢false}
-use native.Mathlib.Omega.{arith}
 use borrow.Author.Needs.{needs}
 use Rattle.pair_lists.proofs.mark_for.Statement.{statement}
 use Rattle.pair_lists.proofs.mark_for.Tie as tie
@@ -16,12 +15,11 @@ same-length : tie.Need-same-length
 same-length c = search needs
 
 returns : tie.Need-returns
-returns c = search needs
+returns c = (λ e. c .before .before .mark-row .ensures, λ e. absurd (true≢false (sym (c .before .before .before .before .if1 .taken) ∙ c .before .before .before .before .before .reads-marks .ensures ∙ e)))
 
 returns-2 : tie.Need-returns-2
 returns-2 c =
-    let s = c .before .before .before .before .before in
-    (λ e. absurd (true≢false (sym e ∙ sym (c .before .reads-marks .ensures) ∙ c .if1 .left)), λ x h. omega (arith, s .pre .3 x h, s .pre .0 .csr .order (s .args .i) (s .pre .1)))
+    (λ e. absurd (true≢false (sym e ∙ sym (c .before .reads-marks .ensures) ∙ c .if1 .left)), λ e. refl)
 
 pub mark-for-spec : {M : Type 1} → statement M
 mark-for-spec =

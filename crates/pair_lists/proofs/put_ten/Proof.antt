@@ -32,7 +32,7 @@ fill-requires c κs =
     let s = c .before .before .before .before .before .before .before .before .before .before .before .before .before .before .before .before in
     let a = s .args in
     let l = c .before .before .before .before .before .before .before .before .loop in
-    (s .pre .0, all.ten-room (shape (a .off .now) (a .cols .now)) (a .m) 10 (a .start) (length (l .index)) (l .at) (l .k) (c .before .before .which-field .result) (c .before .before .which-field .ensures) (omega (arith, c .before .before .before .before .before .before .before .loop-test .taken)) (omega (arith, s .pre .1, l .inv .2)) (l .inv .3 .next), omega (arith, s .pre .2, l .inv .1, c .before .before .before .before .before .clear .kept .0), λ x h. omega (arith, c .before .before .before .before .before .clear .ensures x h))
+    (record { wide = a .wide; listing = s .pre .0; long = omega (arith, s .pre .2, l .inv .1, c .before .before .before .before .before .clear .kept .0); low = λ x h. omega (arith, c .before .before .before .before .before .clear .ensures x h) }, all.ten-room (shape (a .off .now) (a .cols .now)) (a .m) 10 (a .start) (length (l .index)) (l .at) (l .k) (c .before .before .which-field .result) (c .before .before .which-field .ensures) (omega (arith, c .before .before .before .before .before .before .before .loop-test .taken)) (omega (arith, s .pre .1, l .inv .2)) (l .inv .3 .next))
 
 add-k : tie.Need-add-k Inv-loop μ-loop
 add-k c = omega (arith, c .before .before .before .before .before .before .before .before .before .before .before .before .loop-test .taken)
@@ -46,7 +46,7 @@ loop-again c =
     let a = s .args in
     let l = c .before .before .before .before .before .before .before .before .before .before .before .before .before .loop in
     let q = c .before .before .before .before .fill in
-    (omega (arith, c .before .before .before .before .before .before .before .before .before .before .before .before .loop-test .taken), q .kept .1 .1 .1 .1 .1 .1 .1 .1 .0 ∙ c .before .before .before .before .before .before .before .before .before .before .clear .kept .0 ∙ l .inv .1, q .kept .1 .1 .1 .1 .1 .1 .1 .1 .1 .0 ∙ l .inv .2, all.ten-next (shape (a .off .now) (a .cols .now)) (a .m) (a .index .now) (l .index) (q .last .1 .1 .1 .1 .1 .1 .1 .1 .1 .0) (a .start) (l .at) (q .result) (l .k) (c .before .before .before .before .before .before .before .which-field .result) (c .before .before .before .before .before .before .before .which-field .ensures) (l .inv .3) (q .ensures))
+    (omega (arith, c .before .before .before .before .before .before .before .before .before .before .before .before .loop-test .taken), q .kept .1 .1 .1 .1 .1 .1 .1 .0 ∙ c .before .before .before .before .before .before .before .before .before .before .clear .kept .0 ∙ l .inv .1, q .kept .1 .1 .1 .1 .1 .1 .1 .1 .0 ∙ l .inv .2, all.ten-next (shape (a .off .now) (a .cols .now)) (a .m) (a .index .now) (l .index) (q .last .1 .1 .1 .1 .1 .1 .1 .1 .0) (a .start) (l .at) (q .result) (l .k) (c .before .before .before .before .before .before .before .which-field .result) (c .before .before .before .before .before .before .before .which-field .ensures) (l .inv .3) (q .ensures))
 
 same-length : tie.Need-same-length Inv-loop μ-loop
 same-length c = c .before .loop .inv .1

@@ -1,5 +1,7 @@
 -- `pair_lists::weigh` meets its contract. Assumes nothing.
-use mathlib.Core.Path.{sym, ap, _∙_}
+use Prim.Native.Nat.{ℕ, _≤_}
+use mathlib.Core.Path.{_≡_, refl, sym, ap, _∙_}
+use mathlib.Core.List.{List}
 use native.Mathlib.Omega.{arith}
 use Rattle.base.specs.Sums.{one}
 use Rattle.lists.specs.declared.Which.{Which}
@@ -9,6 +11,10 @@ use Rattle.pair_lists.proofs.Bits.{both-weight}
 use borrow.Author.Needs.{needs}
 use Rattle.pair_lists.proofs.weigh.Statement.{statement}
 use Rattle.pair_lists.proofs.weigh.Tie as tie
+
+-- a list that counts nothing
+nothing : (off cols : List ℕ) (i j : ℕ) {w v : Which} → w ≡ v → weight (shape off cols) v i j ≡ 0 → (0 ≡ weight (shape off cols) w i j) × (0 ≤ 16384)
+nothing off cols i j e z = (sym (ap (λ (x : Which). weight (shape off cols) x i j) e ∙ z), omega arith)
 
 enum-told : tie.Need-enum-told
 enum-told c = search needs
@@ -82,51 +88,35 @@ returns-3 c =
 
 returns-4 : tie.Need-returns-4
 unfolding weight
-returns-4 c =
-    let s = c .before .before .before .before .before .before in
-    (sym (ap (λ (w : Which). weight (shape (s .args .off .now) (s .args .cols .now)) w (s .args .i) (s .args .j)) (c .enum-told3 .given .1)), omega arith)
+returns-4 c = let a = c .before .before .before .before .before .before .args in nothing (a .off .now) (a .cols .now) (a .i) (a .j) (c .enum-told3 .given .1) refl
 
 returns-5 : tie.Need-returns-5
 unfolding weight
-returns-5 c =
-    let s = c .before .before .before .before .before .before in
-    (sym (ap (λ (w : Which). weight (shape (s .args .off .now) (s .args .cols .now)) w (s .args .i) (s .args .j)) (c .enum-told4 .given .1)), omega arith)
+returns-5 c = let a = c .before .before .before .before .before .before .args in nothing (a .off .now) (a .cols .now) (a .i) (a .j) (c .enum-told4 .given .1) refl
 
 returns-6 : tie.Need-returns-6
 unfolding weight
-returns-6 c =
-    let s = c .before .before .before .before .before .before in
-    (sym (ap (λ (w : Which). weight (shape (s .args .off .now) (s .args .cols .now)) w (s .args .i) (s .args .j)) (c .enum-told5 .given .1)), omega arith)
+returns-6 c = let a = c .before .before .before .before .before .before .args in nothing (a .off .now) (a .cols .now) (a .i) (a .j) (c .enum-told5 .given .1) refl
 
 returns-7 : tie.Need-returns-7
 unfolding weight
-returns-7 c =
-    let s = c .before .before .before .before .before .before in
-    (sym (ap (λ (w : Which). weight (shape (s .args .off .now) (s .args .cols .now)) w (s .args .i) (s .args .j)) (c .enum-told6 .given .1)), omega arith)
+returns-7 c = let a = c .before .before .before .before .before .before .args in nothing (a .off .now) (a .cols .now) (a .i) (a .j) (c .enum-told6 .given .1) refl
 
 returns-8 : tie.Need-returns-8
 unfolding weight
-returns-8 c =
-    let s = c .before .before .before .before .before .before in
-    (sym (ap (λ (w : Which). weight (shape (s .args .off .now) (s .args .cols .now)) w (s .args .i) (s .args .j)) (c .enum-told7 .given .1)), omega arith)
+returns-8 c = let a = c .before .before .before .before .before .before .args in nothing (a .off .now) (a .cols .now) (a .i) (a .j) (c .enum-told7 .given .1) refl
 
 returns-9 : tie.Need-returns-9
 unfolding weight
-returns-9 c =
-    let s = c .before .before .before .before .before .before in
-    (sym (ap (λ (w : Which). weight (shape (s .args .off .now) (s .args .cols .now)) w (s .args .i) (s .args .j)) (c .enum-told8 .given .1)), omega arith)
+returns-9 c = let a = c .before .before .before .before .before .before .args in nothing (a .off .now) (a .cols .now) (a .i) (a .j) (c .enum-told8 .given .1) refl
 
 returns-10 : tie.Need-returns-10
 unfolding weight
-returns-10 c =
-    let s = c .before .before .before .before .before .before in
-    (sym (ap (λ (w : Which). weight (shape (s .args .off .now) (s .args .cols .now)) w (s .args .i) (s .args .j)) (c .enum-told9 .given .1)), omega arith)
+returns-10 c = let a = c .before .before .before .before .before .before .args in nothing (a .off .now) (a .cols .now) (a .i) (a .j) (c .enum-told9 .given .1) refl
 
 returns-11 : tie.Need-returns-11
 unfolding weight
-returns-11 c =
-    let s = c .before .before .before .before .before .before in
-    (sym (ap (λ (w : Which). weight (shape (s .args .off .now) (s .args .cols .now)) w (s .args .i) (s .args .j)) (c .enum-told10 .given .1)), omega arith)
+returns-11 c = let a = c .before .before .before .before .before .before .args in nothing (a .off .now) (a .cols .now) (a .i) (a .j) (c .enum-told10 .given .1) refl
 
 pub weigh-spec : {M : Type 1} → statement M
 weigh-spec =

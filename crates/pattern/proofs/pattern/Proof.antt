@@ -3,6 +3,7 @@ use Prim.Native.Nat.{ℕ, _≤_, _<_, _-_}
 use mathlib.Core.Path.{_≡_, sym, _∙_}
 use native.Mathlib.Omega.{arith}
 use lib.ListN.{length}
+use Rattle.csr.proofs.Rows.{row-of}
 use Rattle.pattern.specs.Word.{Done, Clear}
 use Rattle.pattern.specs.Links.{firstOf, links, Firsts}
 use Rattle.pattern.proofs.Rows.{done-other}
@@ -30,10 +31,10 @@ seed-row-requires : tie.Need-seed-row-requires Inv-loop μ-loop
 seed-row-requires c κs =
     let s = c .before .before .before .before .before .before .before in
     let l = c .before .before .before .loop in
-    (s .pre .0, s .pre .1, omega arith, l .inv .0, l .inv .3 (l .i) (omega arith) (omega (arith, s .pre .0 .few)), l .inv .4, l .inv .5)
+    (row-of (s .args .off .now) (s .args .cols .now) (s .args .m) (l .i) 1024 (s .pre .0) (omega arith) (s .pre .1 (l .i) (omega arith)), omega (arith, s .pre .0 .few), l .inv .0, l .inv .3 (l .i) (omega arith) (omega (arith, s .pre .0 .few)), l .inv .4, l .inv .5)
 
 fill-row-requires : tie.Need-fill-row-requires Inv-loop μ-loop
-fill-row-requires c κs = (c .before .before .before .before .seed-row .kept .1 .1 .1 .0 ∙ c .before .before .before .before .before .before .before .before .loop .inv .0, omega (arith, c .before .before .before .before .before .before .before .before .before .before .before .before .pre .0 .few))
+fill-row-requires c κs = (c .before .before .before .before .seed-row .kept .1 .1 .0 ∙ c .before .before .before .before .before .before .before .before .loop .inv .0, omega (arith, c .before .before .before .before .before .before .before .before .before .before .before .before .pre .0 .few))
 
 add-i : tie.Need-add-i Inv-loop μ-loop
 add-i c = omega (arith, c .before .before .before .before .before .before .before .before .before .before .before .before .before .before .before .pre .0 .few)
@@ -48,14 +49,14 @@ loop-again c =
     let a = c .before .before .before .before .before .before .before .seed-row in
     let f = c .before .before .fill-row in
     let nb = links (s .args .off .now) (s .args .cols .now) in
-    let q = a .last .1 .1 .1 .0 in
+    let q = a .last .1 .1 .0 in
     let hi : l .i < 256 = omega (arith, s .pre .0 .few) in (
-      f .kept .0 ∙ a .kept .1 .1 .1 .0 ∙ l .inv .0,
+      f .kept .0 ∙ a .kept .1 .1 .0 ∙ l .inv .0,
       omega arith,
       rows-more nb (l .p) q (f .last .0) (l .i) hi (a .ensures .0) (f .ensures .0) (l .inv .2)
           (f .ensures .1 nb (done-other nb (l .p) q (l .i) hi (a .ensures .0) (l .inv .2)) (a .ensures .1 .0)),
       clear-less nb (l .p) q (f .last .0) (l .i) hi (a .ensures .0) (f .ensures .0) (l .inv .3),
-      a .kept .1 .1 .1 .1 .0 ∙ l .inv .4,
+      a .kept .1 .1 .1 .0 ∙ l .inv .4,
       a .ensures .1 .1,
     )
 

@@ -9,7 +9,7 @@ use denote.Ref.{now}
 use borrow.Author.Needs.{needs}
 use Rattle.base.specs.Numbers.{Below}
 use Rattle.csr.specs.Pattern.{row}
-use Rattle.transpose.proofs.Row as rowlaw
+use Rattle.csr.proofs.Rows.{row-le}
 use Rattle.base.proofs.Numbers.{below-more}
 use Rattle.shared_columns.proofs.Among as among
 use Rattle.shared_columns.proofs.count_shared.Statement.{statement}
@@ -38,7 +38,7 @@ returns c =
     let a = s .args in (
       c .count-marked .ensures .0
           ∙ among.count-common (a .off .now) (a .cols .now) (s .pre .m) (s .pre .wide) (s .pre .grid) (a .mark .now) (a .i) (a .j) (s .pre .inside) (s .pre .other) (s .pre .marks) (c .before .before .word-at .result) (c .before .before .word-at .ensures) (now (c .before .get-row .result)) (c .before .get-row .ensures),
-      omega (arith, c .count-marked .ensures .1, ap length (c .before .get-row .ensures), rowlaw.row-long (a .off .now) (a .cols .now) (s .pre .m) (s .pre .wide) (a .j) (s .pre .grid) (s .pre .other), s .pre .grid .csr .ends (a .j + 1) (omega (arith, s .pre .other))),
+      omega (arith, c .count-marked .ensures .1, ap length (c .before .get-row .ensures), row-le (a .off .now) (a .cols .now) (a .j)),
     )
 
 pub count-shared-spec : {M : Type 1} → statement M

@@ -6,58 +6,52 @@ use native.Mathlib.Omega.{arith}
 use lib.ListN.{length, getD, set}
 use Rattle.shared_columns.proofs.Marks as marks
 use Rattle.csr.specs.Pattern.{row}
-use Rattle.transpose.proofs.Row as rowlaw
-use Rattle.lists.specs.declared.What.the-variants.{Numbers}
+use Rattle.csr.proofs.Rows.{row-long, in-row, entry-at, entry-below}
 use Rattle.shared_columns.proofs.mark_row.Statement.{statement}
 use Rattle.shared_columns.proofs.mark_row.Tie as tie
 
 abbrev Inv-loop : tie.InvT-loop
-Inv-loop off cols m n i mark₀ a b k₀ mark k = (getD off i 0 ≤ k) × (k ≤ getD off (i + 1) 0) × (length mark ≡ length mark₀) × marks.Marking mark (getD off i 0) (row off cols i) n (k - getD off i 0)
+Inv-loop off cols i mark₀ a b k₀ mark k = (getD off i 0 ≤ k) × (k ≤ getD off (i + 1) 0) × (length mark ≡ length mark₀) × marks.Marking mark₀ mark (getD off i 0) (row off cols i) (k - getD off i 0)
 
 abbrev μ-loop : tie.MeasureT-loop
-μ-loop off cols m n i mark₀ a b k₀ mark k = b - k
+μ-loop off cols i mark₀ a b k₀ mark k = b - k
 
 word-at-requires : tie.Need-word-at-requires Inv-loop μ-loop
-word-at-requires c κs = let s = c .before .before .before in omega (arith, s .pre .0 .csr .offsets, s .pre .1)
+word-at-requires c κs = let s = c .before .before .before in omega (arith, s .pre .offsets)
 
 add-word-at : tie.Need-add-word-at Inv-loop μ-loop
-add-word-at c = let s = c .before .before .before .before in omega (arith, s .pre .0 .csr .few, s .pre .1)
+add-word-at c = let s = c .before .before .before .before in omega (arith, s .pre .offsets)
 
 word-at-requires-2 : tie.Need-word-at-requires-2 Inv-loop μ-loop
-word-at-requires-2 c κs = let s = c .before .before .before .before in omega (arith, s .pre .0 .csr .offsets, s .pre .1)
+word-at-requires-2 c κs = let s = c .before .before .before .before in s .pre .offsets
 
 loop-holds : tie.Need-loop-holds Inv-loop μ-loop
 loop-holds c =
     let s = c .before .before .before .before .before in
     let a = s .args in
-    (omega (arith, c .before .word-at .ensures), omega (arith, c .before .word-at .ensures, s .pre .0 .csr .order (a .i) (s .pre .1)), refl, marks.marking-start (a .mark .now) (getD (a .off .now) (a .i) 0) (row (a .off .now) (a .cols .now) (a .i)) (a .n) (c .before .word-at .result - getD (a .off .now) (a .i) 0) (omega (arith, c .before .word-at .ensures)) (s .pre .3))
+    (omega (arith, c .before .word-at .ensures), omega (arith, c .before .word-at .ensures, s .pre .order), refl, marks.marking-start (a .mark .now) (getD (a .off .now) (a .i) 0) (row (a .off .now) (a .cols .now) (a .i)) (c .before .word-at .result - getD (a .off .now) (a .i) 0) (omega (arith, c .before .word-at .ensures)))
 
 word-at-requires-3 : tie.Need-word-at-requires-3 Inv-loop μ-loop
 word-at-requires-3 c κs =
     let s = c .before .before .before .before .before .before .before in
-    omega (arith, c .loop-test .taken, c .before .before .word-at2 .ensures, s .pre .0 .csr .ends (s .args .i + 1) (omega (arith, s .pre .1)))
+    omega (arith, c .loop-test .taken, c .before .before .word-at2 .ensures, s .pre .ends)
 
 cast-store : tie.Need-cast-store Inv-loop μ-loop
-cast-store c =
-    let s = c .before .before .before .before .before .before .before .before .before in
-    omega (arith, c .before .before .loop-test .taken, c .before .before .before .before .word-at2 .ensures, s .pre .0 .csr .ends (s .args .i + 1) (omega (arith, s .pre .1)), s .pre .0 .short)
+cast-store c = omega (arith, c .before .before .loop-test .taken, c .before .before .before .before .word-at2 .ensures, c .before .before .before .before .before .before .before .before .shared-slice-known .given (c .before .before .before .before .before .before .before .before .before .args .i + 1))
 
 add-store : tie.Need-add-store Inv-loop μ-loop
-add-store c =
-    let s = c .before .before .before .before .before .before .before .before .before in
-    omega (arith, c .before .before .loop-test .taken, c .before .before .before .before .word-at2 .ensures, s .pre .0 .csr .ends (s .args .i + 1) (omega (arith, s .pre .1)), s .pre .0 .short)
+add-store c = omega (arith, c .before .before .loop-test .taken, c .before .before .before .before .word-at2 .ensures, c .before .before .before .before .before .before .before .before .shared-slice-known .given (c .before .before .before .before .before .before .before .before .before .args .i + 1))
 
 store-requires : tie.Need-store-requires Inv-loop μ-loop
 store-requires c κs =
     let s = c .before .before .before .before .before .before .before .before .before in
     let a = s .args in
     let l = c .before .before .before .loop in
-    omega (arith, s .pre .2, l .inv .2, rowlaw.e-below (a .off .now) (a .cols .now) (a .m) (a .n) (a .i) (s .pre .0) (s .pre .1) Numbers (l .k) (c .before .word-at3 .result) (a .i) (l .inv .0) (omega (arith, c .before .before .loop-test .taken, c .before .before .before .before .word-at2 .ensures)) (c .before .word-at3 .ensures) refl)
+    let lt : l .k < getD (a .off .now) (a .i + 1) 0 = omega (arith, c .before .before .loop-test .taken, c .before .before .before .before .word-at2 .ensures) in
+    omega (arith, l .inv .2, entry-below (a .off .now) (a .cols .now) (a .i) (length (a .mark .now)) (s .pre) (l .k) (c .before .word-at3 .result) (l .inv .0) lt (c .before .word-at3 .ensures))
 
 add-k : tie.Need-add-k Inv-loop μ-loop
-add-k c =
-    let s = c .before .before .before .before .before .before .before .before .before .before .before .before in
-    omega (arith, c .before .before .before .before .before .loop-test .taken, c .before .before .before .before .before .before .before .word-at2 .ensures, s .pre .0 .csr .ends (s .args .i + 1) (omega (arith, s .pre .1)), s .pre .0 .short)
+add-k c = omega (arith, c .before .before .before .before .before .loop-test .taken)
 
 loop-less : tie.Need-loop-less Inv-loop μ-loop
 loop-less c = omega (arith, c .before .before .before .before .before .loop-test .taken)
@@ -74,9 +68,11 @@ loop-again c =
       omega (arith, l .inv .0),
       omega (arith, lt),
       q .kept .0 ∙ l .inv .2,
-      subst (λ (x : List ℕ). marks.Marking x (getD (a .off .now) (a .i) 0) (row (a .off .now) (a .cols .now) (a .i)) (a .n) (l .k + 1 - getD (a .off .now) (a .i) 0)) (sym (q .ensures))
-          (subst (λ (x : ℕ). marks.Marking (set (l .mark) (w .result) (l .k + 1)) (getD (a .off .now) (a .i) 0) (row (a .off .now) (a .cols .now) (a .i)) (a .n) x) z
-          (marks.marking-next (l .mark) (getD (a .off .now) (a .i) 0) (row (a .off .now) (a .cols .now) (a .i)) (a .n) (l .k - getD (a .off .now) (a .i) 0) (w .result) (l .k + 1) (s .pre .0 .csr .rising (a .i) (s .pre .1)) (rowlaw.in-q (a .off .now) (a .cols .now) (a .m) (a .n) (a .i) (s .pre .0) (s .pre .1) Numbers (l .k) (w .result) (a .i) (l .inv .0) lt (w .ensures) refl) (rowlaw.e-at (a .off .now) (a .cols .now) (a .m) (a .n) (a .i) (s .pre .0) (s .pre .1) Numbers (l .k) (w .result) (a .i) (l .inv .0) lt (w .ensures) refl) (omega (arith, l .inv .0)) (omega (arith, s .pre .2, l .inv .2, rowlaw.e-below (a .off .now) (a .cols .now) (a .m) (a .n) (a .i) (s .pre .0) (s .pre .1) Numbers (l .k) (w .result) (a .i) (l .inv .0) lt (w .ensures) refl)) (l .inv .3))),
+      subst (λ (x : List ℕ). marks.Marking (a .mark .now) x (getD (a .off .now) (a .i) 0) (row (a .off .now) (a .cols .now) (a .i)) (l .k + 1 - getD (a .off .now) (a .i) 0)) (sym (q .ensures))
+          (subst (λ (x : ℕ). marks.Marking (a .mark .now) (set (l .mark) (w .result) (l .k + 1)) (getD (a .off .now) (a .i) 0) (row (a .off .now) (a .cols .now) (a .i)) x) z
+          (marks.marking-next (a .mark .now) (l .mark) (getD (a .off .now) (a .i) 0) (row (a .off .now) (a .cols .now) (a .i)) (l .k - getD (a .off .now) (a .i) 0) (w .result) (l .k + 1) (s .pre .rising)
+          (in-row (a .off .now) (a .cols .now) (a .i) (length (a .mark .now)) (s .pre) (l .k) (w .result) (l .inv .0) lt (w .ensures)) (entry-at (a .off .now) (a .cols .now) (a .i) (length (a .mark .now)) (s .pre) (l .k) (w .result) (l .inv .0) lt (w .ensures)) (omega (arith, l .inv .0))
+          (omega (arith, l .inv .2, entry-below (a .off .now) (a .cols .now) (a .i) (length (a .mark .now)) (s .pre) (l .k) (w .result) (l .inv .0) lt (w .ensures))) (l .inv .3))),
     )
 
 same-length : tie.Need-same-length Inv-loop μ-loop
@@ -87,10 +83,8 @@ returns c =
     let s = c .before .before .before .before .before .before .before in
     let a = s .args in
     let l = c .before .loop in
-    let e : l .k ≡ getD (a .off .now) (a .i + 1) 0 = omega (arith, l .inv .1, c .loop-test .left, c .before .before .word-at2 .ensures) in (
-      marks.marking-end (l .mark) (getD (a .off .now) (a .i) 0) (row (a .off .now) (a .cols .now) (a .i)) (a .n) (l .k - getD (a .off .now) (a .i) 0) (omega (arith, e, rowlaw.row-long (a .off .now) (a .cols .now) (a .m) (a .n) (a .i) (s .pre .0) (s .pre .1))) (l .inv .3),
-      λ x h. omega (arith, l .inv .3 .top x h, e, l .inv .0),
-    )
+    let e : l .k ≡ getD (a .off .now) (a .i + 1) 0 = omega (arith, l .inv .1, c .loop-test .left, c .before .before .word-at2 .ensures) in
+    marks.marking-end (a .mark .now) (l .mark) (getD (a .off .now) (a .i) 0) (row (a .off .now) (a .cols .now) (a .i)) (l .k - getD (a .off .now) (a .i) 0) (omega (arith, e, row-long (a .off .now) (a .cols .now) (a .i) (length (a .mark .now)) (s .pre))) (l .inv .3)
 
 pub mark-row-spec : {M : Type 1} → statement M
 mark-row-spec =
