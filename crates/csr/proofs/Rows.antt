@@ -30,16 +30,14 @@ row-le off cols i = part-le (getD off (i + 1) 0 - getD off i 0) (getD off i 0) c
 -- ---- row i, whatever the others are
 pub row-of : (off cols : List ℕ) (m i n : ℕ) → Csr off cols m → i < m → Below n (row off cols i) → RowOf off cols i n
 row-of off cols m i n g l b = record {
-  offsets = omega (arith, g .offsets);
-  order = g .order i l;
-  ends = g .ends (i + 1) (omega arith);
+  part = record { here = omega (arith, g .offsets); rises = g .order i l; ends = g .ends (i + 1) (omega arith) };
   rising = g .rising i l;
   within = b;
 }
 
 module _ (off cols : List ℕ) (i n : ℕ) (ok : RowOf off cols i n) where
   pub row-long : length (row off cols i) ≡ getD off (i + 1) 0 - getD off i 0
-  row-long = row-length off cols i (ok .ends)
+  row-long = row-length off cols i (ok .part .ends)
 
   -- entry k of the columns is one of row i
   module _ (k e : ℕ) (lo : getD off i 0 ≤ k) (hk : k < getD off (i + 1) 0) (he : e ≡ getD cols k 0) where

@@ -4,7 +4,7 @@ use mathlib.Core.List.{List}
 use Prim.Native.Nat.{ℕ, _+_, _<_, _≤_}
 use lib.ListN.{getD, length}
 use Rattle.csr.specs.Pattern.{row}
-use Rattle.base.specs.Numbers.{Below, Rising}
+use Rattle.base.specs.Numbers.{Below, Rising, Part}
 
 -- the lists of m rows, each with rising columns: the matrix's, or the factor's
 pub record Csr (off cols : List ℕ) (m : ℕ) : Type 0 where
@@ -16,9 +16,7 @@ pub record Csr (off cols : List ℕ) (m : ℕ) : Type 0 where
 
 -- row i of the lists: a part of the columns, rising and below n
 pub record RowOf (off cols : List ℕ) (i n : ℕ) : Type 0 where
-  pub offsets : i + 1 < length off
-  pub order : getD off i 0 ≤ getD off (i + 1) 0
-  pub ends : getD off (i + 1) 0 ≤ length cols
+  pub part : Part off i (length cols)
   pub rising : Rising (row off cols i)
   pub within : Below n (row off cols i)
 

@@ -4,10 +4,12 @@ ghost use mathlib.Core.Bool.{true, _&&_};
 ghost use Prim.Native.Nat.{ℕ, _+_, _-_, _≤_, _<_};
 ghost use lib.Dec.{leb, ltb};
 ghost use lib.ListN.{length, getD};
+ghost use Rattle.base.specs.Numbers.{Part};
 ghost use Rattle.csr.specs.Pattern.{row};
 ghost use Rattle.csr.specs.Csr.{Offsets};
 ghost use Rattle.csr.specs.Verdict.{refused, refusal, toldAsked};
 ghost use Rattle.csr.specs.Questions.{firstFrom, badRow, offsetsRight, firstNo};
+use base::span;
 use base::word_at;
 
 // A no: the question, its place and its lane, 0 where the question names none.
@@ -49,12 +51,10 @@ pub enum Asked {
 
 // The part of the column list between two offsets.
 pub fn get_row<'a>(offsets: &[u32], columns: &'a [u32], i: usize) -> &'a [u32]
-    requires { ⌜ (i + 1 < length (now offsets)) × (getD (now offsets) i 0 ≤ getD (now offsets) (i + 1) 0) × (getD (now offsets) (i + 1) 0 ≤ length (now columns)) ⌝ }
+    requires { ⌜ Part (now offsets) i (length (now columns)) ⌝ }
     ensures { λ r. ⌜ now r ≡ row (now (offsets .entry)) (now (columns .entry)) i ⌝ }
 {
-    let a = offsets[i] as usize;
-    let e = offsets[i + 1] as usize;
-    &columns[a..e]
+    span(offsets, columns, i)
 }
 
 // Whether x lies from low to high.

@@ -34,7 +34,7 @@ module _ (off cols : List ℕ) (m n : ℕ) (w : What) (i : ℕ) (old first : Lis
 
   -- the row is a part of the columns, and places are words
   pub row-ends : (i < 256) × (i + 1 < length off) × (getD off (i + 1) 0 ≤ length cols) × (length cols ≤ 65536)
-  row-ends = (omega (arith, r .inside, r .grid .csr .few), ok .offsets, ok .ends, r .grid .short)
+  row-ends = (omega (arith, r .inside, r .grid .csr .few), ok .part .here, ok .part .ends, r .grid .short)
 
   pub passing-start : (k : ℕ) → k ≡ getD off i 0 → Passing off cols m n w i k old old first start
   passing-start k e =

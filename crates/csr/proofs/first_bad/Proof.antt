@@ -25,7 +25,7 @@ get-row-requires c κs =
     let a = c .before .before .before .before .args in
     let i = c .before .loop .i in
     let r = c .before .before .before .before .pre in
-    (omega (arith, r .count), r .rises i (omega arith), within (a .m) (a .offsets .now) (length (a .columns .now)) r (a .m - (i + 1)) (i + 1) (omega arith))
+    record { here = omega (arith, r .count); rises = r .rises i (omega arith); ends = within (a .m) (a .offsets .now) (length (a .columns .now)) r (a .m - (i + 1)) (i + 1) (omega arith) }
 
 is-bad-requires : tie.Need-is-bad-requires Inv-loop μ-loop
 is-bad-requires c κs = search needs

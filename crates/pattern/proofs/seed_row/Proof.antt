@@ -25,7 +25,7 @@ column off cols i r q h e g = below-at 1024 r q (rw e (h .within)) g
 get-row-requires : tie.Need-get-row-requires Inv-loop μ-loop
 get-row-requires c κs =
     let s = c .before .before .before .before in
-    (s .pre .0 .offsets, s .pre .0 .order, s .pre .0 .ends)
+    s .pre .0 .part
 
 loop-holds : tie.Need-loop-holds Inv-loop μ-loop
 loop-holds c =

@@ -24,7 +24,7 @@ cast-count-marked c = let s = c .before .before .before .before in omega (arith,
 get-row-requires : tie.Need-get-row-requires
 get-row-requires c κs =
     let s = c .before .before .before .before in
-    (omega (arith, s .pre .grid .csr .offsets, s .pre .other), s .pre .grid .csr .order (s .args .j) (s .pre .other), s .pre .grid .csr .ends (s .args .j + 1) (omega (arith, s .pre .other)))
+    record { here = omega (arith, s .pre .grid .csr .offsets, s .pre .other); rises = s .pre .grid .csr .order (s .args .j) (s .pre .other); ends = s .pre .grid .csr .ends (s .args .j + 1) (omega (arith, s .pre .other)) }
 
 count-marked-requires : tie.Need-count-marked-requires
 count-marked-requires c κs =

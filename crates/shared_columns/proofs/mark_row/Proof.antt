@@ -17,24 +17,24 @@ abbrev μ-loop : tie.MeasureT-loop
 μ-loop off cols i mark₀ a b k₀ mark k = b - k
 
 word-at-requires : tie.Need-word-at-requires Inv-loop μ-loop
-word-at-requires c κs = let s = c .before .before .before in omega (arith, s .pre .offsets)
+word-at-requires c κs = let s = c .before .before .before in omega (arith, s .pre .part .here)
 
 add-word-at : tie.Need-add-word-at Inv-loop μ-loop
-add-word-at c = let s = c .before .before .before .before in omega (arith, s .pre .offsets)
+add-word-at c = let s = c .before .before .before .before in omega (arith, s .pre .part .here)
 
 word-at-requires-2 : tie.Need-word-at-requires-2 Inv-loop μ-loop
-word-at-requires-2 c κs = let s = c .before .before .before .before in s .pre .offsets
+word-at-requires-2 c κs = let s = c .before .before .before .before in s .pre .part .here
 
 loop-holds : tie.Need-loop-holds Inv-loop μ-loop
 loop-holds c =
     let s = c .before .before .before .before .before in
     let a = s .args in
-    (omega (arith, c .before .word-at .ensures), omega (arith, c .before .word-at .ensures, s .pre .order), refl, marks.marking-start (a .mark .now) (getD (a .off .now) (a .i) 0) (row (a .off .now) (a .cols .now) (a .i)) (c .before .word-at .result - getD (a .off .now) (a .i) 0) (omega (arith, c .before .word-at .ensures)))
+    (omega (arith, c .before .word-at .ensures), omega (arith, c .before .word-at .ensures, s .pre .part .rises), refl, marks.marking-start (a .mark .now) (getD (a .off .now) (a .i) 0) (row (a .off .now) (a .cols .now) (a .i)) (c .before .word-at .result - getD (a .off .now) (a .i) 0) (omega (arith, c .before .word-at .ensures)))
 
 word-at-requires-3 : tie.Need-word-at-requires-3 Inv-loop μ-loop
 word-at-requires-3 c κs =
     let s = c .before .before .before .before .before .before .before in
-    omega (arith, c .loop-test .taken, c .before .before .word-at2 .ensures, s .pre .ends)
+    omega (arith, c .loop-test .taken, c .before .before .word-at2 .ensures, s .pre .part .ends)
 
 cast-store : tie.Need-cast-store Inv-loop μ-loop
 cast-store c = omega (arith, c .before .before .loop-test .taken, c .before .before .before .before .word-at2 .ensures, c .before .before .before .before .before .before .before .before .shared-slice-known .given (c .before .before .before .before .before .before .before .before .before .args .i + 1))

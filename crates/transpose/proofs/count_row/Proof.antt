@@ -35,13 +35,13 @@ abbrev μ-loop : tie.MeasureT-loop
 μ-loop side off cols₀ bytes i next₀ a b s₀ k₀ next s k = b - k
 
 word-at-requires : tie.Need-word-at-requires Inv-loop μ-loop
-word-at-requires c κs = let s = c .before .before .before .before in omega (arith, s .pre .at .offsets)
+word-at-requires c κs = let s = c .before .before .before .before in omega (arith, s .pre .at .part .here)
 
 add-word-at : tie.Need-add-word-at Inv-loop μ-loop
 add-word-at c = let s = c .before .before .before .before .before in omega (arith, s .pre .few)
 
 word-at-requires-2 : tie.Need-word-at-requires-2 Inv-loop μ-loop
-word-at-requires-2 c κs = let s = c .before .before .before .before .before in omega (arith, s .pre .at .offsets)
+word-at-requires-2 c κs = let s = c .before .before .before .before .before in omega (arith, s .pre .at .part .here)
 
 loop-holds : tie.Need-loop-holds Inv-loop μ-loop
 loop-holds c =
@@ -50,7 +50,7 @@ loop-holds c =
       omega (arith, c .before .word-at .ensures),
       refl,
       law.count-start (a .off .now) (colsOf (a .side) (a .cols .now) (a .bytes .now)) (a .i) (length (a .next .now)) (s .pre .at) (a .next .now) (c .before .word-at .result) (c .before .word-at .ensures),
-      omega (arith, c .before .word-at .ensures, s .pre .at .order),
+      omega (arith, c .before .word-at .ensures, s .pre .at .part .rises),
       pairs.pairs-start (a .off .now) (colsOf (a .side) (a .cols .now) (a .bytes .now)) (a .i) (length (a .next .now)) (s .pre .at) (c .before .word-at .result) (c .before .word-at .ensures),
       omega arith,
     )
@@ -58,7 +58,7 @@ loop-holds c =
 column-at-requires : tie.Need-column-at-requires Inv-loop μ-loop
 column-at-requires c κs =
     let s = c .before .before .before .before .before .before .before .before in
-    omega (arith, c .before .before .word-at2 .ensures, s .pre .at .ends)
+    omega (arith, c .before .before .word-at2 .ensures, s .pre .at .part .ends)
 
 bump-requires : tie.Need-bump-requires Inv-loop μ-loop
 bump-requires c κs =
