@@ -6,7 +6,7 @@ ghost use lib.Count.{ones};
 ghost use lib.ListN.{length, getD};
 ghost use Rattle.pattern.specs.Word.{bit, Put, Done, Seeded, OtherRows, rowOnes, CommonWord, Clear, Linked};
 ghost use Rattle.base.specs.Sums.{sum, one};
-ghost use Rattle.csr.specs.Pattern.{neighbours, row};
+ghost use Rattle.csr.specs.Pattern.{neighbours};
 ghost use Rattle.csr.specs.Csr.{Csr, RowOf};
 ghost use Rattle.pattern.specs.Links.{orElse, firstOf, links, Inside, Firsts};
 ghost use mathlib.Core.Bool.{cond};
