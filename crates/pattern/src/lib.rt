@@ -1,12 +1,12 @@
 // The pattern of the factor: 256 bits for each row, four words of 64.
 ghost use mathlib.Core.Path.{_≡_};
 ghost use mathlib.Core.Bool.{Bool, true, false, _&&_};
-ghost use Prim.Native.Nat.{ℕ, _+_, _*_, _<_, _≤_};
+ghost use Prim.Native.Nat.{ℕ, _+_, _<_, _≤_};
 ghost use lib.Count.{ones};
 ghost use lib.ListN.{length, getD};
 ghost use Rattle.pattern.specs.Word.{bit, Put, Done, Seeded, OtherRows, rowOnes, CommonWord, Clear, Linked};
 ghost use Rattle.base.specs.Sums.{sum, one};
-ghost use Rattle.csr.specs.Pattern.{neighbours, row};
+ghost use Rattle.csr.specs.Pattern.{neighbours};
 ghost use Rattle.csr.specs.Csr.{Csr, RowOf};
 ghost use Rattle.pattern.specs.Links.{orElse, firstOf, links, Inside, Firsts};
 ghost use mathlib.Core.Bool.{cond};

@@ -8,6 +8,9 @@ ghost use lib.ListN.{length};
 // What stands in the index memory before.
 const OLD: u32 = 77;
 
+// More cases than the file has: a case has at least four words.
+const MOST_CASES: u64 = 16384;
+
 // The bytes of a word.
 const WORD_BYTES: usize = 4;
 
@@ -101,12 +104,12 @@ struct Tally {
     broken: bool,
 }
 
-// A turn for each case; a case has at least four words.
+// A turn for each case.
 fn run_all(s: &[u32]) -> Tally {
     let mut right: u64 = 0;
     let mut wrong: u64 = 0;
     let mut at: usize = 0;
-    let mut turns: u64 = 16384;
+    let mut turns = MOST_CASES;
     while turns > 0 {
         match run_case(s, at) {
             Case::End => return Tally {

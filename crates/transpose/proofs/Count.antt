@@ -20,7 +20,7 @@ use Rattle.lists.specs.declared.What.the-variants.{Numbers, Places}
 use Rattle.lists.specs.declared.Side.the-variants.{Matrix}
 use Rattle.base.proofs.Write.{length-cat, cat-ext, cat-next, length-pick, wrote-join, wrote-as, singles-length}
 use Rattle.lists.proofs.Whole.{side-is, three, three-length}
-use Rattle.transpose.specs.Bins.{Bins, onto, putIn, rowsOf, roomOf, inRow, Grid, EmptyBins, Uncounted, RowCounting, Scattering, Scattered, Tally, Starts, seen, endsFrom, sideIn}
+use Rattle.transpose.specs.Bins.{Bins, onto, putIn, rowsOf, roomOf, inRow, Grid, EmptyBins, Uncounted, RowCounting, Scattering, Scattered, Starts, seen, endsFrom, sideIn}
 use Rattle.transpose.proofs.Fill.{in-step, in-room, in-start, in-end, bins-whole}
 use Rattle.csr.specs.Csr.{RowOf}
 use Rattle.csr.proofs.Rows.{row-of, row-long, in-row, entry-at, entry-below}
@@ -103,6 +103,10 @@ row-counting off cols m i old u l next long t = record {
   few = omega (arith, u .grid .csr .few);
   counts = λ c h. t c (u .clear c (below-has (u .n) c (row off cols i) (u .grid .within i l) h));
 }
+
+-- entry c of a memory counts what bin c holds
+pub record Tally (next : List ℕ) (n : ℕ) (held : ℕ → List ℕ) : Type 0 where
+  pub count : (c : ℕ) → c < n → getD next c 0 ≡ length (held c)
 
 pub tallied : (off cols : List ℕ) (m n : ℕ) (old next : List ℕ) → ((c : ℕ) → c < n → getD old c 0 ≡ 0) → ((c : ℕ) → getD old c 0 ≡ 0 → getD next c 0 ≡ length (seen off cols m c)) → Tally next n (seen off cols m)
 tallied off cols m n old next z t = record { count = λ c h. t c (z c h) }

@@ -58,10 +58,6 @@ pub record Grid (off cols : List ℕ) (m n : ℕ) : Type 0 where
   pub wide : n ≤ 1024
   pub within : (i : ℕ) → i < m → Below n (row off cols i)
 
--- entry c of a memory counts what bin c holds
-pub record Tally (next : List ℕ) (n : ℕ) (held : ℕ → List ℕ) : Type 0 where
-  pub count : (c : ℕ) → c < n → getD next c 0 ≡ length (held c)
-
 -- entry c of a memory is where bin c starts
 pub record Starts (next : List ℕ) (n : ℕ) (size : ℕ → ℕ) : Type 0 where
   pub first : (c : ℕ) → c < n → getD next c 0 ≡ sum c size

@@ -69,7 +69,7 @@ loop-again c =
 put-requires : tie.Need-put-requires Inv-loop μ-loop
 put-requires c κs =
     let s = c .before .before .before .before .before .before .before .before in
-    (c .before .before .loop .inv .1 .words, s .pre .1, s .pre .1)
+    (c .before .before .loop .inv .1 .words, s .pre .1, omega (arith, s .pre .1))
 
 same-length : tie.Need-same-length Inv-loop μ-loop
 same-length c = c .before .before .put .kept .0 ∙ c .before .before .before .before .before .loop .inv .1 .words ∙ sym (c .before .before .before .before .before .before .before .before .before .before .before .pre .2)
