@@ -6,18 +6,6 @@ use Rattle.answer_text.proofs.Texts.{hex-places, hex-is, then-byte}
 use Rattle.answer_text.proofs.put_float.Statement.{statement}
 use Rattle.answer_text.proofs.put_float.Tie as tie
 
-bits-of-requires : tie.Need-bits-of-requires
-bits-of-requires c κs = search needs
-
-hex-requires : tie.Need-hex-requires
-hex-requires c κs = search needs
-
-array-share-prefix-digits : tie.Need-array-share-prefix-digits
-array-share-prefix-digits c = search needs
-
-slice-aggregate-put : tie.Need-slice-aggregate-put
-slice-aggregate-put c = search needs
-
 put-requires : tie.Need-put-requires
 put-requires c κs =
     let made = c .before .before .hex .ensures in
@@ -28,9 +16,6 @@ byte-requires c κs =
     let made = c .before .before .before .before .before .before .hex .ensures in
     let put = c .before .before .before .put in
     omega (arith, put .ensures .next, put .kept .0, made .0 .1, hex-places _ _ (c .before .before .before .before .before .before .before .before .bits-of .ok) (made .1 .0))
-
-same-length : tie.Need-same-length
-same-length c = search needs
 
 returns : tie.Need-returns
 unfolding floatText
@@ -47,12 +32,4 @@ returns c =
 pub put-float-spec : {M : Type 1} → statement M
 put-float-spec =
     tie.close
-    (tie.spec
-    bits-of-requires
-    hex-requires
-    array-share-prefix-digits
-    slice-aggregate-put
-    put-requires
-    byte-requires
-    same-length
-    returns)
+    (tie.spec (λ c κs. search needs) (λ c κs. search needs) (λ c. search needs) (λ c. search needs) put-requires byte-requires (λ c. search needs) returns)

@@ -4,24 +4,6 @@ use Rattle.answer_text.proofs.Texts.{join}
 use Rattle.answer_text.proofs.put_refused.Statement.{statement}
 use Rattle.answer_text.proofs.put_refused.Tie as tie
 
-slice-aggregate-put : tie.Need-slice-aggregate-put
-slice-aggregate-put c = search needs
-
-put-requires : tie.Need-put-requires
-put-requires c κs = search needs
-
-put-whole-requires : tie.Need-put-whole-requires
-put-whole-requires c κs = search needs
-
-put-whole-requires-2 : tie.Need-put-whole-requires-2
-put-whole-requires-2 c κs = search needs
-
-put-whole-requires-3 : tie.Need-put-whole-requires-3
-put-whole-requires-3 c κs = search needs
-
-same-length : tie.Need-same-length
-same-length c = search needs
-
 returns : tie.Need-returns
 unfolding refusedText ascii
 returns c =
@@ -32,11 +14,4 @@ returns c =
 pub put-refused-spec : {M : Type 1} → statement M
 put-refused-spec =
     tie.close
-    (tie.spec
-    slice-aggregate-put
-    put-requires
-    put-whole-requires
-    put-whole-requires-2
-    put-whole-requires-3
-    same-length
-    returns)
+    (tie.spec (λ c. search needs) (λ c κs. search needs) (λ c κs. search needs) (λ c κs. search needs) (λ c κs. search needs) (λ c. search needs) returns)

@@ -6,15 +6,6 @@ use Rattle.answer_text.proofs.Texts.{decimal-places, decimal-is, then-b
 use Rattle.answer_text.proofs.put_whole.Statement.{statement}
 use Rattle.answer_text.proofs.put_whole.Tie as tie
 
-decimal-requires : tie.Need-decimal-requires
-decimal-requires c κs = search needs
-
-array-share-prefix-digits : tie.Need-array-share-prefix-digits
-array-share-prefix-digits c = search needs
-
-slice-aggregate-put : tie.Need-slice-aggregate-put
-slice-aggregate-put c = search needs
-
 put-requires : tie.Need-put-requires
 put-requires c κs =
     let made = c .before .before .decimal .ensures in
@@ -25,9 +16,6 @@ byte-requires c κs =
     let made = c .before .before .before .before .before .before .decimal .ensures in
     let put = c .before .before .before .put in
     omega (arith, put .ensures .next, put .kept .0, made .0 .1, decimal-places _ _ (c .before .before .before .before .before .before .before .before .before .fits .x .fits) (made .1 .0))
-
-same-length : tie.Need-same-length
-same-length c = search needs
 
 returns : tie.Need-returns
 unfolding wholeText decimalText
@@ -41,11 +29,4 @@ returns c =
 pub put-whole-spec : {M : Type 1} → statement M
 put-whole-spec =
     tie.close
-    (tie.spec
-    decimal-requires
-    array-share-prefix-digits
-    slice-aggregate-put
-    put-requires
-    byte-requires
-    same-length
-    returns)
+    (tie.spec (λ c κs. search needs) (λ c. search needs) (λ c. search needs) put-requires byte-requires (λ c. search needs) returns)

@@ -5,29 +5,8 @@ use borrow.Author.Needs.{needs}
 use Rattle.base.proofs.span.Statement.{statement}
 use Rattle.base.proofs.span.Tie as tie
 
-word-at-requires : tie.Need-word-at-requires
-word-at-requires c κs = search needs
-
-add-word-at : tie.Need-add-word-at
-add-word-at c = search needs
-
-word-at-requires-2 : tie.Need-word-at-requires-2
-word-at-requires-2 c κs = search needs
-
-mul-result : tie.Need-mul-result
-mul-result c = search needs
-
-sub-result : tie.Need-sub-result
-sub-result c = search needs
-
-part-result-start : tie.Need-part-result-start
-part-result-start c = search needs
-
-part-result-end : tie.Need-part-result-end
-part-result-end c = search needs
-
 returns : tie.Need-returns
 returns c = ap₂ (λ (a e : ℕ). cut a e (c .before .before .before .before .before .args .list .now)) (c .before .before .word-at .ensures) (c .before .word-at2 .ensures)
 
 pub span-spec : {M : Type 1} → statement M
-span-spec = tie.close (tie.spec word-at-requires add-word-at word-at-requires-2 mul-result sub-result part-result-start part-result-end returns)
+span-spec = tie.close (tie.spec (λ c κs. search needs) (λ c. search needs) (λ c κs. search needs) (λ c. search needs) (λ c. search needs) (λ c. search needs) (λ c. search needs) returns)

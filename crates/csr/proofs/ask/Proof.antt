@@ -19,12 +19,6 @@ empties : (m : ℕ) (offsets : List ℕ) (t values : ℕ) (b : Bool) → b ≡ o
     → firstFrom (λ k. ltb (getD offsets (k + 1) 0) (getD offsets k 0 + 1)) 0 m ≡ firstFrom (empty offsets) 0 m
 empties m offsets t values b e h = short-empty m offsets t (right m offsets t values (sym e ∙ not-false b h))
 
-between-requires : tie.Need-between-requires
-between-requires c κs = search needs
-
-new-requires : tie.Need-new-requires
-new-requires c κs = search needs
-
 returns : tie.Need-returns
 unfolding firstNo
 returns c =
@@ -32,12 +26,6 @@ returns c =
       ← c .before .before .between .ensures,
       not-true (c .before .before .between .result) (c .before .if1 .taken),
     )
-
-between-requires-2 : tie.Need-between-requires-2
-between-requires-2 c κs = search needs
-
-new-requires-2 : tie.Need-new-requires-2
-new-requires-2 c κs = search needs
 
 returns-2 : tie.Need-returns-2
 unfolding firstNo
@@ -54,9 +42,6 @@ offsets-right-requires c κs =
     let m = c .before .before .before .before .before .before .args .m in
     leb-true m 256 (and-right (leb 1 m) (leb m 256) (sym (c .before .before .before .between .ensures) ∙ not-false (c .before .before .before .between .result) (c .before .before .if1 .left)))
 
-new-requires-3 : tie.Need-new-requires-3
-new-requires-3 c κs = search needs
-
 returns-3 : tie.Need-returns-3
 unfolding firstNo
 returns-3 c =
@@ -71,9 +56,6 @@ returns-3 c =
 
 first-short-requires : tie.Need-first-short-requires
 first-short-requires c κs = (right _ _ _ _ (sym (c .before .offsets-right .ensures) ∙ not-false (c .before .offsets-right .result) (c .if3 .left)) .count, omega arith)
-
-new-requires-4 : tie.Need-new-requires-4
-new-requires-4 c κs = search needs
 
 returns-4 : tie.Need-returns-4
 unfolding firstNo
@@ -91,9 +73,6 @@ returns-4 c =
 
 first-bad-requires : tie.Need-first-bad-requires
 first-bad-requires c κs = right _ _ _ _ (sym (c .before .before .before .offsets-right .ensures) ∙ not-false (c .before .before .before .offsets-right .result) (c .before .before .if3 .left))
-
-new-requires-5 : tie.Need-new-requires-5
-new-requires-5 c κs = search needs
 
 returns-5 : tie.Need-returns-5
 unfolding firstNo
@@ -130,20 +109,4 @@ returns-6 c =
 pub ask-spec : {M : Type 1} → statement M
 ask-spec =
     tie.close
-    (tie.spec
-    between-requires
-    new-requires
-    returns
-    between-requires-2
-    new-requires-2
-    returns-2
-    offsets-right-requires
-    new-requires-3
-    returns-3
-    first-short-requires
-    new-requires-4
-    returns-4
-    first-bad-requires
-    new-requires-5
-    returns-5
-    returns-6)
+    (tie.spec (λ c κs. search needs) (λ c κs. search needs) returns (λ c κs. search needs) (λ c κs. search needs) returns-2 offsets-right-requires (λ c κs. search needs) returns-3 first-short-requires (λ c κs. search needs) returns-4 first-bad-requires (λ c κs. search needs) returns-5 returns-6)

@@ -27,9 +27,6 @@ get-row-requires c κs =
     let r = c .before .before .before .before .pre in
     record { here = omega (arith, r .count); rises = r .rises i (omega arith); ends = within (a .m) (a .offsets .now) (length (a .columns .now)) r (a .m - (i + 1)) (i + 1) (omega arith) }
 
-is-bad-requires : tie.Need-is-bad-requires Inv-loop μ-loop
-is-bad-requires c κs = search needs
-
 returns : tie.Need-returns Inv-loop μ-loop
 returns c = found _ _ _ (omega arith) (ap (badRow (c .before .before .before .before .before .before .before .args .n)) (sym (c .before .before .get-row .ensures)) ∙ sym (c .before .is-bad .ensures) ∙ c .if1 .taken) (c .before .before .before .before .loop .inv)
 
@@ -48,14 +45,4 @@ returns-2 c = none _ _ _ (omega arith) (c .before .loop .inv)
 pub first-bad-spec : {M : Type 1} → statement M
 first-bad-spec =
     tie.close
-    (tie.spec
-    Inv-loop
-    μ-loop
-    loop-holds
-    get-row-requires
-    is-bad-requires
-    returns
-    add-i
-    loop-less
-    loop-again
-    returns-2)
+    (tie.spec Inv-loop μ-loop loop-holds get-row-requires (λ c κs. search needs) returns add-i loop-less loop-again returns-2)

@@ -8,33 +8,18 @@ use borrow.Author.Needs.{needs}
 use Rattle.csr.proofs.offsets_right.Statement.{statement}
 use Rattle.csr.proofs.offsets_right.Tie as tie
 
-add-if1 : tie.Need-add-if1
-add-if1 c = search needs
-
 returns : tie.Need-returns
 unfolding offsetsRight
 returns c = simp (ne-eqb _ _ (c .if1 .taken))
-
-shared-slice-read-if2 : tie.Need-shared-slice-read-if2
-shared-slice-read-if2 c = search needs
 
 returns-2 : tie.Need-returns-2
 unfolding offsetsRight
 returns-2 c = simp (eq-eqb _ _ (c .before .before .if1 .left), ne-eqb _ _ (c .if2 .taken))
 
-first-short-requires : tie.Need-first-short-requires
-first-short-requires c κs = search needs
-
 returns-3 : tie.Need-returns-3
 unfolding offsetsRight
 returns-3 c =
     simp (eq-eqb _ _ (c .before .before .before .before .if1 .left), eq-eqb _ _ (c .before .before .if2 .left), ← (c .before .first-short .ensures ∙ short-falls (c .before .before .before .before .before .before .args .offsets .now) (c .before .before .before .before .before .before .args .m)), lt-ltb _ _ (c .if3 .taken))
-
-mul-if4 : tie.Need-mul-if4
-mul-if4 c = search needs
-
-shared-slice-read-if4 : tie.Need-shared-slice-read-if4
-shared-slice-read-if4 c = search needs
 
 cast-if4 : tie.Need-cast-if4
 cast-if4 c = omega (arith, c .shared-slice-known3 .given (c .before .before .before .before .before .before .before .args .m))
@@ -57,16 +42,4 @@ returns-6 c =
 pub offsets-right-spec : {M : Type 1} → statement M
 offsets-right-spec =
     tie.close
-    (tie.spec
-    add-if1
-    returns
-    shared-slice-read-if2
-    returns-2
-    first-short-requires
-    returns-3
-    mul-if4
-    shared-slice-read-if4
-    cast-if4
-    returns-4
-    returns-5
-    returns-6)
+    (tie.spec (λ c. search needs) returns (λ c. search needs) returns-2 (λ c κs. search needs) returns-3 (λ c. search needs) (λ c. search needs) cast-if4 returns-4 returns-5 returns-6)

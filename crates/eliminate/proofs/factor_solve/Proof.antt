@@ -14,13 +14,10 @@ backward-requires c κs =
     let b = s .pre .0 in
     back-in (given-of (b .is) {work = s .args .work .now} (s .pre .1) (s .pre .2)) (two-room (c .before .before .before .factor-forward .ensures (b .off) (b .cols) (b .is) .kept))
 
-same-length : tie.Need-same-length
-same-length c = search needs
-
 returns : tie.Need-returns
 returns c =
     let s = c .before .before .before .before .before .before .before .before .before .before .before in
     λ off cols P. solved-all (given-of P (s .pre .1) (s .pre .2)) (c .before .before .before .before .before .before .factor-forward .ensures off cols P) (c .before .before .backward .ensures)
 
 pub factor-solve-spec : {M : Type 1} → statement M
-factor-solve-spec = tie.close (tie.spec factor-forward-requires backward-requires same-length returns)
+factor-solve-spec = tie.close (tie.spec factor-forward-requires backward-requires (λ c. search needs) returns)

@@ -9,20 +9,11 @@ use Rattle.ipm_c.proofs.Small.{Small, small-plan}
 use Rattle.ipm_c.proofs.ipm_plan.Statement.{statement}
 use Rattle.ipm_c.proofs.ipm_plan.Tie as tie
 
-plan-requires : tie.Need-plan-requires
-plan-requires c κs = search needs
-
-enum-known-w : tie.Need-enum-known-w
-enum-known-w c = search needs
-
 pack-requires : tie.Need-pack-requires
 pack-requires c κs =
     let a = c .before .before .before .before .before .before .before .before .before .before .args in
     let said = sym (c .before .before .before .before .before .plan .ensures .0) ∙ ap toldPlan (c .before .w .given .1) in
     (omega arith, subst Small said (small-plan (a .m) (a .n) (a .offsets .now) (a .columns .now) (length (a .index .now))), omega arith)
-
-enum-known-r : tie.Need-enum-known-r
-enum-known-r c = search needs
 
 pack-requires-2 : tie.Need-pack-requires-2
 pack-requires-2 c κs =
@@ -30,16 +21,10 @@ pack-requires-2 c κs =
     let said = sym (c .before .before .before .before .before .plan .ensures .0) ∙ ap toldPlan (c .before .r .given .1) in
     subst Small said (small-plan (a .m) (a .n) (a .offsets .now) (a .columns .now) (length (a .index .now)))
 
-same-length : tie.Need-same-length
-same-length c = search needs
-
 returns : tie.Need-returns
 returns c =
     let said = sym (ap toldPlan (c .before .before .w .given .1)) ∙ c .before .before .before .before .before .before .plan .ensures .0 in
     (c .pack .ensures ∙ ap packed said, c .before .before .before .before .before .before .plan .ensures .1)
-
-same-length-2 : tie.Need-same-length-2
-same-length-2 c = search needs
 
 returns-2 : tie.Need-returns-2
 returns-2 c =
@@ -49,13 +34,4 @@ returns-2 c =
 pub ipm-plan-spec : {M : Type 1} → statement M
 ipm-plan-spec =
     tie.close
-    (tie.spec
-    plan-requires
-    enum-known-w
-    pack-requires
-    enum-known-r
-    pack-requires-2
-    same-length
-    returns
-    same-length-2
-    returns-2)
+    (tie.spec (λ c κs. search needs) (λ c. search needs) pack-requires (λ c. search needs) pack-requires-2 (λ c. search needs) returns (λ c. search needs) returns-2)

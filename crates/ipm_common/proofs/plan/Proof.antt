@@ -12,9 +12,6 @@ use Rattle.ipm_common.specs.Plan.{roomVerdict, planVerdict, planIndex, l
 use Rattle.ipm_common.proofs.plan.Statement.{statement}
 use Rattle.ipm_common.proofs.plan.Tie as tie
 
-ask-requires : tie.Need-ask-requires
-ask-requires c κs = search needs
-
 enum-told : tie.Need-enum-told
 enum-told c = search needs
 
@@ -23,12 +20,6 @@ plan-accepted-requires c κs =
     let a = c .before .before .before .before .before .before .before .args in
     accepted-of (a .m) (a .n) (a .offsets .now) (a .columns .now) (length (a .columns .now))
     (sym (c .before .before .before .ask .ensures) ∙ ap verdict.toldAsked (c .before .enum-told .given .1))
-
-enum-known-r : tie.Need-enum-known-r
-enum-known-r c = search needs
-
-same-length : tie.Need-same-length
-same-length c = search needs
 
 returns : tie.Need-returns
 unfolding planVerdict planIndex
@@ -51,11 +42,4 @@ returns-2 c =
 pub plan-spec : {M : Type 1} → statement M
 plan-spec =
     tie.close
-    (tie.spec
-    ask-requires
-    enum-told
-    plan-accepted-requires
-    enum-known-r
-    same-length
-    returns
-    returns-2)
+    (tie.spec (λ c κs. search needs) enum-told plan-accepted-requires (λ c. search needs) (λ c. search needs) returns returns-2)

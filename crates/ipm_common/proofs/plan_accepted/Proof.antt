@@ -13,17 +13,8 @@ use Rattle.ipm_common.proofs.Final as fin
 use Rattle.ipm_common.proofs.plan_accepted.Statement.{statement}
 use Rattle.ipm_common.proofs.plan_accepted.Tie as tie
 
-plan-below-requires : tie.Need-plan-below-requires
-plan-below-requires c κs = search needs
-
 words-requires : tie.Need-words-requires
 words-requires c κs = (c .before .before .before .before .before .before .before .pre .csr .few, c .before .before .before .before .before .before .before .pre .wide, c .before .before .before .before .before .before .before .pre .offsets .few, c .before .before .plan-below .ensures .sizes .few)
-
-new-requires : tie.Need-new-requires
-new-requires c κs = search needs
-
-same-length : tie.Need-same-length
-same-length c = search needs
 
 returns : tie.Need-returns
 unfolding roomVerdict
@@ -35,9 +26,6 @@ returns c =
       says = c .new .ensures ∙ rw (lt-leb _ _ short) refl;
       words = c .before .before .before .before .before .plan-below .ensures .words ∙ fin.written-no (a .m) (a .n) (a .offsets .now) (a .columns .now) (a .index .now) _ short;
     }
-
-same-length-2 : tie.Need-same-length-2
-same-length-2 c = search needs
 
 returns-2 : tie.Need-returns-2
 unfolding roomVerdict
@@ -53,4 +41,4 @@ returns-2 c =
 pub plan-accepted-spec : {M : Type 1} → statement M
 plan-accepted-spec =
     tie.close
-    (tie.spec plan-below-requires words-requires new-requires same-length returns same-length-2 returns-2)
+    (tie.spec (λ c κs. search needs) words-requires (λ c κs. search needs) (λ c. search needs) returns (λ c. search needs) returns-2)

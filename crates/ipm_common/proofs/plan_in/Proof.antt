@@ -15,38 +15,11 @@ use Rattle.ipm_common.proofs.Final as fin
 use Rattle.ipm_common.proofs.plan_in.Statement.{statement}
 use Rattle.ipm_common.proofs.plan_in.Tie as tie
 
-slice-aggregate-pattern : tie.Need-slice-aggregate-pattern
-slice-aggregate-pattern c = search needs
-
 pattern-requires : tie.Need-pattern-requires
 pattern-requires c κs =
     let s = c .before .before .before .before .before .before .before .before .before in
     let a = s .args in
     (s .pre .0 .csr, inside (a .offsets .now) (a .columns .now) (a .m) (a .n) (s .pre .0), refl, λ i h. clear-zeros 1024 i)
-
-slice-aggregate-list-rows : tie.Need-slice-aggregate-list-rows
-slice-aggregate-list-rows c = search needs
-
-list-rows-requires : tie.Need-list-rows-requires
-list-rows-requires c κs = search needs
-
-slice-aggregate-count-all : tie.Need-slice-aggregate-count-all
-slice-aggregate-count-all c = search needs
-
-count-all-requires : tie.Need-count-all-requires
-count-all-requires c κs = search needs
-
-cast-if1 : tie.Need-cast-if1
-cast-if1 c = search needs
-
-same-length : tie.Need-same-length
-same-length c = search needs
-
-same-length-2 : tie.Need-same-length-2
-same-length-2 c = search needs
-
-same-length-3 : tie.Need-same-length-3
-same-length-3 c = search needs
 
 returns : tie.Need-returns
 returns c =
@@ -58,15 +31,6 @@ words-requires c κs =
     let p = c .before .before .before .before .before .before .before .before .before .before .before .before .before .before .before .before .before .before .before .before .before .before .before .before .before .before .before .before .pre .0 in
     (p .csr .few, omega (arith, p .csr .few, p .wide), p .offsets .few, c .before .before .before .before .count-all .ensures .few)
 
-same-length-4 : tie.Need-same-length-4
-same-length-4 c = search needs
-
-same-length-5 : tie.Need-same-length-5
-same-length-5 c = search needs
-
-same-length-6 : tie.Need-same-length-6
-same-length-6 c = search needs
-
 returns-2 : tie.Need-returns-2
 returns-2 c =
     let a = c .before .before .before .before .before .before .before .before .before .before .before .before .before .before .before .before .before .before .before .before .before .before .before .before .before .before .before .before .before .before .args in
@@ -75,9 +39,6 @@ returns-2 c =
       sizes = c .before .before .before .before .before .before .count-all .ensures;
       words = sym (fin.written-no (a .m) (a .n) (a .offsets .now) (a .columns .now) (a .index .now) (a .below) (omega (arith, w, c .if2 .taken)));
     }
-
-slice-aggregate-put-plan : tie.Need-slice-aggregate-put-plan
-slice-aggregate-put-plan c = search needs
 
 put-plan-requires : tie.Need-put-plan-requires
 put-plan-requires c κs =
@@ -104,15 +65,6 @@ same-length-8 c = c .before .before .before .before .before .before .before .bef
 same-length-9 : tie.Need-same-length-9
 same-length-9 c = c .before .before .before .before .before .before .before .before .put-plan .kept .1 .1 .1 .1 .1 .1 .1 .0
 
-same-length-10 : tie.Need-same-length-10
-same-length-10 c = search needs
-
-same-length-11 : tie.Need-same-length-11
-same-length-11 c = search needs
-
-same-length-12 : tie.Need-same-length-12
-same-length-12 c = search needs
-
 returns-3 : tie.Need-returns-3
 returns-3 c =
     let s = c .before .before .before .before .before .before .before .before .before .before .before .before .before .before .before .before .before .before .before .before .before .before .before .before .before .before .before .before .before .before .before .before .before .before .before .before .before .before .before .before .before .before .before .before .before .before in
@@ -132,29 +84,4 @@ returns-3 c =
 pub plan-in-spec : {M : Type 1} → statement M
 plan-in-spec =
     tie.close
-    (tie.spec
-    slice-aggregate-pattern
-    pattern-requires
-    slice-aggregate-list-rows
-    list-rows-requires
-    slice-aggregate-count-all
-    count-all-requires
-    cast-if1
-    same-length
-    same-length-2
-    same-length-3
-    returns
-    words-requires
-    same-length-4
-    same-length-5
-    same-length-6
-    returns-2
-    slice-aggregate-put-plan
-    put-plan-requires
-    same-length-7
-    same-length-8
-    same-length-9
-    same-length-10
-    same-length-11
-    same-length-12
-    returns-3)
+    (tie.spec (λ c. search needs) pattern-requires (λ c. search needs) (λ c κs. search needs) (λ c. search needs) (λ c κs. search needs) (λ c. search needs) (λ c. search needs) (λ c. search needs) (λ c. search needs) returns words-requires (λ c. search needs) (λ c. search needs) (λ c. search needs) returns-2 (λ c. search needs) put-plan-requires same-length-7 same-length-8 same-length-9 (λ c. search needs) (λ c. search needs) (λ c. search needs) returns-3)

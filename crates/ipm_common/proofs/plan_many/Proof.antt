@@ -7,41 +7,12 @@ use Rattle.lists.proofs.Few.{pairs-256}
 use Rattle.ipm_common.proofs.plan_many.Statement.{statement}
 use Rattle.ipm_common.proofs.plan_many.Tie as tie
 
-slice-aggregate-plan-in : tie.Need-slice-aggregate-plan-in
-slice-aggregate-plan-in c = search needs
-
-slice-aggregate-plan-in-2 : tie.Need-slice-aggregate-plan-in-2
-slice-aggregate-plan-in-2 c = search needs
-
-slice-aggregate-plan-in-3 : tie.Need-slice-aggregate-plan-in-3
-slice-aggregate-plan-in-3 c = search needs
-
-slice-aggregate-plan-in-4 : tie.Need-slice-aggregate-plan-in-4
-slice-aggregate-plan-in-4 c = search needs
-
-slice-aggregate-plan-in-5 : tie.Need-slice-aggregate-plan-in-5
-slice-aggregate-plan-in-5 c = search needs
-
 plan-in-requires : tie.Need-plan-in-requires
 plan-in-requires c κs =
     let s = c .before .before .before .before .before .before .before .before .before in
     (s .pre, memories-for 256 1024 32896 pairs-256 (omega arith) (omega arith) (s .args .m) (s .args .n) (s .pre .csr .few) (s .pre .wide) _ _ _ _ _ refl refl refl refl refl)
 
-same-length : tie.Need-same-length
-same-length c = search needs
-
-returns : tie.Need-returns
-returns c = search needs
-
 pub plan-many-spec : {M : Type 1} → statement M
 plan-many-spec =
     tie.close
-    (tie.spec
-    slice-aggregate-plan-in
-    slice-aggregate-plan-in-2
-    slice-aggregate-plan-in-3
-    slice-aggregate-plan-in-4
-    slice-aggregate-plan-in-5
-    plan-in-requires
-    same-length
-    returns)
+    (tie.spec (λ c. search needs) (λ c. search needs) (λ c. search needs) (λ c. search needs) (λ c. search needs) plan-in-requires (λ c. search needs) (λ c. search needs))

@@ -29,18 +29,6 @@ transpose-requires-2 c κs =
     let u = c .before .before .before .before .before .before .before .before .before .transpose in
     (accepted-grid (a .off .now) (a .cols .now) (a .m) (a .n) (s .pre .0), omega (arith, s .pre .3, fin.plan-long (a .off .now) (a .cols .now) (a .m) (a .n) (a .p .now) (a .lindptr .now) (a .lindices .now) (s .pre .1) (s .pre .2), t .kept .1 .1 .1 .1 .1 .1 .1 .1 .0, t .ensures .next, u .kept .1 .1 .1 .1 .1 .1 .1 .1 .0, u .ensures .next), omega (arith, s .pre .5 .columns, u .kept .1 .1 .1 .1 .1 .1 .0), omega (arith, s .pre .6 .columns, u .kept .1 .1 .1 .1 .1 .1 .1 .0))
 
-same-length : tie.Need-same-length
-same-length c = search needs
-
-same-length-2 : tie.Need-same-length-2
-same-length-2 c = search needs
-
-same-length-3 : tie.Need-same-length-3
-same-length-3 c = search needs
-
-same-length-4 : tie.Need-same-length-4
-same-length-4 c = search needs
-
 returns : tie.Need-returns
 returns c =
     let s = c .before .before .before .before .before .before .before .before .before .before .before .before .before .before .before .before .before .before .before .before .before .before .before .before .before .before .before .before .before .before .before .before .before .before .before .before in
@@ -53,12 +41,4 @@ returns c =
 pub put-plan-spec : {M : Type 1} → statement M
 put-plan-spec =
     tie.close
-    (tie.spec
-    put-ten-requires
-    transpose-requires
-    transpose-requires-2
-    same-length
-    same-length-2
-    same-length-3
-    same-length-4
-    returns)
+    (tie.spec put-ten-requires transpose-requires transpose-requires-2 (λ c. search needs) (λ c. search needs) (λ c. search needs) (λ c. search needs) returns)

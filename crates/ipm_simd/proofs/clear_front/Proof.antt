@@ -19,9 +19,6 @@ abbrev μ-loop : tie.MeasureT-loop
 loop-holds : tie.Need-loop-holds Inv-loop μ-loop
 loop-holds c = (omega arith, refl, refl)
 
-mul-work : tie.Need-mul-work Inv-loop μ-loop
-mul-work c = search needs
-
 slice-write-work : tie.Need-slice-write-work Inv-loop μ-loop
 slice-write-work c = omega (arith, c .before .before .pre, c .before .loop .inv .1)
 
@@ -50,4 +47,4 @@ returns c =
     cleared-all (e .args .work .now) (l .work) null (l .i) (e .args .k) (l .inv .2) (omega (arith, l .inv .0))
 
 pub clear-front-spec : {M : Type 1} → statement M
-clear-front-spec = tie.close (tie.spec Inv-loop μ-loop loop-holds mul-work slice-write-work add-i loop-less loop-again same-length returns)
+clear-front-spec = tie.close (tie.spec Inv-loop μ-loop loop-holds (λ c. search needs) slice-write-work add-i loop-less loop-again same-length returns)

@@ -17,14 +17,8 @@ abbrev μ-loop : tie.MeasureT-loop
 loop-holds : tie.Need-loop-holds Inv-loop μ-loop
 loop-holds c = (omega arith, refl, refl)
 
-mul-output : tie.Need-mul-output Inv-loop μ-loop
-mul-output c = search needs
-
 shared-slice-read-output : tie.Need-shared-slice-read-output Inv-loop μ-loop
 shared-slice-read-output c = omega (arith, c .before .before .before .pre, c .before .before .loop .inv .1)
-
-mul-output-2 : tie.Need-mul-output-2 Inv-loop μ-loop
-mul-output-2 c = search needs
 
 slice-write-output : tie.Need-slice-write-output Inv-loop μ-loop
 slice-write-output c = omega (arith, c .before .before .before .pre, c .before .before .loop .inv .1)
@@ -54,4 +48,4 @@ returns c =
     copied-all (e .args .work .now) (e .args .output .now) (l .output) (l .i) (l .inv .2) (omega (arith, l .inv .0, l .inv .1))
 
 pub copy-front-spec : {M : Type 1} → statement M
-copy-front-spec = tie.close (tie.spec Inv-loop μ-loop loop-holds mul-output shared-slice-read-output mul-output-2 slice-write-output add-i loop-less loop-again same-length returns)
+copy-front-spec = tie.close (tie.spec Inv-loop μ-loop loop-holds (λ c. search needs) shared-slice-read-output (λ c. search needs) slice-write-output add-i loop-less loop-again same-length returns)

@@ -4,14 +4,8 @@ use borrow.Author.Needs.{needs}
 use Rattle.ipm_simd.proofs.lengths_right.Statement.{statement}
 use Rattle.ipm_simd.proofs.lengths_right.Tie as tie
 
-mul-if1 : tie.Need-mul-if1
-mul-if1 c = search needs
-
 returns : tie.Need-returns
 returns c = simp (ne-eqb _ _ (c .if1 .taken))
-
-mul-if2 : tie.Need-mul-if2
-mul-if2 c = search needs
 
 returns-2 : tie.Need-returns-2
 returns-2 c = simp (eq-eqb _ _ (c .before .before .if1 .left), ne-eqb _ _ (c .if2 .taken))
@@ -19,12 +13,9 @@ returns-2 c = simp (eq-eqb _ _ (c .before .before .if1 .left), ne-eqb _ _ (c .if
 returns-3 : tie.Need-returns-3
 returns-3 c = simp (eq-eqb _ _ (c .before .before .before .before .if1 .left), eq-eqb _ _ (c .before .before .if2 .left), ne-eqb _ _ (c .if3 .taken))
 
-mul-result : tie.Need-mul-result
-mul-result c = search needs
-
 returns-4 : tie.Need-returns-4
 returns-4 c = lengths-last _ _ _ _ _ _ (c .before .before .before .before .if1 .left) (c .before .before .if2 .left) (c .if3 .left)
 
 pub lengths-right-spec : {M : Type 1} → statement M
 lengths-right-spec =
-    tie.close (tie.spec mul-if1 returns mul-if2 returns-2 returns-3 mul-result returns-4)
+    tie.close (tie.spec (λ c. search needs) returns (λ c. search needs) returns-2 returns-3 (λ c. search needs) returns-4)

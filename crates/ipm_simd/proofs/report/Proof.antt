@@ -8,29 +8,11 @@ use Rattle.ipm_simd.specs.Parts.{written}
 use Rattle.ipm_simd.proofs.report.Statement.{statement}
 use Rattle.ipm_simd.proofs.report.Tie as tie
 
-enum-known-outcome : tie.Need-enum-known-outcome
-enum-known-outcome c = search needs
-
 copy-front-requires : tie.Need-copy-front-requires
 copy-front-requires c κs = c .before .before .before .before .before .before .pre .0
 
-enum-known-outcome-2 : tie.Need-enum-known-outcome-2
-enum-known-outcome-2 c = search needs
-
 cast-new : tie.Need-cast-new
 cast-new c = let e = c .before .before .before .before .before in omega (arith, e .pre .1 _ _ (c .before .outcome2 .given .1))
-
-new-requires : tie.Need-new-requires
-new-requires c κs = search needs
-
-enum-known-outcome-3 : tie.Need-enum-known-outcome-3
-enum-known-outcome-3 c = search needs
-
-new-requires-2 : tie.Need-new-requires-2
-new-requires-2 c κs = search needs
-
-same-length : tie.Need-same-length
-same-length c = search needs
 
 returns : tie.Need-returns
 returns c =
@@ -51,4 +33,4 @@ returns-3 c =
     (c .new2 .ensures ∙ sym (ap outcomeVerdict q), sym (ap (λ (o : Outcome). written o (take (length (e .args .output .now)) (e .args .work .now)) (e .args .output .now)) q))
 
 pub report-spec : {M : Type 1} → statement M
-report-spec = tie.close (tie.spec enum-known-outcome copy-front-requires enum-known-outcome-2 cast-new new-requires enum-known-outcome-3 new-requires-2 same-length returns returns-2 returns-3)
+report-spec = tie.close (tie.spec (λ c. search needs) copy-front-requires (λ c. search needs) cast-new (λ c κs. search needs) (λ c. search needs) (λ c κs. search needs) (λ c. search needs) returns returns-2 returns-3)

@@ -8,12 +8,6 @@ use Rattle.ipm_simd.proofs.Solves.{solved-on, solved-not}
 use Rattle.ipm_simd.proofs.solve.Statement.{statement}
 use Rattle.ipm_simd.proofs.solve.Tie as tie
 
-ask-requires : tie.Need-ask-requires
-ask-requires c κs = search needs
-
-enum-known-r : tie.Need-enum-known-r
-enum-known-r c = search needs
-
 enum-told : tie.Need-enum-told
 enum-told c = search needs
 
@@ -30,19 +24,10 @@ returns c =
     let e = c .before .before .before .before .before .before .before .before .before .before .before .before .before in
     solved-not (given (e .args .m) (e .args .n) (e .args .s) (e .args .offsets .now) (e .args .columns .now) (e .args .values .now) (e .args .b .now) (e .args .c .now) (e .args .tolerances .now) (e .args .limit)) (lent (e .args .output .now) (e .args .index .now) (e .args .work .now)) (c .before .r .given .0 .0) (sym (ap toldAsked (c .before .r .given .1)) ∙ c .before .before .before .ask .ensures)
 
-same-length : tie.Need-same-length
-same-length c = search needs
-
-same-length-2 : tie.Need-same-length-2
-same-length-2 c = search needs
-
-same-length-3 : tie.Need-same-length-3
-same-length-3 c = search needs
-
 returns-2 : tie.Need-returns-2
 returns-2 c =
     let e = c .before .before .before .before .before .before .before .before .before .before .before .before .before .before .before .before .before .before .before .before .before .before in
     solved-on (given (e .args .m) (e .args .n) (e .args .s) (e .args .offsets .now) (e .args .columns .now) (e .args .values .now) (e .args .b .now) (e .args .c .now) (e .args .tolerances .now) (e .args .limit)) (lent (e .args .output .now) (e .args .index .now) (e .args .work .now)) (sym (ap toldAsked (c .before .before .before .before .before .before .before .before .before .before .enum-told .given .1)) ∙ c .before .before .before .before .before .before .before .before .before .before .before .before .ask .ensures) (c .before .before .before .before .before .before .solve-accepted .ensures)
 
 pub solve-spec : {M : Type 1} → statement M
-solve-spec = tie.close (tie.spec ask-requires enum-known-r enum-told solve-accepted-requires returns same-length same-length-2 same-length-3 returns-2)
+solve-spec = tie.close (tie.spec (λ c κs. search needs) (λ c. search needs) enum-told solve-accepted-requires returns (λ c. search needs) (λ c. search needs) (λ c. search needs) returns-2)

@@ -13,21 +13,6 @@ use borrow.Author.Needs.{needs}
 use Rattle.ipm_simd.proofs.solve_accepted.Statement.{statement}
 use Rattle.ipm_simd.proofs.solve_accepted.Tie as tie
 
-entries-below-requires : tie.Need-entries-below-requires
-entries-below-requires c κs = search needs
-
-plan-below-requires : tie.Need-plan-below-requires
-plan-below-requires c κs = search needs
-
-cast-e : tie.Need-cast-e
-cast-e c = search needs
-
-cast-d : tie.Need-cast-d
-cast-d c = search needs
-
-new-requires : tie.Need-new-requires
-new-requires c κs = search needs
-
 words-requires : tie.Need-words-requires
 words-requires c κs =
     let s = c .before .before .before .before .before .before .before .before .before .before .before .before .before .before .before .before .before in
@@ -40,9 +25,6 @@ ask-sizes-requires c κs =
     let s = c .before .before .before .before .before .before .before .before .before .before .before .before .before .before .before .before .before .before in
     let k = s .pre .0 .csr in
     rw (c .before .new .ensures) (k .few, s .pre .0 .wide, omega (arith, c .before .before .before .before .before .before .plan-below .ensures .sizes .stored, few-stored _ _ _ k))
-
-enum-known-r : tie.Need-enum-known-r
-enum-known-r c = search needs
 
 enum-told : tie.Need-enum-told
 enum-told c = search needs
@@ -77,9 +59,6 @@ solve-planned-requires c κs =
       },
     )
 
-same-length : tie.Need-same-length
-same-length c = search needs
-
 returns : tie.Need-returns
 returns c =
     let s = c .before .before .before .before .before .before .before .before .before .before .before .before .before .before .before .before .before .before .before .before .before .before in
@@ -94,15 +73,6 @@ returns c =
     let r = c .before .r .given .0 .0 in
     subst (λ (x : List ℕ). Continued a B (lent (s .args .output .now) x (s .args .work .now)) (answers.Refused r)) (sym (c .before .before .before .before .before .before .before .before .before .before .plan-below .ensures .words ∙ index-kept a B (z .e) (z .s) (z .d) k (c .before .before .before .before .before .before .before .before .before .before .before .before .entries-below .result) bound r v))
     (refused-here a B (z .e) (z .s) (z .d) k r v)
-
-same-length-2 : tie.Need-same-length-2
-same-length-2 c = search needs
-
-same-length-3 : tie.Need-same-length-3
-same-length-3 c = search needs
-
-same-length-4 : tie.Need-same-length-4
-same-length-4 c = search needs
 
 returns-2 : tie.Need-returns-2
 returns-2 c =
@@ -121,20 +91,4 @@ returns-2 c =
 pub solve-accepted-spec : {M : Type 1} → statement M
 solve-accepted-spec =
     tie.close
-    (tie.spec
-    entries-below-requires
-    plan-below-requires
-    cast-e
-    cast-d
-    new-requires
-    words-requires
-    ask-sizes-requires
-    enum-known-r
-    enum-told
-    solve-planned-requires
-    same-length
-    returns
-    same-length-2
-    same-length-3
-    same-length-4
-    returns-2)
+    (tie.spec (λ c κs. search needs) (λ c κs. search needs) (λ c. search needs) (λ c. search needs) (λ c κs. search needs) words-requires ask-sizes-requires (λ c. search needs) enum-told solve-planned-requires (λ c. search needs) returns (λ c. search needs) (λ c. search needs) (λ c. search needs) returns-2)

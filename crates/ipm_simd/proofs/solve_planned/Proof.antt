@@ -29,12 +29,6 @@ report-requires c κs =
 clear-front-requires : tie.Need-clear-front-requires
 clear-front-requires c κs = let p = c .before .before .before .before .before .before .before .before .before .before .before .before .before .before .before .before .before .before .before .before .pre .1 in omega (arith, p .work, c .before .before .before .before .before .before .before .before .run .ensures .0 .size, c .before .before .before .before .before .before .before .before .before .before .numbers .ensures)
 
-same-length : tie.Need-same-length
-same-length c = search needs
-
-same-length-2 : tie.Need-same-length-2
-same-length-2 c = search needs
-
 returns : tie.Need-returns
 returns c =
     let e = c .before .before .before .before .before .before .before .before .before .before .before .before .before .before .before .before .before .before .before .before .before .before .before in
@@ -46,11 +40,4 @@ returns c =
 pub solve-planned-spec : {M : Type 1} → statement M
 solve-planned-spec =
     tie.close
-    (tie.spec
-    numbers-requires
-    run-requires
-    report-requires
-    clear-front-requires
-    same-length
-    same-length-2
-    returns)
+    (tie.spec numbers-requires run-requires report-requires clear-front-requires (λ c. search needs) (λ c. search needs) returns)

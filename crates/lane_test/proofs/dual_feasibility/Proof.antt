@@ -8,11 +8,8 @@ use Rattle.lane_test.proofs.dual_feasibility.Tie as tie
 dual-squares-requires : tie.Need-dual-squares-requires
 dual-squares-requires c κs = c .before .before .before .before .before .before .pre
 
-root-over-requires : tie.Need-root-over-requires
-root-over-requires c κs = search needs
-
 returns : tie.Need-returns
 returns c = let s = c .before .before .before .before .before .before .before .before in on (s .pre .1 .wide) {f = λ t. √ (at (c .before .dual-squares .result) t) ⊘ at (s .args .by) t} (c .root-over .ensures) ▹ (λ t b. rw (c .before .dual-squares .ensures .lane t b))
 
 pub dual-feasibility-spec : {M : Type 1} → statement M
-dual-feasibility-spec = tie.close (tie.spec dual-squares-requires root-over-requires returns)
+dual-feasibility-spec = tie.close (tie.spec dual-squares-requires (λ c κs. search needs) returns)

@@ -8,11 +8,8 @@ use Rattle.lane_test.proofs.gamma.Tie as tie
 dot-product-requires : tie.Need-dot-product-requires
 dot-product-requires c κs = let P = c .before .pre in (all-w P, all-slack-y P, P .wide)
 
-add4-requires : tie.Need-add4-requires
-add4-requires c κs = search needs
-
 returns : tie.Need-returns
 returns c = let s = c .before .before .before in each-on (s .pre .wide) (add binary64) (c .add4 .ensures) (on-self {v = s .args .zx}) (c .before .dot-product .ensures)
 
 pub gamma-spec : {M : Type 1} → statement M
-gamma-spec = tie.close (tie.spec dot-product-requires add4-requires returns)
+gamma-spec = tie.close (tie.spec dot-product-requires (λ c κs. search needs) returns)

@@ -13,9 +13,6 @@ regions-requires c κs = let s = c .before in omega (arith, s .pre .0, s .pre .1
 squares-and-products-requires : tie.Need-squares-and-products-requires
 squares-and-products-requires c κs = let s = c .before .before in rw (c .regions .ensures) (omega (arith, s .pre .3), omega (arith, s .pre .3), s .pre .4)
 
-root4-requires : tie.Need-root4-requires
-root4-requires c κs = search needs
-
 vector-norm-requires : tie.Need-vector-norm-requires
 vector-norm-requires c κs = let s = c .before .before .before .before .before .before in rw (c .before .before .before .before .regions .ensures) (omega (arith, s .pre .3), s .pre .4)
 
@@ -35,11 +32,4 @@ returns c =
 pub measure-spec : {M : Type 1} → statement M
 measure-spec =
     tie.close
-    (tie.spec
-    regions-requires
-    squares-and-products-requires
-    root4-requires
-    vector-norm-requires
-    gamma-requires
-    mu-in-requires
-    returns)
+    (tie.spec regions-requires squares-and-products-requires (λ c κs. search needs) vector-norm-requires gamma-requires mu-in-requires returns)

@@ -8,11 +8,8 @@ use Rattle.lane_test.proofs.primal_feasibility.Tie as tie
 primal-squares-requires : tie.Need-primal-squares-requires
 primal-squares-requires c κs = c .before .before .before .before .before .pre
 
-root-over-requires : tie.Need-root-over-requires
-root-over-requires c κs = search needs
-
 returns : tie.Need-returns
 returns c = let s = c .before .before .before .before .before .before .before in on (s .pre .1 .wide) {f = λ t. √ (at (c .before .primal-squares .result) t) ⊘ at (s .args .by) t} (c .root-over .ensures) ▹ (λ t b. rw (c .before .primal-squares .ensures .lane t b))
 
 pub primal-feasibility-spec : {M : Type 1} → statement M
-primal-feasibility-spec = tie.close (tie.spec primal-squares-requires root-over-requires returns)
+primal-feasibility-spec = tie.close (tie.spec primal-squares-requires (λ c κs. search needs) returns)

@@ -31,9 +31,6 @@ dual-feasibility-requires c κs =
     let s = c .before .before .before .before .before .before .before .before .before .before .before .before .before .before .before .before .before in
     rw (c .before .before .before .before .regions .ensures, c .before .before .before .atindptr .ensures, c .before .before .atindices .ensures, c .before .atmap .ensures) (cols-for (prepared (s .pre .0)) .ranges, laid (s .pre .1 .wide) (s .pre .2), record { lanes = s .pre .1 .within; long = s .pre .1 .c-long })
 
-gap-in-requires : tie.Need-gap-in-requires
-gap-in-requires c κs = search needs
-
 judge4-requires : tie.Need-judge4-requires
 judge4-requires c κs = let s = c .before .before .before .before .before .before .before .before .before .before .before .before .before .before .before .before .before .before .before in (s .pre .1 .lanes, s .pre .1 .within, s .pre .1 .tol-long, s .pre .1 .wide)
 
@@ -48,13 +45,4 @@ returns c =
 pub test-spec : {M : Type 1} → statement M
 test-spec =
     tie.close
-    (tie.spec
-    regions-requires
-    atindptr-requires
-    atindices-requires
-    atmap-requires
-    primal-feasibility-requires
-    dual-feasibility-requires
-    gap-in-requires
-    judge4-requires
-    returns)
+    (tie.spec regions-requires atindptr-requires atindices-requires atmap-requires primal-feasibility-requires dual-feasibility-requires (λ c κs. search needs) judge4-requires returns)

@@ -8,12 +8,9 @@ use Rattle.lane_test.proofs.vector_norm.Tie as tie
 dot-product-requires : tie.Need-dot-product-requires
 dot-product-requires c κs = let s = c .before in (s .pre .0, s .pre .0, s .pre .1)
 
-root4-requires : tie.Need-root4-requires
-root4-requires c κs = search needs
-
 returns : tie.Need-returns
 unfolding norm
 returns c = root-on (c .before .before .before .pre .1) (c .root4 .ensures) (c .before .dot-product .ensures)
 
 pub vector-norm-spec : {M : Type 1} → statement M
-vector-norm-spec = tie.close (tie.spec dot-product-requires root4-requires returns)
+vector-norm-spec = tie.close (tie.spec dot-product-requires (λ c κs. search needs) returns)

@@ -7,18 +7,6 @@ use borrow.Author.Needs.{needs}
 use Rattle.lanes.proofs.above_zero.Statement.{statement}
 use Rattle.lanes.proofs.above_zero.Tie as tie
 
-array-read-if1 : tie.Need-array-read-if1
-array-read-if1 c = search needs
-
-array-read-if2 : tie.Need-array-read-if2
-array-read-if2 c = search needs
-
-array-read-if3 : tie.Need-array-read-if3
-array-read-if3 c = search needs
-
-array-read-if4 : tie.Need-array-read-if4
-array-read-if4 c = search needs
-
 returns : tie.Need-returns
 returns c =
     λ _.
@@ -34,11 +22,4 @@ returns-3 c = λ h. absurd (false≢true h)
 pub above-zero-spec : {M : Type 1} → statement M
 above-zero-spec =
     tie.close
-    (tie.spec
-    array-read-if1
-    array-read-if2
-    array-read-if3
-    array-read-if4
-    returns
-    returns-2
-    returns-3)
+    (tie.spec (λ c. search needs) (λ c. search needs) (λ c. search needs) (λ c. search needs) returns returns-2 returns-3)

@@ -6,11 +6,8 @@ use Rattle.lanes.proofs.Quads.{map-lanes}
 use Rattle.lanes.proofs.root4.Statement.{statement}
 use Rattle.lanes.proofs.root4.Tie as tie
 
-root4-requires : tie.Need-root4-requires
-root4-requires c κs = search needs
-
 returns : tie.Need-returns
 returns c = c .root4 .ensures ∙ map-lanes (root binary64) (c .before .args .a) (c .before .good .0 .1 .0 .1)
 
 pub root4-spec : {M : Type 1} → statement M
-root4-spec = tie.close (tie.spec root4-requires returns)
+root4-spec = tie.close (tie.spec (λ c κs. search needs) returns)

@@ -29,23 +29,8 @@ abbrev μ-loop : tie.MeasureT-loop
 loop-holds : tie.Need-loop-holds Inv-loop μ-loop
 loop-holds c = (omega arith, λ j h. absurd (omega arith))
 
-mul-t : tie.Need-mul-t Inv-loop μ-loop
-mul-t c = search needs
-
-array-copy-out-t : tie.Need-array-copy-out-t Inv-loop μ-loop
-array-copy-out-t c = search needs
-
-is-done-requires : tie.Need-is-done-requires Inv-loop μ-loop
-is-done-requires c κs = search needs
-
 returns : tie.Need-returns Inv-loop μ-loop
 returns c = sym (first-at (λ j. not (isDone (getD (c .before .before .before .before .before .args .t1) j spoilt))) (c .before .before .before .before .before .args .width) (c .before .before .before .before .loop .l) (omega arith) (sym (ap not (c .before .is-done .ensures)) ∙ c .if1 .taken) (c .before .before .before .before .loop .inv .1))
-
-add-l : tie.Need-add-l Inv-loop μ-loop
-add-l c = search needs
-
-loop-less : tie.Need-loop-less Inv-loop μ-loop
-loop-less c = search needs
 
 loop-again : tie.Need-loop-again Inv-loop μ-loop
 loop-again c = (omega arith, one-more (c .before .before .before .before .before .args .t1) (c .before .before .before .before .loop .l) (c .before .before .before .before .loop .inv .1) (sym (ap not (c .before .is-done .ensures)) ∙ c .if1 .left))
@@ -56,15 +41,4 @@ returns-2 c = sym (first-all (λ j. not (isDone (getD (c .before .before .args .
 pub lowest-undone-spec : {M : Type 1} → statement M
 lowest-undone-spec =
     tie.close
-    (tie.spec
-    Inv-loop
-    μ-loop
-    loop-holds
-    mul-t
-    array-copy-out-t
-    is-done-requires
-    returns
-    add-l
-    loop-less
-    loop-again
-    returns-2)
+    (tie.spec Inv-loop μ-loop loop-holds (λ c. search needs) (λ c. search needs) (λ c κs. search needs) returns (λ c. search needs) (λ c. search needs) loop-again returns-2)

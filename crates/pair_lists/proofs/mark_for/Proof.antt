@@ -5,15 +5,6 @@ use borrow.Author.Needs.{needs}
 use Rattle.pair_lists.proofs.mark_for.Statement.{statement}
 use Rattle.pair_lists.proofs.mark_for.Tie as tie
 
-reads-marks-requires : tie.Need-reads-marks-requires
-reads-marks-requires c κs = search needs
-
-mark-row-requires : tie.Need-mark-row-requires
-mark-row-requires c κs = search needs
-
-same-length : tie.Need-same-length
-same-length c = search needs
-
 returns : tie.Need-returns
 returns c = (λ e. c .before .before .mark-row .ensures, λ e. absurd (true≢false (sym (c .before .before .before .before .if1 .taken) ∙ c .before .before .before .before .before .reads-marks .ensures ∙ e)))
 
@@ -23,4 +14,4 @@ returns-2 c =
 
 pub mark-for-spec : {M : Type 1} → statement M
 mark-for-spec =
-    tie.close (tie.spec reads-marks-requires mark-row-requires same-length returns returns-2)
+    tie.close (tie.spec (λ c κs. search needs) (λ c κs. search needs) (λ c. search needs) returns returns-2)

@@ -8,18 +8,12 @@ use borrow.Author.Needs.{needs}
 use Rattle.pair_lists.proofs.products.Statement.{statement}
 use Rattle.pair_lists.proofs.products.Tie as tie
 
-word-at-requires : tie.Need-word-at-requires
-word-at-requires c κs = search needs
-
 sub-places : tie.Need-sub-places
 sub-places c =
     let s = c .before .before .before .before .before in
     let a = s .args in
     let h = thru.cut-fits (a .p .now) (a .lindptr .now) (a .lindices .now) (s .pre .1 .m) (a .r) (a .q) (a .t) (c .word-at .result) (s .pre .1 .rows) (s .pre .1 .inside) (s .pre .1 .first) (s .pre .1 .last) (c .word-at .ensures) in
     omega (arith, h .0, h .1, h .2)
-
-part-places-start : tie.Need-part-places-start
-part-places-start c = search needs
 
 part-places-end : tie.Need-part-places-end
 part-places-end c =
@@ -42,9 +36,6 @@ places-requires c κs =
     let w = c .before .before .word-at in
     (s .pre .0, s .pre .2, thru.cut-below (a .p .now) (a .lindptr .now) (a .lindices .now) (s .pre .1 .m) (a .r) (a .q) (a .t) (w .result) (s .pre .1 .rows) (s .pre .1 .inside) (s .pre .1 .first) (s .pre .1 .last) (w .ensures), thru.cut-short (a .p .now) (a .lindptr .now) (a .lindices .now) (s .pre .1 .m) (a .r) (a .q) (a .t) (w .result) (s .pre .1 .rows) (s .pre .1 .inside) (s .pre .1 .first) (s .pre .1 .last) (w .ensures), omega (arith, s .pre .3, ap length (thru.cut-walk (a .p .now) (a .lindptr .now) (a .lindices .now) (s .pre .1 .m) (a .r) (a .q) (a .t) (w .result) (s .pre .1 .rows) (s .pre .1 .inside) (s .pre .1 .first) (s .pre .1 .last) (w .ensures))))
 
-same-length : tie.Need-same-length
-same-length c = search needs
-
 returns : tie.Need-returns
 returns c =
     let s = c .before .before .before .before .before .before .before .before .before .before in
@@ -55,12 +46,4 @@ returns c =
 pub products-spec : {M : Type 1} → statement M
 products-spec =
     tie.close
-    (tie.spec
-    word-at-requires
-    sub-places
-    part-places-start
-    part-places-end
-    cast-places
-    places-requires
-    same-length
-    returns)
+    (tie.spec (λ c κs. search needs) sub-places (λ c. search needs) part-places-end cast-places places-requires (λ c. search needs) returns)

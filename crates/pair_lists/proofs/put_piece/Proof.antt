@@ -19,9 +19,6 @@ word-requires c κs =
     let t = c .before .enum-told .given .1 in
     omega (arith, s .pre .2, ap length (law.of-AnormIndptr (s .pre .0) (s .pre .1) t))
 
-enum-told-2 : tie.Need-enum-told-2
-enum-told-2 c = search needs
-
 put-shared-requires : tie.Need-put-shared-requires
 put-shared-requires c κs =
     let s = c .before .before .before .before .before .before .before .before .before .before in
@@ -29,9 +26,6 @@ put-shared-requires c κs =
       law.marked (s .pre .0) (s .pre .1) (ap marksRead t),
       omega (arith, s .pre .2, ap length (law.of-AnormIndptrI (s .pre .0) (s .pre .1) t)),
     )
-
-enum-told-3 : tie.Need-enum-told-3
-enum-told-3 c = search needs
 
 put-shared-requires-2 : tie.Need-put-shared-requires-2
 put-shared-requires-2 c κs =
@@ -41,9 +35,6 @@ put-shared-requires-2 c κs =
       omega (arith, s .pre .2, ap length (law.of-AnormIndptrJ (s .pre .0) (s .pre .1) t)),
     )
 
-enum-told-4 : tie.Need-enum-told-4
-enum-told-4 c = search needs
-
 put-shared-requires-3 : tie.Need-put-shared-requires-3
 put-shared-requires-3 c κs =
     let s = c .before .before .before .before .before .before .before .before .before .before in
@@ -52,17 +43,11 @@ put-shared-requires-3 c κs =
       omega (arith, s .pre .2, ap length (law.of-AnormIndices (s .pre .0) (s .pre .1) t)),
     )
 
-enum-told-5 : tie.Need-enum-told-5
-enum-told-5 c = search needs
-
 word-requires-2 : tie.Need-word-requires-2
 word-requires-2 c κs =
     let s = c .before .before .before .before .before .before .before .before .before .before in
     let t = c .before .enum-told5 .given .1 in
     omega (arith, s .pre .2, ap length (law.of-LdecompIndptr (s .pre .0) (s .pre .1) t))
-
-enum-told-6 : tie.Need-enum-told-6
-enum-told-6 c = search needs
 
 products-requires : tie.Need-products-requires
 products-requires c κs =
@@ -73,9 +58,6 @@ products-requires c κs =
       omega (arith, law.left (s .pre .0) (s .pre .1), law.below (s .pre .0) (s .pre .1) .1),
       omega (arith, s .pre .2, ap length (law.of-LdecompIndptrI (s .pre .0) (s .pre .1) t)),
     )
-
-enum-told-7 : tie.Need-enum-told-7
-enum-told-7 c = search needs
 
 add-word-at : tie.Need-add-word-at
 add-word-at c =
@@ -104,9 +86,6 @@ products-requires-2 c κs =
       omega (arith, s .pre .2, ap length (law.of-LdecompIndptrJ (s .pre .0) (s .pre .1) t (x .result - 1) (ap (λ (y : ℕ). y - 1) (x .ensures)))),
     )
 
-enum-told-8 : tie.Need-enum-told-8
-enum-told-8 c = search needs
-
 cast-keep : tie.Need-cast-keep
 cast-keep c =
     let s = c .before .before .before .before .before .before .before .before .before .before in
@@ -123,9 +102,6 @@ keep-requires c κs =
     let t = c .before .enum-told8 .given .1 in
     omega (arith, s .pre .2, ap length (law.of-Lindptr (s .pre .0) (s .pre .1) t))
 
-enum-told-9 : tie.Need-enum-told-9
-enum-told-9 c = search needs
-
 cast-keep-2 : tie.Need-cast-keep-2
 cast-keep-2 c =
     let s = c .before .before .before .before .before .before .before .before .before .before in
@@ -136,9 +112,6 @@ keep-requires-2 c κs =
     let s = c .before .before .before .before .before .before .before .before .before .before in
     let t = c .before .enum-told9 .given .1 in
     omega (arith, s .pre .2, ap length (law.of-LdiagIndptr (s .pre .0) (s .pre .1) t))
-
-enum-told-10 : tie.Need-enum-told-10
-enum-told-10 c = search needs
 
 cast-word : tie.Need-cast-word
 cast-word c =
@@ -151,17 +124,11 @@ word-requires-3 c κs =
     let t = c .before .enum-told10 .given .1 in
     omega (arith, s .pre .2, ap length (law.of-Lindices (s .pre .0) (s .pre .1) t))
 
-same-length : tie.Need-same-length
-same-length c = search needs
-
 returns : tie.Need-returns
 returns c =
     let s = c .before .before .before .before .before .before .before .before .before .before .before .before .before in
     let t = c .before .before .before .before .enum-told .given .1 in
     wrote-as _ _ _ _ _ _ (sym (law.of-AnormIndptr (s .pre .0) (s .pre .1) t)) (c .before .before .word .ensures)
-
-same-length-2 : tie.Need-same-length-2
-same-length-2 c = search needs
 
 returns-2 : tie.Need-returns-2
 returns-2 c =
@@ -169,17 +136,11 @@ returns-2 c =
     let t = c .before .before .before .before .enum-told2 .given .1 in
     wrote-as _ _ _ _ _ _ (sym (law.of-AnormIndptrI (s .pre .0) (s .pre .1) t)) (c .before .before .put-shared .ensures)
 
-same-length-3 : tie.Need-same-length-3
-same-length-3 c = search needs
-
 returns-3 : tie.Need-returns-3
 returns-3 c =
     let s = c .before .before .before .before .before .before .before .before .before .before .before .before .before in
     let t = c .before .before .before .before .enum-told3 .given .1 in
     wrote-as _ _ _ _ _ _ (sym (law.of-AnormIndptrJ (s .pre .0) (s .pre .1) t)) (c .before .before .put-shared2 .ensures)
-
-same-length-4 : tie.Need-same-length-4
-same-length-4 c = search needs
 
 returns-4 : tie.Need-returns-4
 returns-4 c =
@@ -187,26 +148,17 @@ returns-4 c =
     let t = c .before .before .before .before .enum-told4 .given .1 in
     wrote-as _ _ _ _ _ _ (sym (law.of-AnormIndices (s .pre .0) (s .pre .1) t)) (c .before .before .put-shared3 .ensures)
 
-same-length-5 : tie.Need-same-length-5
-same-length-5 c = search needs
-
 returns-5 : tie.Need-returns-5
 returns-5 c =
     let s = c .before .before .before .before .before .before .before .before .before .before .before .before .before in
     let t = c .before .before .before .before .enum-told5 .given .1 in
     wrote-as _ _ _ _ _ _ (sym (law.of-LdecompIndptr (s .pre .0) (s .pre .1) t)) (c .before .before .word2 .ensures)
 
-same-length-6 : tie.Need-same-length-6
-same-length-6 c = search needs
-
 returns-6 : tie.Need-returns-6
 returns-6 c =
     let s = c .before .before .before .before .before .before .before .before .before .before .before .before .before in
     let t = c .before .before .before .before .enum-told6 .given .1 in
     wrote-as _ _ _ _ _ _ (sym (law.of-LdecompIndptrI (s .pre .0) (s .pre .1) t)) (c .before .before .products .ensures)
-
-same-length-7 : tie.Need-same-length-7
-same-length-7 c = search needs
 
 returns-7 : tie.Need-returns-7
 returns-7 c =
@@ -215,26 +167,17 @@ returns-7 c =
     let x = c .before .before .before .before .word-at in
     wrote-as _ _ _ _ _ _ (sym (law.of-LdecompIndptrJ (s .pre .0) (s .pre .1) t (x .result - 1) (ap (λ (y : ℕ). y - 1) (x .ensures)))) (c .before .before .products2 .ensures)
 
-same-length-8 : tie.Need-same-length-8
-same-length-8 c = search needs
-
 returns-8 : tie.Need-returns-8
 returns-8 c =
     let s = c .before .before .before .before .before .before .before .before .before .before .before .before .before in
     let t = c .before .before .before .before .enum-told8 .given .1 in
     wrote-as _ _ _ _ _ _ (sym (law.of-Lindptr (s .pre .0) (s .pre .1) t)) (c .before .before .keep .ensures)
 
-same-length-9 : tie.Need-same-length-9
-same-length-9 c = search needs
-
 returns-9 : tie.Need-returns-9
 returns-9 c =
     let s = c .before .before .before .before .before .before .before .before .before .before .before .before .before in
     let t = c .before .before .before .before .enum-told9 .given .1 in
     wrote-as _ _ _ _ _ _ (sym (law.of-LdiagIndptr (s .pre .0) (s .pre .1) t)) (c .before .before .keep2 .ensures)
-
-same-length-10 : tie.Need-same-length-10
-same-length-10 c = search needs
 
 returns-10 : tie.Need-returns-10
 returns-10 c =
@@ -245,51 +188,4 @@ returns-10 c =
 pub put-piece-spec : {M : Type 1} → statement M
 put-piece-spec =
     tie.close
-    (tie.spec
-    enum-told
-    word-requires
-    enum-told-2
-    put-shared-requires
-    enum-told-3
-    put-shared-requires-2
-    enum-told-4
-    put-shared-requires-3
-    enum-told-5
-    word-requires-2
-    enum-told-6
-    products-requires
-    enum-told-7
-    add-word-at
-    word-at-requires
-    sub-last
-    products-requires-2
-    enum-told-8
-    cast-keep
-    add-keep
-    keep-requires
-    enum-told-9
-    cast-keep-2
-    keep-requires-2
-    enum-told-10
-    cast-word
-    word-requires-3
-    same-length
-    returns
-    same-length-2
-    returns-2
-    same-length-3
-    returns-3
-    same-length-4
-    returns-4
-    same-length-5
-    returns-5
-    same-length-6
-    returns-6
-    same-length-7
-    returns-7
-    same-length-8
-    returns-8
-    same-length-9
-    returns-9
-    same-length-10
-    returns-10)
+    (tie.spec enum-told word-requires (λ c. search needs) put-shared-requires (λ c. search needs) put-shared-requires-2 (λ c. search needs) put-shared-requires-3 (λ c. search needs) word-requires-2 (λ c. search needs) products-requires (λ c. search needs) add-word-at word-at-requires sub-last products-requires-2 (λ c. search needs) cast-keep add-keep keep-requires (λ c. search needs) cast-keep-2 keep-requires-2 (λ c. search needs) cast-word word-requires-3 (λ c. search needs) returns (λ c. search needs) returns-2 (λ c. search needs) returns-3 (λ c. search needs) returns-4 (λ c. search needs) returns-5 (λ c. search needs) returns-6 (λ c. search needs) returns-7 (λ c. search needs) returns-8 (λ c. search needs) returns-9 (λ c. search needs) returns-10)

@@ -25,9 +25,6 @@ count-shared-requires c κs = let s = c .before .before .before .before .before 
 cast-result : tie.Need-cast-result
 cast-result c = omega (arith, c .count-shared .ensures .1, c .before .before .before .before .before .before .before .pre .0 .ready .short)
 
-enum-told-2 : tie.Need-enum-told-2
-enum-told-2 c = search needs
-
 both-ones-requires : tie.Need-both-ones-requires
 both-ones-requires c κs = let s = c .before .before .before .before .before .before in (s .pre .0 .ready .words, omega (arith, s .pre .0 .inside, s .pre .0 .ready .csr .few), omega (arith, s .pre .0 .inside, s .pre .1, s .pre .0 .ready .csr .few))
 
@@ -39,30 +36,6 @@ sub-result c =
     let s = c .before .before .before .before .before .before .before .before .before in
     let b = ap one (sym (c .before .test .ensures) ∙ c .if1 .taken) in
     omega (arith, b, both-weight (s .args .off .now) (s .args .cols .now) (s .pre .0 .m) (s .args .p .now) (s .pre .0 .ready) (s .args .i) (s .args .j) (s .pre .0 .inside) (s .pre .1), c .before .before .both-ones .ensures .0)
-
-enum-told-3 : tie.Need-enum-told-3
-enum-told-3 c = search needs
-
-enum-told-4 : tie.Need-enum-told-4
-enum-told-4 c = search needs
-
-enum-told-5 : tie.Need-enum-told-5
-enum-told-5 c = search needs
-
-enum-told-6 : tie.Need-enum-told-6
-enum-told-6 c = search needs
-
-enum-told-7 : tie.Need-enum-told-7
-enum-told-7 c = search needs
-
-enum-told-8 : tie.Need-enum-told-8
-enum-told-8 c = search needs
-
-enum-told-9 : tie.Need-enum-told-9
-enum-told-9 c = search needs
-
-enum-told-10 : tie.Need-enum-told-10
-enum-told-10 c = search needs
 
 returns : tie.Need-returns
 unfolding weight
@@ -121,30 +94,4 @@ returns-11 c = let a = c .before .before .before .before .before .before .args i
 pub weigh-spec : {M : Type 1} → statement M
 weigh-spec =
     tie.close
-    (tie.spec
-    enum-told
-    count-shared-requires
-    cast-result
-    enum-told-2
-    both-ones-requires
-    test-requires
-    sub-result
-    enum-told-3
-    enum-told-4
-    enum-told-5
-    enum-told-6
-    enum-told-7
-    enum-told-8
-    enum-told-9
-    enum-told-10
-    returns
-    returns-2
-    returns-3
-    returns-4
-    returns-5
-    returns-6
-    returns-7
-    returns-8
-    returns-9
-    returns-10
-    returns-11)
+    (tie.spec enum-told count-shared-requires cast-result (λ c. search needs) both-ones-requires test-requires sub-result (λ c. search needs) (λ c. search needs) (λ c. search needs) (λ c. search needs) (λ c. search needs) (λ c. search needs) (λ c. search needs) (λ c. search needs) returns returns-2 returns-3 returns-4 returns-5 returns-6 returns-7 returns-8 returns-9 returns-10 returns-11)

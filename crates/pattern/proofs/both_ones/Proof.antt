@@ -6,21 +6,6 @@ use borrow.Author.Needs.{needs}
 use Rattle.pattern.proofs.both_ones.Statement.{statement}
 use Rattle.pattern.proofs.both_ones.Tie as tie
 
-common-word-requires : tie.Need-common-word-requires
-common-word-requires c κs = search needs
-
-common-word-requires-2 : tie.Need-common-word-requires-2
-common-word-requires-2 c κs = search needs
-
-common-word-requires-3 : tie.Need-common-word-requires-3
-common-word-requires-3 c κs = search needs
-
-common-word-requires-4 : tie.Need-common-word-requires-4
-common-word-requires-4 c κs = search needs
-
-four-ones-requires : tie.Need-four-ones-requires
-four-ones-requires c κs = search needs
-
 returns : tie.Need-returns
 returns c =
     let a = c .before .before .before .before .before .before .args in
@@ -33,10 +18,4 @@ returns c =
 pub both-ones-spec : {M : Type 1} → statement M
 both-ones-spec =
     tie.close
-    (tie.spec
-    common-word-requires
-    common-word-requires-2
-    common-word-requires-3
-    common-word-requires-4
-    four-ones-requires
-    returns)
+    (tie.spec (λ c κs. search needs) (λ c κs. search needs) (λ c κs. search needs) (λ c κs. search needs) (λ c κs. search needs) returns)

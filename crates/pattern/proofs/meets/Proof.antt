@@ -5,18 +5,6 @@ use borrow.Author.Needs.{needs}
 use Rattle.pattern.proofs.meets.Statement.{statement}
 use Rattle.pattern.proofs.meets.Tie as tie
 
-common-word-requires : tie.Need-common-word-requires
-common-word-requires c κs = search needs
-
-common-word-requires-2 : tie.Need-common-word-requires-2
-common-word-requires-2 c κs = search needs
-
-common-word-requires-3 : tie.Need-common-word-requires-3
-common-word-requires-3 c κs = search needs
-
-common-word-requires-4 : tie.Need-common-word-requires-4
-common-word-requires-4 c κs = search needs
-
 returns : tie.Need-returns
 returns c =
     let a = c .before .before .before .before .before .args in
@@ -31,9 +19,4 @@ returns c =
 pub meets-spec : {M : Type 1} → statement M
 meets-spec =
     tie.close
-    (tie.spec
-    common-word-requires
-    common-word-requires-2
-    common-word-requires-3
-    common-word-requires-4
-    returns)
+    (tie.spec (λ c κs. search needs) (λ c κs. search needs) (λ c κs. search needs) (λ c κs. search needs) returns)

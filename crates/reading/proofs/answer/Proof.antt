@@ -8,48 +8,6 @@ use Rattle.answer_text.proofs.Texts.{same-text}
 use Rattle.reading.proofs.answer.Statement.{statement}
 use Rattle.reading.proofs.answer.Tie as tie
 
-add-short-count : tie.Need-add-short-count
-add-short-count c = search needs
-
-add-short-count-2 : tie.Need-add-short-count-2
-add-short-count-2 c = search needs
-
-add-float-count : tie.Need-add-float-count
-add-float-count c = search needs
-
-mul-float-count : tie.Need-mul-float-count
-mul-float-count c = search needs
-
-add-float-count-2 : tie.Need-add-float-count-2
-add-float-count-2 c = search needs
-
-mul-float-count-2 : tie.Need-mul-float-count-2
-mul-float-count-2 c = search needs
-
-add-float-count-3 : tie.Need-add-float-count-3
-add-float-count-3 c = search needs
-
-mul-output-count : tie.Need-mul-output-count
-mul-output-count c = search needs
-
-shorts-requires : tie.Need-shorts-requires
-shorts-requires c κs = search needs
-
-floats-requires : tie.Need-floats-requires
-floats-requires c κs = search needs
-
-output-requires : tie.Need-output-requires
-output-requires c κs = search needs
-
-index-requires : tie.Need-index-requires
-index-requires c κs = search needs
-
-work-requires : tie.Need-work-requires
-work-requires c κs = search needs
-
-array-borrow-prefix-shorts : tie.Need-array-borrow-prefix-shorts
-array-borrow-prefix-shorts c = search needs
-
 slice-aggregate-read-shorts : tie.Need-slice-aggregate-read-shorts
 slice-aggregate-read-shorts c = sym (length-take-le _ _ (shorts-fit (c .before .before .before .before .before .before .before .before .pre .0) (c .before .before .before .before .before .shorts .ensures)))
 
@@ -59,15 +17,6 @@ read-shorts-requires c κs =
     let arr = c .before .before .before .before .before .shorts in
     let long = length-take-le (shortCount (start .args .sizes)) (arr .result) (shorts-fit (start .pre .0) (arr .ensures)) in
     omega (arith, start .pre .0 .ends, long)
-
-mul-read-floats : tie.Need-mul-read-floats
-mul-read-floats c = search needs
-
-add-read-floats : tie.Need-add-read-floats
-add-read-floats c = search needs
-
-array-borrow-prefix-floats : tie.Need-array-borrow-prefix-floats
-array-borrow-prefix-floats c = search needs
 
 slice-aggregate-read-floats : tie.Need-slice-aggregate-read-floats
 slice-aggregate-read-floats c = sym (length-take-le _ _ (floats-fit (c .before .before .before .before .before .before .before .before .before .before .before .pre .0) (c .before .before .before .before .before .before .before .floats .ensures)))
@@ -111,17 +60,8 @@ slice-aggregate-solve-parts-2 c =
     let fit = floats-fit (start .pre .0) (arr .ensures) in
     sym (front-long (arr .result) (read .last .1 .1 .0) (floatCount (start .args .sizes)) fit (read .kept .1 .1 .0))
 
-array-borrow-prefix-output : tie.Need-array-borrow-prefix-output
-array-borrow-prefix-output c = search needs
-
 slice-aggregate-solve-parts-3 : tie.Need-slice-aggregate-solve-parts-3
 slice-aggregate-solve-parts-3 c = sym (output-long (c .before .before .before .before .before .before .before .before .before .before .before .before .before .before .before .before .pre .0) (c .before .before .before .before .before .before .before .before .before .before .before .output .ensures))
-
-slice-aggregate-solve-parts-4 : tie.Need-slice-aggregate-solve-parts-4
-slice-aggregate-solve-parts-4 c = search needs
-
-slice-aggregate-solve-parts-5 : tie.Need-slice-aggregate-solve-parts-5
-slice-aggregate-solve-parts-5 c = search needs
 
 solve-parts-requires : tie.Need-solve-parts-requires
 solve-parts-requires c κs =
@@ -141,9 +81,6 @@ solve-parts-requires c κs =
       output-all = output-long whole (c .before .before .before .before .before .before .before .before .before .before .before .before .before .before .output .ensures);
       room = start .pre .1;
     }
-
-same-length : tie.Need-same-length
-same-length c = search needs
 
 returns : tie.Need-returns
 returns c =
@@ -165,36 +102,4 @@ returns c =
 pub answer-spec : {M : Type 1} → statement M
 answer-spec =
     tie.close
-    (tie.spec
-    add-short-count
-    add-short-count-2
-    add-float-count
-    mul-float-count
-    add-float-count-2
-    mul-float-count-2
-    add-float-count-3
-    mul-output-count
-    shorts-requires
-    floats-requires
-    output-requires
-    index-requires
-    work-requires
-    array-borrow-prefix-shorts
-    slice-aggregate-read-shorts
-    read-shorts-requires
-    mul-read-floats
-    add-read-floats
-    array-borrow-prefix-floats
-    slice-aggregate-read-floats
-    read-floats-requires
-    array-share-prefix-shorts
-    slice-aggregate-solve-parts
-    array-share-prefix-floats
-    slice-aggregate-solve-parts-2
-    array-borrow-prefix-output
-    slice-aggregate-solve-parts-3
-    slice-aggregate-solve-parts-4
-    slice-aggregate-solve-parts-5
-    solve-parts-requires
-    same-length
-    returns)
+    (tie.spec (λ c. search needs) (λ c. search needs) (λ c. search needs) (λ c. search needs) (λ c. search needs) (λ c. search needs) (λ c. search needs) (λ c. search needs) (λ c κs. search needs) (λ c κs. search needs) (λ c κs. search needs) (λ c κs. search needs) (λ c κs. search needs) (λ c. search needs) slice-aggregate-read-shorts read-shorts-requires (λ c. search needs) (λ c. search needs) (λ c. search needs) slice-aggregate-read-floats read-floats-requires array-share-prefix-shorts slice-aggregate-solve-parts array-share-prefix-floats slice-aggregate-solve-parts-2 (λ c. search needs) slice-aggregate-solve-parts-3 (λ c. search needs) (λ c. search needs) solve-parts-requires (λ c. search needs) returns)

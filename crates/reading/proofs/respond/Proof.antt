@@ -11,34 +11,19 @@ use Rattle.answer_text.proofs.Texts.{same-text}
 use Rattle.reading.proofs.respond.Statement.{statement}
 use Rattle.reading.proofs.respond.Tie as tie
 
-read-header-requires : tie.Need-read-header-requires
-read-header-requires c κs = search needs
-
 enum-told : tie.Need-enum-told
 enum-told c = search needs
-
-put-input-requires : tie.Need-put-input-requires
-put-input-requires c κs = search needs
-
-enum-known-header : tie.Need-enum-known-header
-enum-known-header c = search needs
 
 answer-requires : tie.Need-answer-requires
 answer-requires c κs =
     let told = sym (c .before .before .before .before .read-header .ensures) ∙ c .before .before .header .given .1 in
     (whole _ _ told, c .before .before .before .before .before .before .before .pre)
 
-same-length : tie.Need-same-length
-same-length c = search needs
-
 returns : tie.Need-returns
 returns c =
     let told = sym (c .before .before .before .before .before .before .read-header .ensures) ∙ c .before .before .before .before .enum-told .given .1 in
     let put = c .before .before .put-input in
     (same-text (mismatch-text _ told) (put .ensures), counts _ _ (omega (arith, put .ensures .next, put .kept .0, input-length, c .before .before .before .before .before .before .before .before .before .pre)))
-
-same-length-2 : tie.Need-same-length-2
-same-length-2 c = search needs
 
 returns-2 : tie.Need-returns-2
 returns-2 c =
@@ -52,13 +37,4 @@ returns-2 c =
 pub respond-spec : {M : Type 1} → statement M
 respond-spec =
     tie.close
-    (tie.spec
-    read-header-requires
-    enum-told
-    put-input-requires
-    enum-known-header
-    answer-requires
-    same-length
-    returns
-    same-length-2
-    returns-2)
+    (tie.spec (λ c κs. search needs) enum-told (λ c κs. search needs) (λ c. search needs) answer-requires (λ c. search needs) returns (λ c. search needs) returns-2)

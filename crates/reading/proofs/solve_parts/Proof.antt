@@ -82,21 +82,6 @@ part-solve-text-start-4 c = omega arith
 part-solve-text-end-4 : tie.Need-part-solve-text-end-4
 part-solve-text-end-4 c = omega arith
 
-solve-text-requires : tie.Need-solve-text-requires
-solve-text-requires c κs = search needs
-
-same-length : tie.Need-same-length
-same-length c = search needs
-
-same-length-2 : tie.Need-same-length-2
-same-length-2 c = search needs
-
-same-length-3 : tie.Need-same-length-3
-same-length-3 c = search needs
-
-same-length-4 : tie.Need-same-length-4
-same-length-4 c = search needs
-
 returns : tie.Need-returns
 returns c =
     let given = c .before .before .before .before .before .before .before .before .before .before .before .before .before .before .before .before .before .before .before .before .before .before .before .before .before .args in
@@ -105,35 +90,4 @@ returns c =
 pub solve-parts-spec : {M : Type 1} → statement M
 solve-parts-spec =
     tie.close
-    (tie.spec
-    add-columns
-    add-shorts-end
-    add-b
-    mul-c
-    add-c
-    mul-floats-end
-    add-floats-end
-    slice-aggregate-solve-text
-    mul-solve-text
-    sub-solve-text
-    part-solve-text-start
-    part-solve-text-end
-    slice-aggregate-solve-text-2
-    mul-solve-text-2
-    sub-solve-text-2
-    part-solve-text-start-2
-    part-solve-text-end-2
-    mul-solve-text-3
-    sub-solve-text-3
-    part-solve-text-start-3
-    part-solve-text-end-3
-    mul-solve-text-4
-    sub-solve-text-4
-    part-solve-text-start-4
-    part-solve-text-end-4
-    solve-text-requires
-    same-length
-    same-length-2
-    same-length-3
-    same-length-4
-    returns)
+    (tie.spec add-columns add-shorts-end add-b mul-c add-c mul-floats-end add-floats-end slice-aggregate-solve-text mul-solve-text sub-solve-text part-solve-text-start part-solve-text-end slice-aggregate-solve-text-2 mul-solve-text-2 sub-solve-text-2 part-solve-text-start-2 part-solve-text-end-2 mul-solve-text-3 sub-solve-text-3 part-solve-text-start-3 part-solve-text-end-3 mul-solve-text-4 sub-solve-text-4 part-solve-text-start-4 part-solve-text-end-4 (λ c κs. search needs) (λ c. search needs) (λ c. search needs) (λ c. search needs) (λ c. search needs) returns)

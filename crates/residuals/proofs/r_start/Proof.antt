@@ -16,9 +16,6 @@ add-get c = let s = c .before .before .before .before in let P = s .pre .1 in om
 get-requires : tie.Need-get-requires
 get-requires c κs = let P = c .before .before .before .before .pre .1 in (P .wide, omega arith)
 
-sub4-requires : tie.Need-sub4-requires
-sub4-requires c κs = search needs
-
 returns : tie.Need-returns
 returns c =
     let s = c .before .before .before .before .before .before in
@@ -35,4 +32,4 @@ returns-2 c =
     (c .before .get-lanes .ensures ▹ lane-cell (s .args .block .total) (s .args .block .first) (s .args .width) (s .args .b .now) (s .args .mem .m) (s .args .i) (s .pre .0))
 
 pub r-start-spec : {M : Type 1} → statement M
-r-start-spec = tie.close (tie.spec get-lanes-requires add-get get-requires sub4-requires returns returns-2)
+r-start-spec = tie.close (tie.spec get-lanes-requires add-get get-requires (λ c κs. search needs) returns returns-2)

@@ -16,17 +16,11 @@ add-get c =
 get-requires : tie.Need-get-requires
 get-requires c κs = let s = c .before .before in (s .pre .1 .wide, in-y (s .pre .1) (s .pre .0))
 
-div4-requires : tie.Need-div4-requires
-div4-requires c κs = search needs
-
 returns : tie.Need-returns
 returns c =
     let s = c .before .before .before .before in
     rw (lt-ltb (s .args .i) (s .args .mem .s) (c .before .before .if1 .taken))
     (each-on (s .pre .1 .wide) (div binary64) (c .div4 .ensures) (on-self {v = s .args .mu}) (c .before .get .ensures ▹ reg-cell (s .args .width) (s .args .work .now) (s .args .mem .y) (s .args .mem .m) (s .args .i) (s .pre .0)))
-
-zero4-requires : tie.Need-zero4-requires
-zero4-requires c κs = search needs
 
 returns-2 : tie.Need-returns-2
 returns-2 c =
@@ -34,4 +28,4 @@ returns-2 c =
     rw (le-ltb (s .args .i) (s .args .mem .s) (c .before .if1 .left)) (on (s .pre .1 .wide) (c .zero4 .ensures))
 
 pub v-start-spec : {M : Type 1} → statement M
-v-start-spec = tie.close (tie.spec add-get get-requires div4-requires returns zero4-requires returns-2)
+v-start-spec = tie.close (tie.spec add-get get-requires (λ c κs. search needs) returns (λ c κs. search needs) returns-2)

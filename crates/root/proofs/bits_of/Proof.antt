@@ -12,8 +12,5 @@ float-to-bits-result c = no-nan _ (c .if1 .left)
 returns : tie.Need-returns
 returns c = nan-pattern ∙ ap (toBits binary64) (sym (only-nan _ (c .if1 .taken)))
 
-returns-2 : tie.Need-returns-2
-returns-2 c = search needs
-
 pub bits-of-spec : {M : Type 1} → statement M
-bits-of-spec = tie.close (tie.spec float-to-bits-result returns returns-2)
+bits-of-spec = tie.close (tie.spec float-to-bits-result returns (λ c. search needs))

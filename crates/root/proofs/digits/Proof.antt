@@ -10,9 +10,6 @@ facts : (c : tie.After-first-digits)
     → let w = c .first-digits .result .whole in let r = c .first-digits .result .rest in Divided (c .before .args .digits) w r (r * 2 ^ 26 / (w * 2)) (r * 2 ^ 26 % (w * 2))
 facts c = divided _ _ _ (c .first-digits .ensures) (c .before .pre .0) (c .before .pre .1)
 
-first-digits-requires : tie.Need-first-digits-requires
-first-digits-requires c κs = search needs
-
 mul-more : tie.Need-mul-more
 mul-more c = omega (arith, facts (c .before))
 
@@ -39,9 +36,6 @@ mul-if1 c = omega (arith, facts (c .before .before .before))
 
 mul-t11 : tie.Need-mul-t11
 mul-t11 c = omega (arith, facts (c .before .before .before .before))
-
-sub-t12 : tie.Need-sub-t12
-sub-t12 c = search needs
 
 sub-t13 : tie.Need-sub-t13
 sub-t13 c = omega (arith, facts (c .before .before .before .before))
@@ -70,23 +64,4 @@ returns-2 c = lowered (facts (c .before .before .before .before)) (c .if1 .left)
 pub digits-spec : {M : Type 1} → statement M
 digits-spec =
     tie.close
-    (tie.spec
-    first-digits-requires
-    mul-more
-    mul-twice
-    div-next
-    rem-left
-    mul-left
-    mul-whole
-    add-whole
-    mul-if1
-    mul-t11
-    sub-t12
-    sub-t13
-    mul-t14
-    add-t15
-    sub-t16
-    mul-t17
-    sub-t18
-    returns
-    returns-2)
+    (tie.spec (λ c κs. search needs) mul-more mul-twice div-next rem-left mul-left mul-whole add-whole mul-if1 mul-t11 (λ c. search needs) sub-t13 mul-t14 add-t15 sub-t16 mul-t17 sub-t18 returns returns-2)

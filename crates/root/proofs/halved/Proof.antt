@@ -4,15 +4,6 @@ use Rattle.root.proofs.Patterns.{even-place, odd-place}
 use Rattle.root.proofs.halved.Statement.{statement}
 use Rattle.root.proofs.halved.Tie as tie
 
-unpack-requires : tie.Need-unpack-requires
-unpack-requires c κs = search needs
-
-sub-half : tie.Need-sub-half
-sub-half c = search needs
-
-mul-t7 : tie.Need-mul-t7
-mul-t7 c = search needs
-
 returns : tie.Need-returns
 returns c = even-place _ _ _ (c .before .before .before .unpack .ensures) (c .if1 .taken)
 
@@ -20,4 +11,4 @@ returns-2 : tie.Need-returns-2
 returns-2 c = odd-place _ _ _ (c .before .before .before .before .unpack .ensures) (c .before .if1 .left)
 
 pub halved-spec : {M : Type 1} → statement M
-halved-spec = tie.close (tie.spec unpack-requires sub-half mul-t7 returns returns-2)
+halved-spec = tie.close (tie.spec (λ c κs. search needs) (λ c. search needs) (λ c. search needs) returns returns-2)

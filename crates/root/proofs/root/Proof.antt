@@ -12,17 +12,8 @@ use Rattle.root.proofs.root.Tie as tie
 held : (c : tie.Start) → T (fits binary64 (c .args .x))
 held c = subst T (sym (c .good .0 .1)) tt
 
-bits-of-requires : tie.Need-bits-of-requires
-bits-of-requires c κs = search needs
-
-root-bits-requires : tie.Need-root-bits-requires
-root-bits-requires c κs = search needs
-
-value-of-requires : tie.Need-value-of-requires
-value-of-requires c κs = search needs
-
 returns : tie.Need-returns
 returns c = c .value-of .ensures ∙ read-back _ (held (c .before .before .before)) _ (c .before .root-bits .ensures ∙ ap rootBits (c .before .before .bits-of .ensures))
 
 pub root-spec : {M : Type 1} → statement M
-root-spec = tie.close (tie.spec bits-of-requires root-bits-requires value-of-requires returns)
+root-spec = tie.close (tie.spec (λ c κs. search needs) (λ c κs. search needs) (λ c κs. search needs) returns)

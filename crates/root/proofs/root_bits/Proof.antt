@@ -12,26 +12,14 @@ use Rattle.root.proofs.root_bits.Tie as tie
 no-more : {n v q r : ℕ} → Digits n q r → v ≡ roundedRoot q r → v ≤ suc q
 no-more {q = q} {r = r} d e = subst (λ (x : ℕ). x ≤ suc q) (sym e) (nearest-le q (compare (4 * (q * q + r)) ((2 * q + 1) * (2 * q + 1))))
 
-special-requires : tie.Need-special-requires
-special-requires c κs = search needs
-
-enum-known-a : tie.Need-enum-known-a
-enum-known-a c = search needs
-
 enum-told : tie.Need-enum-told
 enum-told c = search needs
 
 halved-requires : tie.Need-halved-requires
 halved-requires c κs = subst (Special (c .before .before .before .args .b)) (c .enum-told .given .1) (c .before .before .special .ensures)
 
-digits-requires : tie.Need-digits-requires
-digits-requires c κs = search needs
-
 rounded-requires : tie.Need-rounded-requires
 rounded-requires c κs = whole-lt _ _ _ _ _ (c .before .halved .ensures) (c .digits .ensures)
-
-mul-result : tie.Need-mul-result
-mul-result c = search needs
 
 add-result : tie.Need-add-result
 add-result c =
@@ -48,14 +36,4 @@ returns-2 c = rounded-bits _ _ _ _ _ (c .before .before .before .halved .ensures
 pub root-bits-spec : {M : Type 1} → statement M
 root-bits-spec =
     tie.close
-    (tie.spec
-    special-requires
-    enum-known-a
-    enum-told
-    halved-requires
-    digits-requires
-    rounded-requires
-    mul-result
-    add-result
-    returns
-    returns-2)
+    (tie.spec (λ c κs. search needs) (λ c. search needs) enum-told halved-requires (λ c κs. search needs) rounded-requires (λ c. search needs) add-result returns returns-2)

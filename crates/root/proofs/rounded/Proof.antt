@@ -7,9 +7,6 @@ use Rattle.root.proofs.Compares.{below-middle, above-middle}
 use Rattle.root.proofs.rounded.Statement.{statement}
 use Rattle.root.proofs.rounded.Tie as tie
 
-add-result : tie.Need-add-result
-add-result c = search needs
-
 returns : tie.Need-returns
 returns c = sym (ap (nearest (c .before .args .whole)) (below-middle (c .before .args .whole) (c .before .args .rest) (c .if1 .taken)))
 
@@ -17,4 +14,4 @@ returns-2 : tie.Need-returns-2
 returns-2 c = add-one (c .before .args .whole) ∙ sym (ap (nearest (c .before .args .whole)) (above-middle (c .before .args .whole) (c .before .args .rest) (c .if1 .left)))
 
 pub rounded-spec : {M : Type 1} → statement M
-rounded-spec = tie.close (tie.spec add-result returns returns-2)
+rounded-spec = tie.close (tie.spec (λ c. search needs) returns returns-2)

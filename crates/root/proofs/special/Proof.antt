@@ -19,14 +19,8 @@ zero-which b x t = go (decLe 0x7FF0_0000_0000_0000 b)
 returns : tie.Need-returns
 returns c = (zero-which _ (c .before .match .keys1) (c .if1 .taken), zero-answer _ (c .before .before .fits .b .fits) (c .before .match .keys1) (c .if1 .taken))
 
-returns-2 : tie.Need-returns-2
-returns-2 c = search needs
-
 returns-3 : tie.Need-returns-3
 returns-3 c = (inr (omega arith), negative-answer _ (c .if2 .left) (λ z. omega (arith, c .before .if1 .left)))
-
-returns-4 : tie.Need-returns-4
-returns-4 c = search needs
 
 returns-5 : tie.Need-returns-5
 returns-5 c = (inr (omega arith), negative-answer _ (c .if4 .left) (λ z. absurd (c .before .before .match .rest .1 z)))
@@ -39,4 +33,4 @@ returns-7 c = (inr (omega arith), top-answer _ (c .before .if3 .left) (c .if5 .l
 
 pub special-spec : {M : Type 1} → statement M
 special-spec =
-    tie.close (tie.spec returns returns-2 returns-3 returns-4 returns-5 returns-6 returns-7)
+    tie.close (tie.spec returns (λ c. search needs) returns-3 (λ c. search needs) returns-5 returns-6 returns-7)

@@ -20,15 +20,6 @@ shl-t7 c = omega (arith, leading-le 64 (c .before .args .b))
 sub-t8 : tie.Need-sub-t8
 sub-t8 c = omega (arith, leading-le 64 (c .before .args .b))
 
-add-t10 : tie.Need-add-t10
-add-t10 c = search needs
-
-sub-t11 : tie.Need-sub-t11
-sub-t11 c = search needs
-
-add-t12 : tie.Need-add-t12
-add-t12 c = search needs
-
 returns : tie.Need-returns
 returns c = subnormal (c .before .args .b) (c .before .pre .0) (c .if1 .taken)
 
@@ -36,4 +27,4 @@ returns-2 : tie.Need-returns-2
 returns-2 c = normal (c .before .args .b) (c .before .pre .1) (c .if1 .left)
 
 pub unpack-spec : {M : Type 1} → statement M
-unpack-spec = tie.close (tie.spec cast-up sub-up shl-t7 sub-t8 add-t10 sub-t11 add-t12 returns returns-2)
+unpack-spec = tie.close (tie.spec cast-up sub-up shl-t7 sub-t8 (λ c. search needs) (λ c. search needs) (λ c. search needs) returns returns-2)

@@ -11,8 +11,5 @@ float-from-bits-result c = up-to-infinity _ (c .if1 .left)
 returns : tie.Need-returns
 returns c = nan-made ∙ above-infinity _ (c .if1 .taken)
 
-returns-2 : tie.Need-returns-2
-returns-2 c = search needs
-
 pub value-of-spec : {M : Type 1} → statement M
-value-of-spec = tie.close (tie.spec float-from-bits-result returns returns-2)
+value-of-spec = tie.close (tie.spec float-from-bits-result returns (λ c. search needs))

@@ -3,21 +3,9 @@ use borrow.Author.Needs.{needs}
 use Rattle.root_bench.proofs.root_sum_one_by_one.Statement.{statement}
 use Rattle.root_bench.proofs.root_sum_one_by_one.Tie as tie
 
-root-requires : tie.Need-root-requires
-root-requires c κs = search needs
-
-root-requires-2 : tie.Need-root-requires-2
-root-requires-2 c κs = search needs
-
-root-requires-3 : tie.Need-root-requires-3
-root-requires-3 c κs = search needs
-
-root-requires-4 : tie.Need-root-requires-4
-root-requires-4 c κs = search needs
-
 returns : tie.Need-returns
 returns c = rw (c .root4 .ensures, c .before .root3 .ensures, c .before .before .root2 .ensures, c .before .before .before .root .ensures)
 
 pub root-sum-one-by-one-spec : {M : Type 1} → statement M
 root-sum-one-by-one-spec =
-    tie.close (tie.spec root-requires root-requires-2 root-requires-3 root-requires-4 returns)
+    tie.close (tie.spec (λ c κs. search needs) (λ c κs. search needs) (λ c κs. search needs) (λ c κs. search needs) returns)

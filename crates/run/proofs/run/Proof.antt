@@ -56,12 +56,6 @@ test-at-requires c κs =
 turn-after-requires : tie.Need-turn-after-requires Inv-loop μ-loop
 turn-after-requires c κs = let s = c .before .before .before .before .before .before .before .before .before .before .before .before .before .before .before .before .before .before in s .pre .0 .lent .wide .most
 
-enum-known-outcome : tie.Need-enum-known-outcome Inv-loop μ-loop
-enum-known-outcome c = search needs
-
-same-length : tie.Need-same-length Inv-loop μ-loop
-same-length c = search needs
-
 returns : tie.Need-returns Inv-loop μ-loop
 returns c =
     let s = c .before .before .before .before .before .before .before .before .before .before .before .before .before .before .before .before .before .before .before .before .before .before in
@@ -105,19 +99,4 @@ loop-again c =
 pub run-spec : {M : Type 1} → statement M
 run-spec =
     tie.close
-    (tie.spec
-    Inv-loop
-    μ-loop
-    normal-eqn-init-requires
-    loop-holds
-    add-k
-    measure-requires
-    test-at-requires
-    turn-after-requires
-    enum-known-outcome
-    same-length
-    returns
-    enum-told
-    step-lanes-requires
-    loop-less
-    loop-again)
+    (tie.spec Inv-loop μ-loop normal-eqn-init-requires loop-holds add-k measure-requires test-at-requires turn-after-requires (λ c. search needs) (λ c. search needs) returns enum-told step-lanes-requires loop-less loop-again)

@@ -4,15 +4,9 @@ use Rattle.run.specs.Tests.{turnAfter}
 use Rattle.run.proofs.turn_after.Statement.{statement}
 use Rattle.run.proofs.turn_after.Tie as tie
 
-lowest-spoilt-requires : tie.Need-lowest-spoilt-requires
-lowest-spoilt-requires c κs = search needs
-
 returns : tie.Need-returns
 unfolding turnAfter
 returns c = simp (← c .before .lowest-spoilt .ensures, lt-ltb _ _ (c .if1 .taken))
-
-lowest-undone-requires : tie.Need-lowest-undone-requires
-lowest-undone-requires c κs = search needs
 
 returns-2 : tie.Need-returns-2
 unfolding turnAfter
@@ -29,4 +23,4 @@ returns-4 c = simp (← c .before .before .before .before .lowest-spoilt .ensure
 pub turn-after-spec : {M : Type 1} → statement M
 turn-after-spec =
     tie.close
-    (tie.spec lowest-spoilt-requires returns lowest-undone-requires returns-2 returns-3 returns-4)
+    (tie.spec (λ c κs. search needs) returns (λ c κs. search needs) returns-2 returns-3 returns-4)

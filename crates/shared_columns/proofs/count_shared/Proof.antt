@@ -15,9 +15,6 @@ use Rattle.shared_columns.proofs.Among as among
 use Rattle.shared_columns.proofs.count_shared.Statement.{statement}
 use Rattle.shared_columns.proofs.count_shared.Tie as tie
 
-word-at-requires : tie.Need-word-at-requires
-word-at-requires c κs = search needs
-
 cast-count-marked : tie.Need-cast-count-marked
 cast-count-marked c = let s = c .before .before .before .before in omega (arith, c .word-at .ensures, s .pre .grid .csr .ends (s .args .i) (omega (arith, s .pre .inside)), s .pre .grid .short)
 
@@ -44,4 +41,4 @@ returns c =
 pub count-shared-spec : {M : Type 1} → statement M
 count-shared-spec =
     tie.close
-    (tie.spec word-at-requires cast-count-marked get-row-requires count-marked-requires returns)
+    (tie.spec (λ c κs. search needs) cast-count-marked get-row-requires count-marked-requires returns)

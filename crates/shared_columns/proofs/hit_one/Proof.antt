@@ -10,26 +10,11 @@ use borrow.Author.Needs.{needs}
 use Rattle.shared_columns.proofs.hit_one.Statement.{statement}
 use Rattle.shared_columns.proofs.hit_one.Tie as tie
 
-mul-w : tie.Need-mul-w
-mul-w c = search needs
-
-shared-slice-read-w : tie.Need-shared-slice-read-w
-shared-slice-read-w c = search needs
-
-sub-choose : tie.Need-sub-choose
-sub-choose c = search needs
-
-choose-requires : tie.Need-choose-requires
-choose-requires c κs = search needs
-
 word-requires : tie.Need-word-requires
 word-requires c κs =
     let s = c .before .before .before .before .before .before in
     let a = s .args in
     omega (arith, s .pre .1, ap length (marks.hit-yes (a .take) (a .mark .now) (a .lo) (a .y) (a .v) (omega arith)))
-
-same-length : tie.Need-same-length
-same-length c = search needs
 
 returns : tie.Need-returns
 returns c =
@@ -46,12 +31,4 @@ returns-2 c =
 pub hit-one-spec : {M : Type 1} → statement M
 hit-one-spec =
     tie.close
-    (tie.spec
-    mul-w
-    shared-slice-read-w
-    sub-choose
-    choose-requires
-    word-requires
-    same-length
-    returns
-    returns-2)
+    (tie.spec (λ c. search needs) (λ c. search needs) (λ c. search needs) (λ c κs. search needs) word-requires (λ c. search needs) returns returns-2)

@@ -8,18 +8,6 @@ use borrow.Author.Needs.{needs}
 use Rattle.shared_columns.proofs.put_shared.Statement.{statement}
 use Rattle.shared_columns.proofs.put_shared.Tie as tie
 
-word-at-requires : tie.Need-word-at-requires
-word-at-requires c κs = search needs
-
-word-at-requires-2 : tie.Need-word-at-requires-2
-word-at-requires-2 c κs = search needs
-
-add-word-at : tie.Need-add-word-at
-add-word-at c = search needs
-
-word-at-requires-3 : tie.Need-word-at-requires-3
-word-at-requires-3 c κs = search needs
-
 cast-hits : tie.Need-cast-hits
 cast-hits c =
     let s = c .before .before .before .before .before .before .before in
@@ -70,9 +58,6 @@ hits-requires c κs =
     let y = c .before .before .word-at3 in
     (marks.span-below (a .take) (a .off .now) (a .cols .now) (s .pre .0 .m) (s .pre .0 .wide) (s .pre .0 .grid) (a .mark .now) (a .i) (a .j) (s .pre .0 .inside) (s .pre .0 .other) (s .pre .0 .long) (s .pre .0 .marks) (x .result) (y .result) (x .ensures) (y .ensures), marks.span-short (a .take) (a .off .now) (a .cols .now) (s .pre .0 .m) (s .pre .0 .wide) (s .pre .0 .grid) (a .mark .now) (a .i) (a .j) (s .pre .0 .inside) (s .pre .0 .other) (s .pre .0 .long) (s .pre .0 .marks) (x .result) (y .result) (x .ensures) (y .ensures), omega (arith, s .pre .1, ap length (marks.span-is (a .take) (a .off .now) (a .cols .now) (s .pre .0 .m) (s .pre .0 .wide) (s .pre .0 .grid) (a .mark .now) (a .i) (a .j) (s .pre .0 .inside) (s .pre .0 .other) (s .pre .0 .long) (s .pre .0 .marks) (x .result) (y .result) (x .ensures) (y .ensures) (c .before .before .before .before .word-at .result) (c .before .before .before .before .word-at .ensures))))
 
-same-length : tie.Need-same-length
-same-length c = search needs
-
 returns : tie.Need-returns
 returns c =
     let s = c .before .before .before .before .before .before .before .before .before .before .before .before in
@@ -84,17 +69,4 @@ returns c =
 pub put-shared-spec : {M : Type 1} → statement M
 put-shared-spec =
     tie.close
-    (tie.spec
-    word-at-requires
-    word-at-requires-2
-    add-word-at
-    word-at-requires-3
-    cast-hits
-    cast-hits-2
-    mul-hits
-    sub-hits
-    part-hits-start
-    part-hits-end
-    hits-requires
-    same-length
-    returns)
+    (tie.spec (λ c κs. search needs) (λ c κs. search needs) (λ c. search needs) (λ c κs. search needs) cast-hits cast-hits-2 mul-hits sub-hits part-hits-start part-hits-end hits-requires (λ c. search needs) returns)

@@ -6,20 +6,11 @@ use borrow.Author.Needs.{needs}
 use Rattle.sparse.proofs.column_term.Statement.{statement}
 use Rattle.sparse.proofs.column_term.Tie as tie
 
-word-at-requires : tie.Need-word-at-requires
-word-at-requires c κs = search needs
-
-word-at-requires-2 : tie.Need-word-at-requires-2
-word-at-requires-2 c κs = search needs
-
 mul-splat : tie.Need-mul-splat
 mul-splat c = omega (arith, c .word-at2 .ensures, c .before .before .before .before .before .before .pre .2, c .before .before .before .before .before .before .good, c .before .before .before .before .before .before .fits)
 
 shared-slice-read-splat : tie.Need-shared-slice-read-splat
 shared-slice-read-splat c = omega (arith, c .before .word-at2 .ensures, c .before .before .before .before .before .before .before .pre .2, c .before .before .before .before .before .before .before .good, c .before .before .before .before .before .before .before .fits)
-
-splat-requires : tie.Need-splat-requires
-splat-requires c κs = search needs
 
 add-get : tie.Need-add-get
 add-get c = let s = c .before .before .before .before .before .before .before .before in omega (arith, c .before .before .before .word-at .ensures, s .pre .3, room-le (s .args .width) (s .args .work .now), s .good, s .fits)
@@ -27,11 +18,8 @@ add-get c = let s = c .before .before .before .before .before .before .before .b
 get-requires : tie.Need-get-requires
 get-requires c κs = let s = c .before .before .before .before .before .before .before .before in (s .pre .4, omega (arith, c .before .before .before .word-at .ensures, s .pre .3))
 
-mul4-requires : tie.Need-mul4-requires
-mul4-requires c κs = search needs
-
 returns : tie.Need-returns
 returns c = let s = c .before .before .before .before .before .before .before .before .before .before in each-on (s .pre .4) (mul binary64) {a = c .before .before .splat .result} {b = c .before .get .result} (c .mul4 .ensures) (on (s .pre .4) (rw (c .before .before .before .before .word-at2 .ensures) at (c .before .before .splat .ensures))) (rw (c .before .before .before .before .before .word-at .ensures) at (c .before .get .ensures))
 
 pub column-term-spec : {M : Type 1} → statement M
-column-term-spec = tie.close (tie.spec word-at-requires word-at-requires-2 mul-splat shared-slice-read-splat splat-requires add-get get-requires mul4-requires returns)
+column-term-spec = tie.close (tie.spec (λ c κs. search needs) (λ c κs. search needs) mul-splat shared-slice-read-splat (λ c κs. search needs) add-get get-requires (λ c κs. search needs) returns)

@@ -30,9 +30,6 @@ loop-holds c = sum-start
 row-term-requires : tie.Need-row-term-requires Inv-loop μ-loop
 row-term-requires c κs = let s = c .before .before .before .before .before .before .before .before in let h = c .loop-test .taken in (h, turn-beside (s .pre .0) (s .args .cols .now) refl (c .before .before .before .span .ensures) h (s .args .vals .now) (s .pre .1) (c .before .before .values-of .ensures), turn-fits (s .pre .0) (s .args .cols .now) refl (c .before .before .before .span .ensures) h (s .args .x) (s .pre .2), s .pre .3)
 
-sub4-requires : tie.Need-sub4-requires Inv-loop μ-loop
-sub4-requires c κs = search needs
-
 add-k : tie.Need-add-k Inv-loop μ-loop
 add-k c = omega arith
 
@@ -47,4 +44,4 @@ unfolding lessRow lessAll
 returns c = rw (c .before .before .before .span .ensures, c .before .before .values-of .ensures) at (sum-end (c .before .loop .inv) (c .loop-test .left))
 
 pub row-less-spec : {M : Type 1} → statement M
-row-less-spec = tie.close (tie.spec Inv-loop μ-loop span-requires values-of-requires loop-holds row-term-requires sub4-requires add-k loop-less loop-again returns)
+row-less-spec = tie.close (tie.spec Inv-loop μ-loop span-requires values-of-requires loop-holds row-term-requires (λ c κs. search needs) add-k loop-less loop-again returns)

@@ -33,12 +33,6 @@ row-term-requires c κs = let s = c .before .before .before .before .before .bef
 row-term-requires-2 : tie.Need-row-term-requires-2 Inv-loop μ-loop
 row-term-requires-2 c κs = let s = c .before .before .before .before .before .before .before .before .before in let h = c .before .loop-test .taken in (h, turn-beside (s .pre .0) (s .args .cols .now) refl (c .before .before .before .before .span .ensures) h (s .args .vals .now) (s .pre .1) (c .before .before .before .values-of .ensures), turn-fits (s .pre .0) (s .args .cols .now) refl (c .before .before .before .before .span .ensures) h (s .args .u) (s .pre .3), s .pre .4)
 
-add4-requires : tie.Need-add4-requires Inv-loop μ-loop
-add4-requires c κs = search needs
-
-add4-requires-2 : tie.Need-add4-requires-2 Inv-loop μ-loop
-add4-requires-2 c κs = search needs
-
 add-k : tie.Need-add-k Inv-loop μ-loop
 add-k c = omega arith
 
@@ -53,4 +47,4 @@ unfolding plusRow plusAll
 returns c = (rw (c .before .before .before .span .ensures, c .before .before .values-of .ensures) at (sum-end (c .before .loop .inv .0) (c .loop-test .left)), rw (c .before .before .before .span .ensures, c .before .before .values-of .ensures) at (sum-end (c .before .loop .inv .1) (c .loop-test .left)))
 
 pub row-plus-two-spec : {M : Type 1} → statement M
-row-plus-two-spec = tie.close (tie.spec Inv-loop μ-loop span-requires values-of-requires loop-holds row-term-requires row-term-requires-2 add4-requires add4-requires-2 add-k loop-less loop-again returns)
+row-plus-two-spec = tie.close (tie.spec Inv-loop μ-loop span-requires values-of-requires loop-holds row-term-requires row-term-requires-2 (λ c κs. search needs) (λ c κs. search needs) add-k loop-less loop-again returns)

@@ -10,12 +10,6 @@ use Rattle.step.proofs.advance.Tie as tie
 regions-requires : tie.Need-regions-requires
 regions-requires c κs = let s = c .before in omega (arith, room-le (s .args .width) (s .args .work .now), s .pre .1, s .good)
 
-step-length4-requires : tie.Need-step-length4-requires
-step-length4-requires c κs = search needs
-
-pick4-requires : tie.Need-pick4-requires
-pick4-requires c κs = search needs
-
 vector-update-requires : tie.Need-vector-update-requires
 vector-update-requires c κs =
     let s = c .before .before .before .before .before in
@@ -36,9 +30,6 @@ vector-update-requires-4 c κs =
     let s = c .before .before .before .before .before .before .before .before .before .before .before .before .before .before .before .before .before in
     rw (c .before .before .before .before .before .before .before .before .before .before .before .before .before .before .before .regions .ensures) (after (omega arith), omega (arith, s .pre .1, s .pre .0, kept-room (c .before .before .before .before .before .before .before .before .before .before .before .vector-update .ensures .kept), kept-room (c .before .before .before .before .before .before .before .vector-update2 .ensures .kept), kept-room (c .before .before .before .vector-update3 .ensures .kept)), omega (arith, s .pre .1, s .pre .0, kept-room (c .before .before .before .before .before .before .before .before .before .before .before .vector-update .ensures .kept), kept-room (c .before .before .before .before .before .before .before .vector-update2 .ensures .kept), kept-room (c .before .before .before .vector-update3 .ensures .kept)), s .pre .2)
 
-same-length : tie.Need-same-length
-same-length c = search needs
-
 returns : tie.Need-returns
 returns c =
     let s = c .before .before .before .before .before .before .before .before .before .before .before .before .before .before .before .before .before .before .before .before in
@@ -48,13 +39,4 @@ returns c =
 pub advance-spec : {M : Type 1} → statement M
 advance-spec =
     tie.close
-    (tie.spec
-    regions-requires
-    step-length4-requires
-    pick4-requires
-    vector-update-requires
-    vector-update-requires-2
-    vector-update-requires-3
-    vector-update-requires-4
-    same-length
-    returns)
+    (tie.spec regions-requires (λ c κs. search needs) (λ c κs. search needs) vector-update-requires vector-update-requires-2 vector-update-requires-3 vector-update-requires-4 (λ c. search needs) returns)

@@ -34,12 +34,6 @@ slack-changes-requires c κs =
     rw (c .before .before .before .before .before .before .before .before .regions .ensures)
     (laid (s .pre .2) (omega (arith, s .pre .1, z)))
 
-larger4-requires : tie.Need-larger4-requires
-larger4-requires c κs = search needs
-
-same-length : tie.Need-same-length
-same-length c = search needs
-
 returns : tie.Need-returns
 returns c =
     let s = c .before .before .before .before .before .before .before .before .before .before .before .before .before .before .before .before in
@@ -50,13 +44,4 @@ returns c =
 pub compute-dx-dz-dw-spec : {M : Type 1} → statement M
 compute-dx-dz-dw-spec =
     tie.close
-    (tie.spec
-    regions-requires
-    atindptr-requires
-    atindices-requires
-    atmap-requires
-    column-changes-requires
-    slack-changes-requires
-    larger4-requires
-    same-length
-    returns)
+    (tie.spec regions-requires atindptr-requires atindices-requires atmap-requires column-changes-requires slack-changes-requires (λ c κs. search needs) (λ c. search needs) returns)

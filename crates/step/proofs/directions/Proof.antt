@@ -11,9 +11,6 @@ use borrow.Author.Needs.{needs}
 use Rattle.step.proofs.directions.Statement.{statement}
 use Rattle.step.proofs.directions.Tie as tie
 
-normal-eqn-rhs-requires : tie.Need-normal-eqn-rhs-requires
-normal-eqn-rhs-requires c κs = search needs
-
 factor-solve-requires : tie.Need-factor-solve-requires
 factor-solve-requires c κs =
     let s = c .before .before .before .before .before .before .before .before .before .before .before .before in
@@ -24,9 +21,6 @@ compute-dx-dz-dw-requires c κs =
     let s = c .before .before .before .before .before .before .before .before .before .before .before .before .before .before .before .before in
     let k = c .before .before .before .factor-solve .ensures _ _ (s .pre .0) .kept in
     (record { off = _; cols = _; is = s .pre .0 }, omega (arith, s .pre .2, two-room k, untouched-room (c .before .before .before .before .before .before .before .normal-eqn-rhs .ensures standard [] .still .frame)), s .pre .1 .wide)
-
-same-length : tie.Need-same-length
-same-length c = search needs
 
 returns : tie.Need-returns
 returns c =
@@ -42,9 +36,4 @@ returns c =
 pub directions-spec : {M : Type 1} → statement M
 directions-spec =
     tie.close
-    (tie.spec
-    normal-eqn-rhs-requires
-    factor-solve-requires
-    compute-dx-dz-dw-requires
-    same-length
-    returns)
+    (tie.spec (λ c κs. search needs) factor-solve-requires compute-dx-dz-dw-requires (λ c. search needs) returns)

@@ -20,9 +20,6 @@ vector-set-requires-3 c κs = let s = c .before .before .before .before .before 
 vector-set-requires-4 : tie.Need-vector-set-requires-4
 vector-set-requires-4 c κs = let s = c .before .before .before .before .before .before .before .before .before .before .before .before .before .before .before .before .before .before .before .before in rw (c .before .before .before .before .before .before .before .before .before .before .before .before .before .before .before .before .before .before .regions .ensures) (omega (arith, s .pre .0, kept-room (c .before .before .before .before .before .before .before .before .before .before .before .before .before .before .vector-set .ensures .kept), kept-room (c .before .before .before .before .before .before .before .before .before .vector-set2 .ensures .kept), kept-room (c .before .before .before .before .vector-set3 .ensures .kept)), s .pre .1)
 
-same-length : tie.Need-same-length
-same-length c = search needs
-
 returns : tie.Need-returns
 returns c =
     let s = c .before .before .before .before .before .before .before .before .before .before .before .before .before .before .before .before .before .before .before .before .before .before .before in
@@ -41,16 +38,4 @@ returns c =
 pub normal-eqn-init-spec : {M : Type 1} → statement M
 normal-eqn-init-spec =
     tie.close
-    (tie.spec
-    regions-requires
-    (λ c κs. tt)
-    (λ c κs. tt)
-    vector-set-requires
-    (λ c κs. tt)
-    vector-set-requires-2
-    (λ c κs. tt)
-    vector-set-requires-3
-    (λ c κs. tt)
-    vector-set-requires-4
-    same-length
-    returns)
+    (tie.spec regions-requires (λ c κs. tt) (λ c κs. tt) vector-set-requires (λ c κs. tt) vector-set-requires-2 (λ c κs. tt) vector-set-requires-3 (λ c κs. tt) vector-set-requires-4 (λ c. search needs) returns)

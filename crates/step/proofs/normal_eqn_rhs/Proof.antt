@@ -34,9 +34,6 @@ rhs-f-requires c κs =
     rw (c .before .before .before .before .before .before .before .before .regions .ensures)
     (rows-for (prepared (s .pre .0)) .ranges, laid (s .pre .1 .wide) (omega (arith, s .pre .2, z)), record { lanes = s .pre .1 .within; long = s .pre .1 .b-long })
 
-same-length : tie.Need-same-length
-same-length c = search needs
-
 returns : tie.Need-returns
 returns c =
     let s = c .before .before .before .before .before .before .before .before .before .before .before .before .before .before .before .before .before .before .before in
@@ -47,12 +44,4 @@ returns c =
 pub normal-eqn-rhs-spec : {M : Type 1} → statement M
 normal-eqn-rhs-spec =
     tie.close
-    (tie.spec
-    regions-requires
-    atindptr-requires
-    atindices-requires
-    atmap-requires
-    rhs-u-requires
-    rhs-f-requires
-    same-length
-    returns)
+    (tie.spec regions-requires atindptr-requires atindices-requires atmap-requires rhs-u-requires rhs-f-requires (λ c. search needs) returns)

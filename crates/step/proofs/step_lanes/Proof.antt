@@ -8,19 +8,10 @@ use borrow.Author.Needs.{needs}
 use Rattle.step.proofs.step_lanes.Statement.{statement}
 use Rattle.step.proofs.step_lanes.Tie as tie
 
-lanes-done-requires : tie.Need-lanes-done-requires
-lanes-done-requires c κs = search needs
-
-directions-requires : tie.Need-directions-requires
-directions-requires c κs = search needs
-
 advance-requires : tie.Need-advance-requires
 advance-requires c κs =
     let s = c .before .before .before .before .before .before .before .before .before .before .before .before .before in
     (s .pre .1 .slack, omega (arith, s .pre .2, untouched-room (c .before .before .before .directions .ensures standard [] .still .frame)), s .pre .1 .wide)
-
-same-length : tie.Need-same-length
-same-length c = search needs
 
 returns : tie.Need-returns
 returns c =
@@ -32,4 +23,4 @@ returns c =
 
 pub step-lanes-spec : {M : Type 1} → statement M
 step-lanes-spec =
-    tie.close (tie.spec lanes-done-requires directions-requires advance-requires same-length returns)
+    tie.close (tie.spec (λ c κs. search needs) (λ c κs. search needs) advance-requires (λ c. search needs) returns)

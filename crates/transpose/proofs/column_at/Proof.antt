@@ -20,9 +20,6 @@ shared-slice-read-result c =
 cast-result : tie.Need-cast-result
 cast-result c = omega (arith, c .shared-slice-known .given (c .before .before .before .args .k))
 
-enum-told-2 : tie.Need-enum-told-2
-enum-told-2 c = search needs
-
 mul-result : tie.Need-mul-result
 mul-result c =
     let s = c .before .before in
@@ -51,13 +48,4 @@ returns-2 c =
 pub column-at-spec : {M : Type 1} → statement M
 column-at-spec =
     tie.close
-    (tie.spec
-    enum-told
-    shared-slice-read-result
-    cast-result
-    enum-told-2
-    mul-result
-    shared-slice-read-result-2
-    cast-result-2
-    returns
-    returns-2)
+    (tie.spec enum-told shared-slice-read-result cast-result (λ c. search needs) mul-result shared-slice-read-result-2 cast-result-2 returns returns-2)

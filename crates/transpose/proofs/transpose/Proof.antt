@@ -9,9 +9,6 @@ use borrow.Author.Needs.{needs}
 use Rattle.transpose.proofs.transpose.Statement.{statement}
 use Rattle.transpose.proofs.transpose.Tie as tie
 
-clear-requires : tie.Need-clear-requires
-clear-requires c κs = search needs
-
 count-rows-requires : tie.Need-count-rows-requires
 count-rows-requires c κs =
     let s = c .before .before .before .before .before .before .before .before .before .before .before in
@@ -87,12 +84,6 @@ add-result-2 c =
 same-length : tie.Need-same-length
 same-length c = c .before .before .before .before .before .before .before .before .before .before .before .scatter .kept .1 .1 .1 .1 .1 .1 .1 .0 ∙ c .before .before .before .before .before .before .before .before .before .before .before .before .before .before .before .before .before .before .before .before .before .before .put-ends .kept .1 .1 .0 ∙ c .before .before .before .before .before .before .before .before .before .before .before .before .before .before .before .before .before .before .before .before .before .before .before .before .before .before .before .before .count-rows .kept .1 .1 .1 .1 .1 .0 ∙ c .before .before .before .before .before .before .before .before .before .before .before .before .before .before .before .before .before .before .before .before .before .before .before .before .before .before .before .before .before .before .before .before .clear .kept .0
 
-same-length-2 : tie.Need-same-length-2
-same-length-2 c = search needs
-
-same-length-3 : tie.Need-same-length-3
-same-length-3 c = search needs
-
 returns : tie.Need-returns
 returns c =
     let s = c .before .before .before .before .before .before .before .before .before .before .before .before .before .before .before .before .before .before .before .before .before .before .before .before .before .before .before .before .before .before .before .before .before .before .before .before .before .before .before .before in
@@ -112,17 +103,4 @@ returns c =
 pub transpose-spec : {M : Type 1} → statement M
 transpose-spec =
     tie.close
-    (tie.spec
-    clear-requires
-    count-rows-requires
-    put-ends-requires
-    word-at-requires
-    scatter-requires
-    add-scatter
-    scatter-requires-2
-    add-result
-    add-result-2
-    same-length
-    same-length-2
-    same-length-3
-    returns)
+    (tie.spec (λ c κs. search needs) count-rows-requires put-ends-requires word-at-requires scatter-requires add-scatter scatter-requires-2 add-result add-result-2 same-length (λ c. search needs) (λ c. search needs) returns)

@@ -2,11 +2,8 @@ use borrow.Author.Needs.{needs}
 use Rattle.layout.proofs.Plan.words.Statement.{statement}
 use Rattle.layout.proofs.Plan.words.Tie as tie
 
-starts-requires : tie.Need-starts-requires
-starts-requires c κs = search needs
-
 returns : tie.Need-returns
 returns c = rw (c .starts .ensures)
 
 pub words-spec : {M : Type 1} → statement M
-words-spec = tie.close (tie.spec starts-requires returns)
+words-spec = tie.close (tie.spec (λ c κs. search needs) returns)

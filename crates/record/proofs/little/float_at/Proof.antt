@@ -4,14 +4,8 @@ use borrow.Author.Needs.{needs}
 use Rattle.record.proofs.little.float_at.Statement.{statement}
 use Rattle.record.proofs.little.float_at.Tie as tie
 
-le64-requires : tie.Need-le64-requires
-le64-requires c κs = search needs
-
-value-of-requires : tie.Need-value-of-requires
-value-of-requires c κs = search needs
-
 returns : tie.Need-returns
 returns c = c .value-of .ensures ∙ ap (ofBits binary64) (c .before .le64 .ensures)
 
 pub float-at-spec : {M : Type 1} → statement M
-float-at-spec = tie.close (tie.spec le64-requires value-of-requires returns)
+float-at-spec = tie.close (tie.spec (λ c κs. search needs) (λ c κs. search needs) returns)
