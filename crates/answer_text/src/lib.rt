@@ -1,6 +1,6 @@
 // The text of an answer, written to a lent buffer.
 ghost use mathlib.Core.Path.{_≡_};
-ghost use Prim.Native.Nat.{_+_, _*_, _≤_, _<_};
+ghost use Prim.Native.Nat.{_+_, _*_, _≤_};
 ghost use lib.ListN.{length};
 ghost use Rattle.base.specs.Cat.{cat, Wrote};
 ghost use Rattle.answer_text.specs.Text.{wholeBytes, floatBytes, lineBytes, acceptedBytes, refusedBytes, inputBytes, wholeText, floatText, lineText, acceptedText, refusedText, inputText};

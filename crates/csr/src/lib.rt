@@ -1,7 +1,7 @@
 // The lent matrix: its rows, and questions 1 to 5.
 ghost use mathlib.Core.Path.{_≡_};
 ghost use mathlib.Core.Bool.{_&&_};
-ghost use Prim.Native.Nat.{ℕ, _+_, _≤_, _<_};
+ghost use Prim.Native.Nat.{ℕ, _+_, _≤_};
 ghost use lib.Dec.{leb, ltb};
 ghost use lib.ListN.{length, getD};
 ghost use Rattle.base.specs.Numbers.{Part};

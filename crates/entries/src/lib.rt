@@ -1,6 +1,6 @@
 // Entries of a lent list of lanes: read into an array of four by value, and stored from one.
 ghost use mathlib.Core.Path.{_≡_};
-ghost use Prim.Native.Nat.{ℕ, _+_, _<_, _≤_, _*_};
+ghost use Prim.Native.Nat.{_+_, _<_, _≤_, _*_};
 ghost use lib.ListN.{length};
 ghost use Rattle.lanes.specs.Lists.{at};
 ghost use Rattle.lanes.specs.Lanes.{lanes, cell, put, On, Width, room};

@@ -5,7 +5,7 @@ use Prim.Native.Nat.{ℕ, suc, _+_, _-_, _*_, _≤_, _<_}
 use native.Mathlib.Omega.{arith}
 use lib.ListN.{length, take, drop, replicate}
 use lib.Ieee.{Float}
-use Rattle.csr.specs.Verdict.{Verdict, passed, planned, andThen, refusal}
+use Rattle.csr.specs.Verdict.{Verdict, passed, andThen, refusal}
 use Rattle.csr.specs.declared.Refusal.{Refusal}
 use Rattle.csr.specs.Questions.{firstNo}
 use Rattle.csr.specs.Csr.{Accepted}

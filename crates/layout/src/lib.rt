@@ -3,7 +3,7 @@ ghost use mathlib.Core.Path.{_≡_};
 ghost use Prim.Native.Nat.{_*_, _≤_};
 ghost use lib.ListN.{length};
 ghost use Rattle.base.specs.Numbers.{cut};
-ghost use Rattle.layout.specs.Layout.{planOf, lAt, lIn, topIn, numbersOf, regionsOf, topWord};
+ghost use Rattle.layout.specs.Layout.{planOf, lIn, topIn, numbersOf, regionsOf, topWord};
 ghost use Rattle.layout.specs.Lists.{startsOf, wordsAt, anormIndptrIn, anormIndptrIIn, anormIndptrJIn, anormIndicesIn, ldecompIndptrIn, ldecompIndptrIIn, ldecompIndptrJIn, lindptrIn, ldiagIndptrIn, lindicesIn, ltindptrIn, ltindicesIn, ltmapIn, atindptrIn, atindicesIn, atmapIn, Indexed};
 
 // The sizes of a problem and of its plan: m rows, n columns, s slack rows, t entries of the matrix; E stored pairs, S shared columns, D products.

@@ -3,7 +3,7 @@ use mathlib.Core.Path.{_≡_, refl, sym, ap, _∙_, subst}
 use mathlib.Core.Logic.{_⊎_, inl, inr}
 use mathlib.Core.Bool.{Bool, true, false, cond, _&&_, true≢false}
 use mathlib.Core.List.{List, [], _∷_, _++_}
-use Prim.Native.Nat.{ℕ, zero, suc, _+_, _-_, _≤_, _<_}
+use Prim.Native.Nat.{ℕ, suc, _+_, _-_, _≤_, _<_}
 use native.Mathlib.Nat.{eq-or-lt-of-le}
 use native.Mathlib.Decide.{ℕ-discrete}
 use native.Mathlib.Omega.{arith}
@@ -12,7 +12,7 @@ use lib.Dec.{eqb, ltb}
 use lib.ListN.{getD, List·getD-append}
 use lib.Seq.{getD-at}
 use lib.Ieee.{Float, nan, binary64, add, sub, mul, div}
-use Rattle.lanes.specs.Lists.{at, grow, fold, each}
+use Rattle.lanes.specs.Lists.{at, grow, each}
 use Rattle.machine.specs.Machine.{Problem, State, cell, holds, entry, inFactor, reduced, factorEntry, factor, forward}
 use Rattle.lanes.specs.Arithmetic.{null, √, magnitude}
 use Rattle.lanes.proofs.Lists.{grow-length, grow-at, fold-same}

@@ -1,6 +1,6 @@
 -- What a test reads: tolerances, divisors, and what mu is divided by. Assumes nothing.
 use mathlib.Core.Path.{_≡_, refl, sym, ap, ap₂, _∙_}
-use mathlib.Core.Logic.{_⊎_, inl, inr}
+use mathlib.Core.Logic.{inl, inr}
 use mathlib.Core.Bool.{Bool, true, false, cond, _&&_, false≢true}
 use mathlib.Core.List.{List, _++_}
 use Prim.Native.Nat.{ℕ, _+_, _*_}
@@ -14,7 +14,7 @@ use Rattle.lanes.specs.Arithmetic.{_⊕_, _⊗_, _⊘_, whole, Σ}
 use Rattle.lanes.specs.Lists.{at}
 use Rattle.lanes.proofs.Lists.{lane-at}
 use Rattle.machine.specs.Machine.{Problem, LaneData, Settings, State, spoilt, done, steps, status, R, Q, G, g, mu}
-use Rattle.machine.specs.Outcome.{Call, isDone, laneData}
+use Rattle.machine.specs.Outcome.{Call, isDone}
 use Rattle.machine.specs.Theorems as theorems
 
 -- no number is below itself

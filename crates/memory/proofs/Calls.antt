@@ -9,7 +9,6 @@ use lib.Seq.{length-take-le, getD-take, getD-drop}
 use lib.Ieee.{Float, nan}
 use Rattle.base.specs.Numbers.{cut}
 use Rattle.lanes.specs.Lists.{at, lane}
-use Rattle.lanes.specs.Lanes.{cell}
 use Rattle.lanes.specs.Region.{reg}
 use Rattle.lanes.proofs.Lists.{vec-same}
 use Rattle.lanes.proofs.Regions.{reg-at}

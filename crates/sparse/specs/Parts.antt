@@ -1,5 +1,5 @@
 -- A row and a column of the matrix, by the lists that the program reads. Definitions only.
-use Prim.Native.Nat.{ℕ, _-_}
+use Prim.Native.Nat.{ℕ}
 use mathlib.Core.Path.{_≡_}
 use mathlib.Core.List.{List}
 use lib.ListN.{getD, length}

@@ -2,7 +2,7 @@
 use Prim.Native.Nat.{ℕ, zero, suc, _+_, _-_, _≤_, _<_}
 use mathlib.Core.Path.{_≡_}
 use mathlib.Core.List.{List}
-use lib.ListN.{getD, length, take, drop, set}
+use lib.ListN.{getD, length, set}
 use lib.Ieee.{Float}
 use Rattle.base.specs.Numbers.{cut}
 use Rattle.lanes.specs.Lists.{at, fold, grow}

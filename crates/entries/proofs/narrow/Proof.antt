@@ -1,6 +1,5 @@
 use mathlib.Core.Path.{refl}
 use Rattle.entries.proofs.Entries.{few-on}
-use native.Mathlib.Omega.{arith}
 use borrow.Author.Needs.{needs}
 use Rattle.entries.proofs.narrow.Statement.{statement}
 use Rattle.entries.proofs.narrow.Tie as tie

@@ -1,6 +1,5 @@
 use native.Mathlib.Omega.{arith}
 use Rattle.lanes.proofs.Quads.{few-lanes}
-use borrow.Author.Needs.{needs}
 use Rattle.lane_test.proofs.judge4.Statement.{statement}
 use Rattle.lane_test.proofs.judge4.Tie as tie
 

@@ -1,5 +1,4 @@
 use Rattle.lanes.proofs.Quads.{on}
-use Rattle.lanes.proofs.Regions.{room-le}
 use native.Mathlib.Omega.{arith}
 use Rattle.kernels.proofs.Laid.{laid}
 use Rattle.lane_test.proofs.Tests.{measured}

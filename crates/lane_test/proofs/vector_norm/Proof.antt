@@ -1,4 +1,3 @@
-use native.Mathlib.Omega.{arith}
 use Rattle.lanes.proofs.Quads.{root-on}
 use Rattle.lanes.specs.Arithmetic.{norm}
 use borrow.Author.Needs.{needs}

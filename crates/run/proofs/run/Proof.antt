@@ -1,6 +1,6 @@
 use borrow.Author.Needs.{needs}
 use native.Mathlib.Omega.{arith}
-use mathlib.Core.Path.{_≡_, refl, sym, _∙_}
+use mathlib.Core.Path.{refl, sym, _∙_}
 use Prim.Native.Nat.{_-_, _≤_}
 use Rattle.lanes.specs.Lanes.{room}
 use Rattle.lanes.proofs.Consts.{tenth-bits, damping-bits}
