@@ -11,6 +11,4 @@ returns c =
     (join (c .before .before .before .before .before .before .put-whole .ensures .0) (c .before .before .put-lines .ensures))
 
 pub put-accepted-spec : {M : Type 1} → statement M
-put-accepted-spec =
-    tie.close
-    (tie.spec (λ c. search needs) (λ c κs. search needs) (λ c κs. search needs) (λ c κs. search needs) (λ c. search needs) returns)
+put-accepted-spec = tie.close (tie.spec (λ c. search needs) (λ c κs. search needs) (λ c κs. search needs) (λ c κs. search needs) (λ c. search needs) returns)

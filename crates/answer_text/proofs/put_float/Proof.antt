@@ -30,6 +30,4 @@ returns c =
     )
 
 pub put-float-spec : {M : Type 1} → statement M
-put-float-spec =
-    tie.close
-    (tie.spec (λ c κs. search needs) (λ c κs. search needs) (λ c. search needs) (λ c. search needs) put-requires byte-requires (λ c. search needs) returns)
+put-float-spec = tie.close (tie.spec (λ c κs. search needs) (λ c κs. search needs) (λ c. search needs) (λ c. search needs) put-requires byte-requires (λ c. search needs) returns)

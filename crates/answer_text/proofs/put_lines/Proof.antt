@@ -44,15 +44,4 @@ returns : tie.Need-returns Inv-loop μ-loop
 returns c = same-text (ap (λ (k : ℕ). cat k (lineText (c .before .before .before .before .args .x .now))) (omega arith)) (c .before .loop .inv .1 .1)
 
 pub put-lines-spec : {M : Type 1} → statement M
-put-lines-spec =
-    tie.close
-    (tie.spec
-    Inv-loop
-    μ-loop
-    loop-holds
-    put-line-requires
-    add-e
-    loop-less
-    loop-again
-    same-length
-    returns)
+put-lines-spec = tie.close (tie.spec Inv-loop μ-loop loop-holds put-line-requires add-e loop-less loop-again same-length returns)

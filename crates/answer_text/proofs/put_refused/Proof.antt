@@ -12,6 +12,4 @@ returns c =
     (join (c .before .before .before .before .before .before .put-whole2 .ensures .0) (c .before .before .put-whole3 .ensures .0)))
 
 pub put-refused-spec : {M : Type 1} → statement M
-put-refused-spec =
-    tie.close
-    (tie.spec (λ c. search needs) (λ c κs. search needs) (λ c κs. search needs) (λ c κs. search needs) (λ c κs. search needs) (λ c. search needs) returns)
+put-refused-spec = tie.close (tie.spec (λ c. search needs) (λ c κs. search needs) (λ c κs. search needs) (λ c κs. search needs) (λ c κs. search needs) (λ c. search needs) returns)

@@ -27,6 +27,4 @@ returns c =
     (then-byte (made .1 .1 ∙ decimal-is 20 _ _ few (made .1 .0)) put last, omega (arith, last .next, put .next, made .0 .1, few))
 
 pub put-whole-spec : {M : Type 1} → statement M
-put-whole-spec =
-    tie.close
-    (tie.spec (λ c κs. search needs) (λ c. search needs) (λ c. search needs) put-requires byte-requires (λ c. search needs) returns)
+put-whole-spec = tie.close (tie.spec (λ c κs. search needs) (λ c. search needs) (λ c. search needs) put-requires byte-requires (λ c. search needs) returns)

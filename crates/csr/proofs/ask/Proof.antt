@@ -107,6 +107,4 @@ returns-6 c =
     )
 
 pub ask-spec : {M : Type 1} → statement M
-ask-spec =
-    tie.close
-    (tie.spec (λ c κs. search needs) (λ c κs. search needs) returns (λ c κs. search needs) (λ c κs. search needs) returns-2 offsets-right-requires (λ c κs. search needs) returns-3 first-short-requires (λ c κs. search needs) returns-4 first-bad-requires (λ c κs. search needs) returns-5 returns-6)
+ask-spec = tie.close (tie.spec (λ c κs. search needs) (λ c κs. search needs) returns (λ c κs. search needs) (λ c κs. search needs) returns-2 offsets-right-requires (λ c κs. search needs) returns-3 first-short-requires (λ c κs. search needs) returns-4 first-bad-requires (λ c κs. search needs) returns-5 returns-6)

@@ -43,6 +43,4 @@ returns-2 : tie.Need-returns-2 Inv-loop μ-loop
 returns-2 c = none _ _ _ (omega arith) (c .before .loop .inv)
 
 pub first-bad-spec : {M : Type 1} → statement M
-first-bad-spec =
-    tie.close
-    (tie.spec Inv-loop μ-loop loop-holds get-row-requires (λ c κs. search needs) returns add-i loop-less loop-again returns-2)
+first-bad-spec = tie.close (tie.spec Inv-loop μ-loop loop-holds get-row-requires (λ c κs. search needs) returns add-i loop-less loop-again returns-2)

@@ -60,18 +60,4 @@ returns-2 : tie.Need-returns-2 Inv-loop μ-loop
 returns-2 c = none _ _ _ (omega arith) (c .before .loop .inv)
 
 pub first-short-spec : {M : Type 1} → statement M
-first-short-spec =
-    tie.close
-    (tie.spec
-    Inv-loop
-    μ-loop
-    loop-holds
-    add-word-at
-    word-at-requires
-    word-at-requires-2
-    add-if1
-    returns
-    add-i
-    loop-less
-    loop-again
-    returns-2)
+first-short-spec = tie.close (tie.spec Inv-loop μ-loop loop-holds add-word-at word-at-requires word-at-requires-2 add-if1 returns add-i loop-less loop-again returns-2)

@@ -72,23 +72,4 @@ unfolding badRow
 returns-3 c = none-test _ _ _ (omega arith) (c .before .loop .inv)
 
 pub is-bad-spec : {M : Type 1} → statement M
-is-bad-spec =
-    tie.close
-    (tie.spec
-    Inv-loop
-    μ-loop
-    loop-holds
-    mul-if1
-    shared-slice-read-if1
-    cast-if1
-    returns
-    mul-if3
-    shared-slice-read-if3
-    sub-if3
-    mul-if3-2
-    shared-slice-read-if3-2
-    returns-2
-    add-k
-    loop-less
-    loop-again
-    returns-3)
+is-bad-spec = tie.close (tie.spec Inv-loop μ-loop loop-holds mul-if1 shared-slice-read-if1 cast-if1 returns mul-if3 shared-slice-read-if3 sub-if3 mul-if3-2 shared-slice-read-if3-2 returns-2 add-k loop-less loop-again returns-3)

@@ -40,6 +40,4 @@ returns-6 c =
     simp (eq-eqb _ _ (c .before .before .before .before .before .before .before .if1 .left), eq-eqb _ _ (c .before .before .before .before .before .if2 .left), ← (c .before .before .before .before .first-short .ensures ∙ short-falls (c .before .before .before .before .before .before .before .before .before .args .offsets .now) (c .before .before .before .before .before .before .before .before .before .args .m)), le-ltb _ _ (c .before .before .before .if3 .left), eq-eqb _ _ (c .before .if4 .left), le-ltb _ _ (c .if5 .left))
 
 pub offsets-right-spec : {M : Type 1} → statement M
-offsets-right-spec =
-    tie.close
-    (tie.spec (λ c. search needs) returns (λ c. search needs) returns-2 (λ c κs. search needs) returns-3 (λ c. search needs) (λ c. search needs) cast-if4 returns-4 returns-5 returns-6)
+offsets-right-spec = tie.close (tie.spec (λ c. search needs) returns (λ c. search needs) returns-2 (λ c κs. search needs) returns-3 (λ c. search needs) (λ c. search needs) cast-if4 returns-4 returns-5 returns-6)

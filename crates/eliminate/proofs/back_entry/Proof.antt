@@ -104,33 +104,4 @@ returns c =
     (rw (c .before .before .before .before .before .before .before .before .before .before .before .before .before .before .before .regions .ensures, by-ends (c .before .before .before .before .before .before .before .before .before .before .before .before .before .before .before .before .before .before .args .i + 1) (c .before .before .before .word-at3 .ensures) (c .before .before .before .before .lindptr .ensures)) at (c .before .get2 .ensures)) (c .div4 .ensures)
 
 pub back-entry-spec : {M : Type 1} → statement M
-back-entry-spec =
-    tie.close
-    (tie.spec
-    regions-requires
-    ltindptr-requires
-    ltindices-requires
-    ltmap-requires
-    word-at-requires
-    add-a
-    add-word-at
-    word-at-requires-2
-    add-get
-    get-requires
-    mul-less-back
-    sub-less-back
-    part-less-back-start
-    part-less-back-end
-    mul-less-back-2
-    sub-less-back-2
-    part-less-back-start-2
-    part-less-back-end-2
-    less-back-requires
-    lindptr-requires
-    add-word-at-2
-    word-at-requires-3
-    sub-g
-    add-get-2
-    get-requires-2
-    (λ c κs. tt)
-    returns)
+back-entry-spec = tie.close (tie.spec regions-requires ltindptr-requires ltindices-requires ltmap-requires word-at-requires add-a add-word-at word-at-requires-2 add-get get-requires mul-less-back sub-less-back part-less-back-start part-less-back-end mul-less-back-2 sub-less-back-2 part-less-back-start-2 part-less-back-end-2 less-back-requires lindptr-requires add-word-at-2 word-at-requires-3 sub-g add-get-2 get-requires-2 (λ c κs. tt) returns)

@@ -50,18 +50,4 @@ returns : tie.Need-returns Inv-loop μ-loop
 returns c = falls-end (c .before .loop .inv) (c .loop-test .left)
 
 pub backward-spec : {M : Type 1} → statement M
-backward-spec =
-    tie.close
-    (tie.spec
-    Inv-loop
-    μ-loop
-    regions-requires
-    loop-holds
-    sub-i
-    back-entry-requires
-    add-put
-    put-requires
-    loop-less
-    loop-again
-    same-length
-    returns)
+backward-spec = tie.close (tie.spec Inv-loop μ-loop regions-requires loop-holds sub-i back-entry-requires add-put put-requires loop-less loop-again same-length returns)

@@ -68,18 +68,4 @@ returns c =
     done-all (given-of P (s .pre .1) (s .pre .2)) i (omega (arith, i .low, rw (c .before .before .before .regions .ensures) at (c .if1 .left)))
 
 pub factor-forward-spec : {M : Type 1} → statement M
-factor-forward-spec =
-    tie.close
-    (tie.spec
-    Inv-loop
-    μ-loop
-    regions-requires
-    loop-holds
-    normal-matrix-cholesky-row-requires
-    add-put
-    put-requires
-    add-i
-    loop-less
-    loop-again
-    same-length
-    returns)
+factor-forward-spec = tie.close (tie.spec Inv-loop μ-loop regions-requires loop-holds normal-matrix-cholesky-row-requires add-put put-requires add-i loop-less loop-again same-length returns)

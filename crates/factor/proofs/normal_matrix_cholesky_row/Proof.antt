@@ -176,40 +176,4 @@ returns c = λ off cols D.
     }
 
 pub normal-matrix-cholesky-row-spec : {M : Type 1} → statement M
-normal-matrix-cholesky-row-spec =
-    tie.close
-    (tie.spec
-    Inv-loop
-    μ-loop
-    regions-requires
-    lindptr-requires
-    lindices-requires
-    add-word-at
-    word-at-requires
-    sub-g
-    start-of-requires
-    normal-sum-requires
-    add-get
-    get-requires
-    word-at-requires-2
-    loop-holds
-    word-at-requires-3
-    splat-requires
-    normal-sum-requires-2
-    less-products-requires
-    over-diagonal-requires
-    add-put
-    put-requires
-    add-get-2
-    get-requires-2
-    less-in-requires
-    less-in-requires-2
-    add-e
-    loop-less
-    loop-again
-    root-of-requires
-    add-put-2
-    put-requires-2
-    div4-requires
-    same-length
-    returns)
+normal-matrix-cholesky-row-spec = tie.close (tie.spec Inv-loop μ-loop regions-requires lindptr-requires lindices-requires add-word-at word-at-requires sub-g start-of-requires normal-sum-requires add-get get-requires word-at-requires-2 loop-holds word-at-requires-3 splat-requires normal-sum-requires-2 less-products-requires over-diagonal-requires add-put put-requires add-get-2 get-requires-2 less-in-requires less-in-requires-2 add-e loop-less loop-again root-of-requires add-put-2 put-requires-2 div4-requires same-length returns)

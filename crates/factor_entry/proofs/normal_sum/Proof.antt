@@ -97,32 +97,4 @@ returns c =
     (summed-end (s .args .width) (normalStep (s .args .width) (s .args .values .now) (c .before .before .before .before .before .before .anorm-indptr-i .result .now) (c .before .before .before .before .before .anorm-indptr-j .result .now) (c .before .before .before .before .anorm-indices .result .now) (s .args .work .now) (s .args .mem .x) (s .args .mem .z)) (s .args .start) (c .before .loop .acc) (by-ends (s .args .e) (c .before .before .word-at2 .ensures) (c .before .before .before .before .before .before .before .anorm-indptr .ensures)) (by-ends (s .args .e + 1) (c .before .before .before .word-at .ensures) (c .before .before .before .before .before .before .before .anorm-indptr .ensures)) (omega (arith, c .before .loop .inv .1, c .loop-test .left)) (c .before .loop .inv .2))
 
 pub normal-sum-spec : {M : Type 1} → statement M
-normal-sum-spec =
-    tie.close
-    (tie.spec
-    Inv-loop
-    μ-loop
-    anorm-indptr-requires
-    anorm-indptr-i-requires
-    anorm-indptr-j-requires
-    anorm-indices-requires
-    add-word-at
-    word-at-requires
-    word-at-requires-2
-    loop-holds
-    word-at-requires-3
-    word-at-requires-4
-    word-at-requires-5
-    add-get
-    get-requires
-    add-get-2
-    get-requires-2
-    mul-normal-in
-    shared-slice-read-normal-in
-    mul-normal-in-2
-    shared-slice-read-normal-in-2
-    normal-in-requires
-    add-p
-    loop-less
-    loop-again
-    returns)
+normal-sum-spec = tie.close (tie.spec Inv-loop μ-loop anorm-indptr-requires anorm-indptr-i-requires anorm-indptr-j-requires anorm-indices-requires add-word-at word-at-requires word-at-requires-2 loop-holds word-at-requires-3 word-at-requires-4 word-at-requires-5 add-get get-requires add-get-2 get-requires-2 mul-normal-in shared-slice-read-normal-in mul-normal-in-2 shared-slice-read-normal-in-2 normal-in-requires add-p loop-less loop-again returns)

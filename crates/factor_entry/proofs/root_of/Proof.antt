@@ -19,12 +19,4 @@ returns-2 : tie.Need-returns-2
 returns-2 c = let s = c .before .before .before .before in root-value (s .args .v) (c .before .abs4 .ensures) (c .root42 .ensures)
 
 pub root-of-spec : {M : Type 1} → statement M
-root-of-spec =
-    tie.close
-    (tie.spec
-    (λ c κs. tt)
-    (λ c κs. tt)
-    returns
-    (λ c κs. tt)
-    (λ c κs. tt)
-    returns-2)
+root-of-spec = tie.close (tie.spec (λ c κs. tt) (λ c κs. tt) returns (λ c κs. tt) (λ c κs. tt) returns-2)

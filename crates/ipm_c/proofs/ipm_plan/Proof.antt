@@ -32,6 +32,4 @@ returns-2 c =
     (c .pack2 .ensures ∙ ap packed said, c .before .before .before .before .before .before .plan .ensures .1)
 
 pub ipm-plan-spec : {M : Type 1} → statement M
-ipm-plan-spec =
-    tie.close
-    (tie.spec (λ c κs. search needs) (λ c. search needs) pack-requires (λ c. search needs) pack-requires-2 (λ c. search needs) returns (λ c. search needs) returns-2)
+ipm-plan-spec = tie.close (tie.spec (λ c κs. search needs) (λ c. search needs) pack-requires (λ c. search needs) pack-requires-2 (λ c. search needs) returns (λ c. search needs) returns-2)

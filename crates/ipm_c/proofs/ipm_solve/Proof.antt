@@ -27,6 +27,4 @@ returns-2 : tie.Need-returns-2
 returns-2 c = in-one (c .before .before .before .before .before .before .before .before .before .before .solve .ensures) (c .pack2 .ensures ∙ ap packed (sym (ap toldSolve (c .before .before .r .given .1))))
 
 pub ipm-solve-spec : {M : Type 1} → statement M
-ipm-solve-spec =
-    tie.close
-    (tie.spec (λ c κs. search needs) (λ c. search needs) pack-requires (λ c. search needs) pack-requires-2 (λ c. search needs) (λ c. search needs) (λ c. search needs) returns (λ c. search needs) (λ c. search needs) (λ c. search needs) returns-2)
+ipm-solve-spec = tie.close (tie.spec (λ c κs. search needs) (λ c. search needs) pack-requires (λ c. search needs) pack-requires-2 (λ c. search needs) (λ c. search needs) (λ c. search needs) returns (λ c. search needs) (λ c. search needs) (λ c. search needs) returns-2)

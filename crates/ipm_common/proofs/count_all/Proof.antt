@@ -58,15 +58,4 @@ returns c =
     }
 
 pub count-all-spec : {M : Type 1} → statement M
-count-all-spec =
-    tie.close
-    (tie.spec
-    count-requires
-    clear-requires
-    count-rows-requires
-    clear-requires-2
-    count-rows-requires-2
-    cast-t22
-    sub-t23
-    same-length
-    returns)
+count-all-spec = tie.close (tie.spec count-requires clear-requires count-rows-requires clear-requires-2 count-rows-requires-2 cast-t22 sub-t23 same-length returns)

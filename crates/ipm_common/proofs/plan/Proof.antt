@@ -40,6 +40,4 @@ returns-2 c =
     (said, ap (λ (v : Verdict). left v new (a .index .now)) said)
 
 pub plan-spec : {M : Type 1} → statement M
-plan-spec =
-    tie.close
-    (tie.spec (λ c κs. search needs) enum-told plan-accepted-requires (λ c. search needs) (λ c. search needs) returns returns-2)
+plan-spec = tie.close (tie.spec (λ c κs. search needs) enum-told plan-accepted-requires (λ c. search needs) (λ c. search needs) returns returns-2)

@@ -39,6 +39,4 @@ returns-2 c =
     }
 
 pub plan-accepted-spec : {M : Type 1} → statement M
-plan-accepted-spec =
-    tie.close
-    (tie.spec (λ c κs. search needs) words-requires (λ c κs. search needs) (λ c. search needs) returns (λ c. search needs) returns-2)
+plan-accepted-spec = tie.close (tie.spec (λ c κs. search needs) words-requires (λ c κs. search needs) (λ c. search needs) returns (λ c. search needs) returns-2)

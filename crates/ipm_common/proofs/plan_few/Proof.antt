@@ -13,6 +13,4 @@ plan-in-requires c κs =
     (s .pre .0, memories-for 16 32 136 pairs-16 (omega arith) (omega arith) (s .args .m) (s .args .n) (s .pre .1) (s .pre .2) _ _ _ _ _ refl refl refl refl refl)
 
 pub plan-few-spec : {M : Type 1} → statement M
-plan-few-spec =
-    tie.close
-    (tie.spec (λ c. search needs) (λ c. search needs) (λ c. search needs) (λ c. search needs) (λ c. search needs) plan-in-requires (λ c. search needs) (λ c. search needs))
+plan-few-spec = tie.close (tie.spec (λ c. search needs) (λ c. search needs) (λ c. search needs) (λ c. search needs) (λ c. search needs) plan-in-requires (λ c. search needs) (λ c. search needs))

@@ -82,6 +82,4 @@ returns-3 c =
     }
 
 pub plan-in-spec : {M : Type 1} → statement M
-plan-in-spec =
-    tie.close
-    (tie.spec (λ c. search needs) pattern-requires (λ c. search needs) (λ c κs. search needs) (λ c. search needs) (λ c κs. search needs) (λ c. search needs) (λ c. search needs) (λ c. search needs) (λ c. search needs) returns words-requires (λ c. search needs) (λ c. search needs) (λ c. search needs) returns-2 (λ c. search needs) put-plan-requires same-length-7 same-length-8 same-length-9 (λ c. search needs) (λ c. search needs) (λ c. search needs) returns-3)
+plan-in-spec = tie.close (tie.spec (λ c. search needs) pattern-requires (λ c. search needs) (λ c κs. search needs) (λ c. search needs) (λ c κs. search needs) (λ c. search needs) (λ c. search needs) (λ c. search needs) (λ c. search needs) returns words-requires (λ c. search needs) (λ c. search needs) (λ c. search needs) returns-2 (λ c. search needs) put-plan-requires same-length-7 same-length-8 same-length-9 (λ c. search needs) (λ c. search needs) (λ c. search needs) returns-3)

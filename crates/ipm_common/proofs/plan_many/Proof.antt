@@ -13,6 +13,4 @@ plan-in-requires c κs =
     (s .pre, memories-for 256 1024 32896 pairs-256 (omega arith) (omega arith) (s .args .m) (s .args .n) (s .pre .csr .few) (s .pre .wide) _ _ _ _ _ refl refl refl refl refl)
 
 pub plan-many-spec : {M : Type 1} → statement M
-plan-many-spec =
-    tie.close
-    (tie.spec (λ c. search needs) (λ c. search needs) (λ c. search needs) (λ c. search needs) (λ c. search needs) plan-in-requires (λ c. search needs) (λ c. search needs))
+plan-many-spec = tie.close (tie.spec (λ c. search needs) (λ c. search needs) (λ c. search needs) (λ c. search needs) (λ c. search needs) plan-in-requires (λ c. search needs) (λ c. search needs))

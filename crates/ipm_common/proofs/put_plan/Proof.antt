@@ -39,6 +39,4 @@ returns c =
     fin.plan-wrote (a .off .now) (a .cols .now) (a .m) (a .n) (a .p .now) (a .lindptr .now) (a .lindices .now) (s .pre .1) (s .pre .2) (a .index .now) (t .last .1 .1 .1 .1 .1 .1 .1 .1 .0) (u .last .1 .1 .1 .1 .1 .1 .1 .1 .0) (v .last .1 .1 .1 .1 .1 .1 .1 .1 .0) (t .result) (u .result) (v .result) (t .ensures) (u .ensures) (v .ensures)
 
 pub put-plan-spec : {M : Type 1} → statement M
-put-plan-spec =
-    tie.close
-    (tie.spec put-ten-requires transpose-requires transpose-requires-2 (λ c. search needs) (λ c. search needs) (λ c. search needs) (λ c. search needs) returns)
+put-plan-spec = tie.close (tie.spec put-ten-requires transpose-requires transpose-requires-2 (λ c. search needs) (λ c. search needs) (λ c. search needs) (λ c. search needs) returns)

@@ -21,6 +21,4 @@ returns-5 : tie.Need-returns-5
 returns-5 c = let s = c .before .before .before .before .before .before .before in below-some (s .args .m) (s .args .n) (s .args .s) (s .args .lengths .b) (s .args .lengths .c) (s .args .lengths .tolerances) (s .args .lengths .output) (s .args .lengths .work) (s .args .limit) (c .before .before .before .before .before .before .if1 .left) (sym (c .before .before .before .before .before .lengths-right .ensures) ∙ not-false (c .before .before .before .before .before .lengths-right .result) (c .before .before .before .before .if2 .left)) (sym (c .before .before .before .limit-right .ensures) ∙ not-false (c .before .before .before .limit-right .result) (c .before .before .if3 .left)) (c .if4 .left)
 
 pub entries-below-spec : {M : Type 1} → statement M
-entries-below-spec =
-    tie.close
-    (tie.spec returns (λ c κs. search needs) returns-2 (λ c κs. search needs) returns-3 (λ c. search needs) (λ c. search needs) (λ c. search needs) (λ c. search needs) (λ c. search needs) returns-4 (λ c. search needs) returns-5)
+entries-below-spec = tie.close (tie.spec returns (λ c κs. search needs) returns-2 (λ c κs. search needs) returns-3 (λ c. search needs) (λ c. search needs) (λ c. search needs) (λ c. search needs) (λ c. search needs) returns-4 (λ c. search needs) returns-5)

@@ -89,6 +89,4 @@ returns-2 c =
     go-on a B (z .e) (z .s) (z .d) k v ((rw (c .before .before .before .before .before .before .before .before .before .before .before .before .new .ensures) at (c .before .before .before .before .solve-planned .ensures)) (s .args .index .now) q (c .before .before .before .before .before .before .before .before .before .before .before .before .before .before .before .before .before .plan-below .ensures .words ∙ index-planned a B (z .e) (z .s) (z .d) k (c .before .before .before .before .before .before .before .before .before .before .before .before .before .before .before .before .before .before .before .entries-below .result) bound v))
 
 pub solve-accepted-spec : {M : Type 1} → statement M
-solve-accepted-spec =
-    tie.close
-    (tie.spec (λ c κs. search needs) (λ c κs. search needs) (λ c. search needs) (λ c. search needs) (λ c κs. search needs) words-requires ask-sizes-requires (λ c. search needs) enum-told solve-planned-requires (λ c. search needs) returns (λ c. search needs) (λ c. search needs) (λ c. search needs) returns-2)
+solve-accepted-spec = tie.close (tie.spec (λ c κs. search needs) (λ c κs. search needs) (λ c. search needs) (λ c. search needs) (λ c κs. search needs) words-requires ask-sizes-requires (λ c. search needs) enum-told solve-planned-requires (λ c. search needs) returns (λ c. search needs) (λ c. search needs) (λ c. search needs) returns-2)

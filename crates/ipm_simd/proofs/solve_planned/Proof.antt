@@ -38,6 +38,4 @@ returns c =
     λ old asked planned. finished a asked planned (ran .0) (run-four a asked (ran .1 standard standard-runs)) (told .0) (told .1) (rw (c .before .before .before .before .before .before .before .before .before .before .before .before .before .numbers .ensures) at (c .before .before .clear-front .ensures))
 
 pub solve-planned-spec : {M : Type 1} → statement M
-solve-planned-spec =
-    tie.close
-    (tie.spec numbers-requires run-requires report-requires clear-front-requires (λ c. search needs) (λ c. search needs) returns)
+solve-planned-spec = tie.close (tie.spec numbers-requires run-requires report-requires clear-front-requires (λ c. search needs) (λ c. search needs) returns)

@@ -29,6 +29,4 @@ returns c =
     measured (s .args .width) (s .args .plan .m) (s .args .plan .n) (s .args .plan .s) (s .args .centring) (s .args .work .now) (s .pre .2) (r .0) (r .1) (on (s .pre .4) (c .before .before .before .root4 .ensures)) (rw m at (c .before .before .vector-norm .ensures)) (rw m at (c .before .gamma .ensures)) (on (s .pre .4) (rw m at (c .mu-in .ensures)))
 
 pub measure-spec : {M : Type 1} → statement M
-measure-spec =
-    tie.close
-    (tie.spec regions-requires squares-and-products-requires (λ c κs. search needs) vector-norm-requires gamma-requires mu-in-requires returns)
+measure-spec = tie.close (tie.spec regions-requires squares-and-products-requires (λ c κs. search needs) vector-norm-requires gamma-requires mu-in-requires returns)

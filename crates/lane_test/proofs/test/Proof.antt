@@ -43,6 +43,4 @@ returns c =
     λ H M D l h. tested (s .args .width) _ H d _ M _ _ _ (rows-for (prepared (s .pre .0))) (cols-for (prepared (s .pre .0))) D r q (on (s .pre .1 .wide) (c .before .gap-in .ensures)) l h (c .judge4 .ensures l h)
 
 pub test-spec : {M : Type 1} → statement M
-test-spec =
-    tie.close
-    (tie.spec regions-requires atindptr-requires atindices-requires atmap-requires primal-feasibility-requires dual-feasibility-requires (λ c κs. search needs) judge4-requires returns)
+test-spec = tie.close (tie.spec regions-requires atindptr-requires atindices-requires atmap-requires primal-feasibility-requires dual-feasibility-requires (λ c κs. search needs) judge4-requires returns)

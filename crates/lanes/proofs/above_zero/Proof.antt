@@ -20,6 +20,4 @@ returns-3 : tie.Need-returns-3
 returns-3 c = λ h. absurd (false≢true h)
 
 pub above-zero-spec : {M : Type 1} → statement M
-above-zero-spec =
-    tie.close
-    (tie.spec (λ c. search needs) (λ c. search needs) (λ c. search needs) (λ c. search needs) returns returns-2 returns-3)
+above-zero-spec = tie.close (tie.spec (λ c. search needs) (λ c. search needs) (λ c. search needs) (λ c. search needs) returns returns-2 returns-3)

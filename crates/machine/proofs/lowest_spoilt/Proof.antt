@@ -39,6 +39,4 @@ returns-2 : tie.Need-returns-2 Inv-loop μ-loop
 returns-2 c = sym (first-all (λ j. isSpoilt (getD (c .before .before .args .t1) j spoilt)) (c .before .before .args .width) (λ j h. c .before .loop .inv .1 j (omega arith)))
 
 pub lowest-spoilt-spec : {M : Type 1} → statement M
-lowest-spoilt-spec =
-    tie.close
-    (tie.spec Inv-loop μ-loop loop-holds (λ c. search needs) (λ c. search needs) (λ c κs. search needs) returns (λ c. search needs) (λ c. search needs) loop-again returns-2)
+lowest-spoilt-spec = tie.close (tie.spec Inv-loop μ-loop loop-holds (λ c. search needs) (λ c. search needs) (λ c κs. search needs) returns (λ c. search needs) (λ c. search needs) loop-again returns-2)

@@ -89,19 +89,4 @@ returns c =
     turns.whole (shape (a .off .now) (a .cols .now)) (a .which) (a .index .now) (k .last .0) (l .index) (a .start) (k .result) (l .at) (a .m) (l .i) (c .before .before .before .before .before .has-head .result) (omega (arith, l .inv .0, c .loop-test .left)) (c .before .before .before .before .before .has-head .ensures) (k .ensures) (l .inv .4)
 
 pub fill-spec : {M : Type 1} → statement M
-fill-spec =
-    tie.close
-    (tie.spec
-    Inv-loop
-    μ-loop
-    has-head-requires
-    keep-requires
-    loop-holds
-    mark-for-requires
-    fill-row-requires
-    add-i
-    loop-less
-    loop-again
-    same-length
-    same-length-2
-    returns)
+fill-spec = tie.close (tie.spec Inv-loop μ-loop has-head-requires keep-requires loop-holds mark-for-requires fill-row-requires add-i loop-less loop-again same-length same-length-2 returns)

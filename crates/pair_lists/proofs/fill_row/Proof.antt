@@ -113,21 +113,4 @@ returns c =
     (r .0, record { count = r .1; few = r .2 })
 
 pub fill-row-spec : {M : Type 1} → statement M
-fill-row-spec =
-    tie.close
-    (tie.spec
-    Inv-loop
-    μ-loop
-    add-word-at
-    word-at-requires
-    row-first-requires
-    loop-holds
-    byte-at-requires
-    weigh-requires
-    add-n
-    put-piece-requires
-    add-t
-    loop-less
-    loop-again
-    same-length
-    returns)
+fill-row-spec = tie.close (tie.spec Inv-loop μ-loop add-word-at word-at-requires row-first-requires loop-holds byte-at-requires weigh-requires add-n put-piece-requires add-t loop-less loop-again same-length returns)

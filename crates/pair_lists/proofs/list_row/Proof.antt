@@ -59,17 +59,4 @@ returns c =
     subst (λ (x : ℕ). Wrote (a .lindices .now) (l .lindices) (a .start) (kept (bit (a .p .now) (a .i)) x) (l .at)) e (l .inv .2)
 
 pub list-row-spec : {M : Type 1} → statement M
-list-row-spec =
-    tie.close
-    (tie.spec
-    Inv-loop
-    μ-loop
-    loop-holds
-    test-requires
-    cast-keep-byte
-    keep-byte-requires
-    add-k
-    loop-less
-    loop-again
-    same-length
-    returns)
+list-row-spec = tie.close (tie.spec Inv-loop μ-loop loop-holds test-requires cast-keep-byte keep-byte-requires add-k loop-less loop-again same-length returns)

@@ -77,19 +77,4 @@ returns c =
     law.listing-end (bit (a .p .now)) (a .lindices .now) (l .lindices) (l .lindptr) (l .at) (l .i) (l .inv .3) (a .m) e (s .pre .1) (omega (arith, s .pre .2, l .inv .1, c .before .before .before .before .store .kept .0)) (s .pre .3) (l .inv .2) (omega (arith, s .pre .4, l .inv .2))
 
 pub list-rows-spec : {M : Type 1} → statement M
-list-rows-spec =
-    tie.close
-    (tie.spec
-    Inv-loop
-    μ-loop
-    store-requires
-    loop-holds
-    list-row-requires
-    add-i
-    cast-store
-    store-requires-2
-    loop-less
-    loop-again
-    same-length
-    same-length-2
-    returns)
+list-rows-spec = tie.close (tie.spec Inv-loop μ-loop store-requires loop-holds list-row-requires add-i cast-store store-requires-2 loop-less loop-again same-length same-length-2 returns)

@@ -90,19 +90,4 @@ returns c =
     wrote-as (a .index .now) (l .index) (a .start) (l .at) _ _ (ap (placesOf (bit (a .p .now) (a .q)) (a .base)) (take-all (l .t) (a .l .now) (omega (arith, c .loop-test .left)))) (l .inv .2)
 
 pub places-spec : {M : Type 1} → statement M
-places-spec =
-    tie.close
-    (tie.spec
-    Inv-loop
-    μ-loop
-    loop-holds
-    byte-at-requires
-    test-requires
-    cast-keep
-    add-keep
-    keep-requires
-    add-t
-    loop-less
-    loop-again
-    same-length
-    returns)
+places-spec = tie.close (tie.spec Inv-loop μ-loop loop-holds byte-at-requires test-requires cast-keep add-keep keep-requires add-t loop-less loop-again same-length returns)

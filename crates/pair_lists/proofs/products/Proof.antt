@@ -44,6 +44,4 @@ returns c =
     wrote-as (a .index .now) (c .before .before .places .last .1 .1 .1 .1 .0) (a .start) (c .before .before .places .result) _ _ (thru.cut-walk (a .p .now) (a .lindptr .now) (a .lindices .now) (s .pre .1 .m) (a .r) (a .q) (a .t) (w .result) (s .pre .1 .rows) (s .pre .1 .inside) (s .pre .1 .first) (s .pre .1 .last) (w .ensures)) (c .before .before .places .ensures)
 
 pub products-spec : {M : Type 1} → statement M
-products-spec =
-    tie.close
-    (tie.spec (λ c κs. search needs) sub-places (λ c. search needs) part-places-end cast-places places-requires (λ c. search needs) returns)
+products-spec = tie.close (tie.spec (λ c κs. search needs) sub-places (λ c. search needs) part-places-end cast-places places-requires (λ c. search needs) returns)

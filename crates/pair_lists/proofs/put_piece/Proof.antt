@@ -186,6 +186,4 @@ returns-10 c =
     wrote-as _ _ _ _ _ _ (sym (law.of-Lindices (s .pre .0) (s .pre .1) t)) (c .before .before .word3 .ensures)
 
 pub put-piece-spec : {M : Type 1} → statement M
-put-piece-spec =
-    tie.close
-    (tie.spec enum-told word-requires (λ c. search needs) put-shared-requires (λ c. search needs) put-shared-requires-2 (λ c. search needs) put-shared-requires-3 (λ c. search needs) word-requires-2 (λ c. search needs) products-requires (λ c. search needs) add-word-at word-at-requires sub-last products-requires-2 (λ c. search needs) cast-keep add-keep keep-requires (λ c. search needs) cast-keep-2 keep-requires-2 (λ c. search needs) cast-word word-requires-3 (λ c. search needs) returns (λ c. search needs) returns-2 (λ c. search needs) returns-3 (λ c. search needs) returns-4 (λ c. search needs) returns-5 (λ c. search needs) returns-6 (λ c. search needs) returns-7 (λ c. search needs) returns-8 (λ c. search needs) returns-9 (λ c. search needs) returns-10)
+put-piece-spec = tie.close (tie.spec enum-told word-requires (λ c. search needs) put-shared-requires (λ c. search needs) put-shared-requires-2 (λ c. search needs) put-shared-requires-3 (λ c. search needs) word-requires-2 (λ c. search needs) products-requires (λ c. search needs) add-word-at word-at-requires sub-last products-requires-2 (λ c. search needs) cast-keep add-keep keep-requires (λ c. search needs) cast-keep-2 keep-requires-2 (λ c. search needs) cast-word word-requires-3 (λ c. search needs) returns (λ c. search needs) returns-2 (λ c. search needs) returns-3 (λ c. search needs) returns-4 (λ c. search needs) returns-5 (λ c. search needs) returns-6 (λ c. search needs) returns-7 (λ c. search needs) returns-8 (λ c. search needs) returns-9 (λ c. search needs) returns-10)

@@ -62,18 +62,4 @@ returns c =
     subst (λ (x : ℕ). Wrote (a .index .now) (l .index) (a .start) (tenOf (shape (a .off .now) (a .cols .now)) (a .m) x) (l .at)) e (l .inv .3)
 
 pub put-ten-spec : {M : Type 1} → statement M
-put-ten-spec =
-    tie.close
-    (tie.spec
-    Inv-loop
-    μ-loop
-    loop-holds
-    clear-requires
-    which-field-requires
-    fill-requires
-    add-k
-    loop-less
-    loop-again
-    same-length
-    same-length-2
-    returns)
+put-ten-spec = tie.close (tie.spec Inv-loop μ-loop loop-holds clear-requires which-field-requires fill-requires add-k loop-less loop-again same-length same-length-2 returns)

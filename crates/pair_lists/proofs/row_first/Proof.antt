@@ -13,6 +13,4 @@ returns-2 : tie.Need-returns-2
 returns-2 c = (λ e. absurd (true≢false (sym e ∙ sym (c .before .before .on-diagonal .ensures) ∙ c .before .if1 .left)), λ e. c .word-at2 .ensures)
 
 pub row-first-spec : {M : Type 1} → statement M
-row-first-spec =
-    tie.close
-    (tie.spec (λ c κs. search needs) (λ c. search needs) (λ c κs. search needs) (λ c. search needs) (λ c κs. search needs) returns returns-2)
+row-first-spec = tie.close (tie.spec (λ c κs. search needs) (λ c. search needs) (λ c κs. search needs) (λ c. search needs) (λ c κs. search needs) returns returns-2)

@@ -92,6 +92,4 @@ unfolding weight
 returns-11 c = let a = c .before .before .before .before .before .before .args in nothing (a .off .now) (a .cols .now) (a .i) (a .j) (c .enum-told10 .given .1) refl
 
 pub weigh-spec : {M : Type 1} → statement M
-weigh-spec =
-    tie.close
-    (tie.spec enum-told count-shared-requires cast-result (λ c. search needs) both-ones-requires test-requires sub-result (λ c. search needs) (λ c. search needs) (λ c. search needs) (λ c. search needs) (λ c. search needs) (λ c. search needs) (λ c. search needs) (λ c. search needs) returns returns-2 returns-3 returns-4 returns-5 returns-6 returns-7 returns-8 returns-9 returns-10 returns-11)
+weigh-spec = tie.close (tie.spec enum-told count-shared-requires cast-result (λ c. search needs) both-ones-requires test-requires sub-result (λ c. search needs) (λ c. search needs) (λ c. search needs) (λ c. search needs) (λ c. search needs) (λ c. search needs) (λ c. search needs) (λ c. search needs) returns returns-2 returns-3 returns-4 returns-5 returns-6 returns-7 returns-8 returns-9 returns-10 returns-11)

@@ -16,6 +16,4 @@ returns c =
     (c .four-ones .ensures .0 ∙ both-ones-law (a .p .now) (a .i) (a .j) (x .result) (y .result) (z .result) (w .result) (x .ensures) (y .ensures) (z .ensures) (w .ensures) (omega arith) (omega arith) (omega arith) (omega arith), c .four-ones .ensures .1)
 
 pub both-ones-spec : {M : Type 1} → statement M
-both-ones-spec =
-    tie.close
-    (tie.spec (λ c κs. search needs) (λ c κs. search needs) (λ c κs. search needs) (λ c κs. search needs) (λ c κs. search needs) returns)
+both-ones-spec = tie.close (tie.spec (λ c κs. search needs) (λ c κs. search needs) (λ c κs. search needs) (λ c κs. search needs) (λ c κs. search needs) returns)

@@ -8,6 +8,4 @@ returns : tie.Need-returns
 returns c = let a = c .before .before .args in common-law (a .p .now) (a .i) (a .j) (a .w)
 
 pub common-word-spec : {M : Type 1} → statement M
-common-word-spec =
-    tie.close
-    (tie.spec (λ c. search needs) (λ c. search needs) (λ c. search needs) (λ c. search needs) (λ c. search needs) (λ c. search needs) (λ c. search needs) (λ c. search needs) returns)
+common-word-spec = tie.close (tie.spec (λ c. search needs) (λ c. search needs) (λ c. search needs) (λ c. search needs) (λ c. search needs) (λ c. search needs) (λ c. search needs) (λ c. search needs) returns)

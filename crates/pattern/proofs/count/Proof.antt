@@ -47,15 +47,4 @@ returns c =
     c .before .loop .inv .1 ∙ ap (λ (n : ℕ). sum n (λ k. rowOnes p k)) (omega arith)
 
 pub count-spec : {M : Type 1} → statement M
-count-spec =
-    tie.close
-    (tie.spec
-    Inv-loop
-    μ-loop
-    loop-holds
-    row-ones-requires
-    add-e
-    add-i
-    loop-less
-    loop-again
-    returns)
+count-spec = tie.close (tie.spec Inv-loop μ-loop loop-holds row-ones-requires add-e add-i loop-less loop-again returns)

@@ -79,16 +79,4 @@ returns c =
     )
 
 pub fill-row-spec : {M : Type 1} → statement M
-fill-row-spec =
-    tie.close
-    (tie.spec
-    Inv-loop
-    μ-loop
-    loop-holds
-    meets-requires
-    put-requires
-    add-j
-    loop-less
-    loop-again
-    same-length
-    returns)
+fill-row-spec = tie.close (tie.spec Inv-loop μ-loop loop-holds meets-requires put-requires add-j loop-less loop-again same-length returns)

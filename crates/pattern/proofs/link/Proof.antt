@@ -18,6 +18,4 @@ returns-2 c =
     (link-old (s .args .first .now) (s .args .e) (s .args .i) (s .pre .1) (c .before .before .before .before .if1 .left), linked-put (s .args .p .now) (c .before .before .put .last .0) (s .args .i) f (c .before .before .before .before .if1 .left) (c .before .before .put .ensures))
 
 pub link-spec : {M : Type 1} → statement M
-link-spec =
-    tie.close
-    (tie.spec (λ c. search needs) (λ c. search needs) (λ c. search needs) (λ c. search needs) (λ c. search needs) (λ c. search needs) (λ c. search needs) (λ c. search needs) (λ c κs. search needs) (λ c. search needs) returns (λ c. search needs) returns-2)
+link-spec = tie.close (tie.spec (λ c. search needs) (λ c. search needs) (λ c. search needs) (λ c. search needs) (λ c. search needs) (λ c. search needs) (λ c. search needs) (λ c. search needs) (λ c κs. search needs) (λ c. search needs) returns (λ c. search needs) returns-2)

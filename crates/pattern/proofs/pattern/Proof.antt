@@ -69,17 +69,4 @@ returns c =
     λ i l. done-links (s .args .off .now) (s .args .cols .now) (c .before .loop .p) i (c .before .loop .inv .2 i (omega arith))
 
 pub pattern-spec : {M : Type 1} → statement M
-pattern-spec =
-    tie.close
-    (tie.spec
-    Inv-loop
-    μ-loop
-    loop-holds
-    slice-aggregate-seed-row
-    seed-row-requires
-    fill-row-requires
-    add-i
-    loop-less
-    loop-again
-    same-length
-    returns)
+pattern-spec = tie.close (tie.spec Inv-loop μ-loop loop-holds slice-aggregate-seed-row seed-row-requires fill-row-requires add-i loop-less loop-again same-length returns)

@@ -95,19 +95,4 @@ returns c =
     )
 
 pub seed-row-spec : {M : Type 1} → statement M
-seed-row-spec =
-    tie.close
-    (tie.spec
-    Inv-loop
-    μ-loop
-    get-row-requires
-    loop-holds
-    word-at-requires
-    link-requires
-    add-q
-    loop-less
-    loop-again
-    put-requires
-    same-length
-    same-length-2
-    returns)
+seed-row-spec = tie.close (tie.spec Inv-loop μ-loop get-row-requires loop-holds word-at-requires link-requires add-q loop-less loop-again put-requires same-length same-length-2 returns)

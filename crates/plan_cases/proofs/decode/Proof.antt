@@ -55,22 +55,4 @@ returns-2 : tie.Need-returns-2 Inv-loop μ-loop
 returns-2 c = omega arith
 
 pub decode-spec : {M : Type 1} → statement M
-decode-spec =
-    tie.close
-    (tie.spec
-    Inv-loop
-    μ-loop
-    loop-holds
-    sub-if1
-    same-length
-    returns
-    le32-requires
-    cast-words
-    mul-words
-    slice-write-words
-    add-k
-    add-at
-    loop-less
-    loop-again
-    same-length-2
-    returns-2)
+decode-spec = tie.close (tie.spec Inv-loop μ-loop loop-holds sub-if1 same-length returns le32-requires cast-words mul-words slice-write-words add-k add-at loop-less loop-again same-length-2 returns-2)

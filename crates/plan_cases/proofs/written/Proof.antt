@@ -43,6 +43,4 @@ loop-again : tie.Need-loop-again Inv-loop μ-loop
 loop-again c = omega arith
 
 pub written-spec : {M : Type 1} → statement M
-written-spec =
-    tie.close
-    (tie.spec Inv-loop μ-loop loop-holds mul-if2 shared-slice-read-if2 mul-if2-2 shared-slice-read-if2-2 (λ c. search needs) mul-if3 shared-slice-read-if3 (λ c. search needs) add-k loop-less loop-again (λ c. search needs))
+written-spec = tie.close (tie.spec Inv-loop μ-loop loop-holds mul-if2 shared-slice-read-if2 mul-if2-2 shared-slice-read-if2-2 (λ c. search needs) mul-if3 shared-slice-read-if3 (λ c. search needs) add-k loop-less loop-again (λ c. search needs))

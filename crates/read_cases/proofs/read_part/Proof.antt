@@ -9,6 +9,4 @@ slice-aggregate-read-full : tie.Need-slice-aggregate-read-full
 slice-aggregate-read-full c = sym (length-take-le _ _ (omega arith))
 
 pub read-part-spec : {M : Type 1} → statement M
-read-part-spec =
-    tie.close
-    (tie.spec (λ c. search needs) slice-aggregate-read-full (λ c κs. search needs) (λ c. search needs) (λ c. search needs))
+read-part-spec = tie.close (tie.spec (λ c. search needs) slice-aggregate-read-full (λ c κs. search needs) (λ c. search needs) (λ c. search needs))

@@ -100,6 +100,4 @@ returns c =
     (c .before .before .before .before .before .solve-parts .ensures)
 
 pub answer-spec : {M : Type 1} → statement M
-answer-spec =
-    tie.close
-    (tie.spec (λ c. search needs) (λ c. search needs) (λ c. search needs) (λ c. search needs) (λ c. search needs) (λ c. search needs) (λ c. search needs) (λ c. search needs) (λ c κs. search needs) (λ c κs. search needs) (λ c κs. search needs) (λ c κs. search needs) (λ c κs. search needs) (λ c. search needs) slice-aggregate-read-shorts read-shorts-requires (λ c. search needs) (λ c. search needs) (λ c. search needs) slice-aggregate-read-floats read-floats-requires array-share-prefix-shorts slice-aggregate-solve-parts array-share-prefix-floats slice-aggregate-solve-parts-2 (λ c. search needs) slice-aggregate-solve-parts-3 (λ c. search needs) (λ c. search needs) solve-parts-requires (λ c. search needs) returns)
+answer-spec = tie.close (tie.spec (λ c. search needs) (λ c. search needs) (λ c. search needs) (λ c. search needs) (λ c. search needs) (λ c. search needs) (λ c. search needs) (λ c. search needs) (λ c κs. search needs) (λ c κs. search needs) (λ c κs. search needs) (λ c κs. search needs) (λ c κs. search needs) (λ c. search needs) slice-aggregate-read-shorts read-shorts-requires (λ c. search needs) (λ c. search needs) (λ c. search needs) slice-aggregate-read-floats read-floats-requires array-share-prefix-shorts slice-aggregate-solve-parts array-share-prefix-floats slice-aggregate-solve-parts-2 (λ c. search needs) slice-aggregate-solve-parts-3 (λ c. search needs) (λ c. search needs) solve-parts-requires (λ c. search needs) returns)

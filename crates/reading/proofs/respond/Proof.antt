@@ -35,6 +35,4 @@ returns-2 c =
     )
 
 pub respond-spec : {M : Type 1} → statement M
-respond-spec =
-    tie.close
-    (tie.spec (λ c κs. search needs) enum-told (λ c κs. search needs) (λ c. search needs) answer-requires (λ c. search needs) returns (λ c. search needs) returns-2)
+respond-spec = tie.close (tie.spec (λ c κs. search needs) enum-told (λ c κs. search needs) (λ c. search needs) answer-requires (λ c. search needs) returns (λ c. search needs) returns-2)

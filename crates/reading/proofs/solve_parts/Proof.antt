@@ -88,6 +88,4 @@ returns c =
     same-text (cut-text (given .sizes) (given .shorts .now) (given .floats .now) _) (c .before .before .before .before .before .before .before .before .solve-text .ensures)
 
 pub solve-parts-spec : {M : Type 1} → statement M
-solve-parts-spec =
-    tie.close
-    (tie.spec add-columns add-shorts-end add-b mul-c add-c mul-floats-end add-floats-end slice-aggregate-solve-text mul-solve-text sub-solve-text part-solve-text-start part-solve-text-end slice-aggregate-solve-text-2 mul-solve-text-2 sub-solve-text-2 part-solve-text-start-2 part-solve-text-end-2 mul-solve-text-3 sub-solve-text-3 part-solve-text-start-3 part-solve-text-end-3 mul-solve-text-4 sub-solve-text-4 part-solve-text-start-4 part-solve-text-end-4 (λ c κs. search needs) (λ c. search needs) (λ c. search needs) (λ c. search needs) (λ c. search needs) returns)
+solve-parts-spec = tie.close (tie.spec add-columns add-shorts-end add-b mul-c add-c mul-floats-end add-floats-end slice-aggregate-solve-text mul-solve-text sub-solve-text part-solve-text-start part-solve-text-end slice-aggregate-solve-text-2 mul-solve-text-2 sub-solve-text-2 part-solve-text-start-2 part-solve-text-end-2 mul-solve-text-3 sub-solve-text-3 part-solve-text-start-3 part-solve-text-end-3 mul-solve-text-4 sub-solve-text-4 part-solve-text-start-4 part-solve-text-end-4 (λ c κs. search needs) (λ c. search needs) (λ c. search needs) (λ c. search needs) (λ c. search needs) returns)

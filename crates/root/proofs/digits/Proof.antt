@@ -62,6 +62,4 @@ returns-2 : tie.Need-returns-2
 returns-2 c = lowered (facts (c .before .before .before .before)) (c .if1 .left)
 
 pub digits-spec : {M : Type 1} → statement M
-digits-spec =
-    tie.close
-    (tie.spec (λ c κs. search needs) mul-more mul-twice div-next rem-left mul-left mul-whole add-whole mul-if1 mul-t11 (λ c. search needs) sub-t13 mul-t14 add-t15 sub-t16 mul-t17 sub-t18 returns returns-2)
+digits-spec = tie.close (tie.spec (λ c κs. search needs) mul-more mul-twice div-next rem-left mul-left mul-whole add-whole mul-if1 mul-t11 (λ c. search needs) sub-t13 mul-t14 add-t15 sub-t16 mul-t17 sub-t18 returns returns-2)

@@ -58,23 +58,4 @@ returns : tie.Need-returns Inv-loop μ-loop
 returns c = record { is = last (c .before .loop .inv) (c .loop-test .left); rest = c .before .loop .inv .rest }
 
 pub first-digits-spec : {M : Type 1} → statement M
-first-digits-spec =
-    tie.close
-    (tie.spec
-    Inv-loop
-    μ-loop
-    loop-holds
-    mul-now
-    add-now
-    mul-trial
-    add-trial
-    cast-digit
-    mul-feed
-    mul-rest
-    sub-rest
-    mul-whole
-    add-whole
-    add-turn
-    loop-less
-    loop-again
-    returns)
+first-digits-spec = tie.close (tie.spec Inv-loop μ-loop loop-holds mul-now add-now mul-trial add-trial cast-digit mul-feed mul-rest sub-rest mul-whole add-whole add-turn loop-less loop-again returns)

@@ -34,6 +34,4 @@ returns-2 : tie.Need-returns-2
 returns-2 c = rounded-bits _ _ _ _ _ (c .before .before .before .halved .ensures) (c .before .before .digits .ensures) _ (c .before .rounded .ensures)
 
 pub root-bits-spec : {M : Type 1} → statement M
-root-bits-spec =
-    tie.close
-    (tie.spec (λ c κs. search needs) (λ c. search needs) enum-told halved-requires (λ c κs. search needs) rounded-requires (λ c. search needs) add-result returns returns-2)
+root-bits-spec = tie.close (tie.spec (λ c κs. search needs) (λ c. search needs) enum-told halved-requires (λ c κs. search needs) rounded-requires (λ c. search needs) add-result returns returns-2)

@@ -7,6 +7,4 @@ returns : tie.Need-returns
 returns c = rw (c .root4 .ensures)
 
 pub root-sum-together-spec : {M : Type 1} → statement M
-root-sum-together-spec =
-    tie.close
-    (tie.spec (λ c κs. search needs) (λ c. search needs) (λ c. search needs) (λ c. search needs) (λ c. search needs) returns)
+root-sum-together-spec = tie.close (tie.spec (λ c κs. search needs) (λ c. search needs) (λ c. search needs) (λ c. search needs) (λ c. search needs) returns)

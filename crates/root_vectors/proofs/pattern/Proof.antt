@@ -27,6 +27,4 @@ loop-again : tie.Need-loop-again Inv-loop μ-loop
 loop-again c = omega arith
 
 pub pattern-spec : {M : Type 1} → statement M
-pattern-spec =
-    tie.close
-    (tie.spec Inv-loop μ-loop loop-holds (λ c. search needs) (λ c. search needs) (λ c κs. search needs) add-bits add-i loop-less loop-again (λ c. search needs))
+pattern-spec = tie.close (tie.spec Inv-loop μ-loop loop-holds (λ c. search needs) (λ c. search needs) (λ c κs. search needs) add-bits add-i loop-less loop-again (λ c. search needs))

@@ -97,6 +97,4 @@ loop-again c =
     )
 
 pub run-spec : {M : Type 1} → statement M
-run-spec =
-    tie.close
-    (tie.spec Inv-loop μ-loop normal-eqn-init-requires loop-holds add-k measure-requires test-at-requires turn-after-requires (λ c. search needs) (λ c. search needs) returns enum-told step-lanes-requires loop-less loop-again)
+run-spec = tie.close (tie.spec Inv-loop μ-loop normal-eqn-init-requires loop-holds add-k measure-requires test-at-requires turn-after-requires (λ c. search needs) (λ c. search needs) returns enum-told step-lanes-requires loop-less loop-again)

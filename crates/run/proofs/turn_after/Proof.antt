@@ -21,6 +21,4 @@ unfolding turnAfter
 returns-4 c = simp (← c .before .before .before .before .lowest-spoilt .ensures, ← c .before .before .lowest-undone .ensures, le-ltb _ _ (c .before .before .before .if1 .left), ne-eqb _ _ (c .before .if2 .left), ne-eqb _ _ (c .if3 .left))
 
 pub turn-after-spec : {M : Type 1} → statement M
-turn-after-spec =
-    tie.close
-    (tie.spec (λ c κs. search needs) returns (λ c κs. search needs) returns-2 returns-3 returns-4)
+turn-after-spec = tie.close (tie.spec (λ c κs. search needs) returns (λ c κs. search needs) returns-2 returns-3 returns-4)

@@ -69,17 +69,4 @@ returns c =
     (count-end (marked (a .mark .now) (a .lo)) (a .b .now) (c .before .loop .q) (c .before .loop .n) (omega arith) (c .before .loop .inv .1), omega arith)
 
 pub count-marked-spec : {M : Type 1} → statement M
-count-marked-spec =
-    tie.close
-    (tie.spec
-    Inv-loop
-    μ-loop
-    loop-holds
-    word-at-requires
-    mul-if1
-    shared-slice-read-if1
-    add-n
-    add-q
-    loop-less
-    loop-again
-    returns)
+count-marked-spec = tie.close (tie.spec Inv-loop μ-loop loop-holds word-at-requires mul-if1 shared-slice-read-if1 add-n add-q loop-less loop-again returns)

@@ -39,6 +39,4 @@ returns c =
     )
 
 pub count-shared-spec : {M : Type 1} → statement M
-count-shared-spec =
-    tie.close
-    (tie.spec (λ c κs. search needs) cast-count-marked get-row-requires count-marked-requires returns)
+count-shared-spec = tie.close (tie.spec (λ c κs. search needs) cast-count-marked get-row-requires count-marked-requires returns)

@@ -29,6 +29,4 @@ returns-2 c =
     wrote-as _ _ _ _ _ _ (sym (marks.hit-no (a .take) (a .mark .now) (a .lo) (a .y) (a .v) (omega arith))) (record { is = refl; next = omega arith })
 
 pub hit-one-spec : {M : Type 1} → statement M
-hit-one-spec =
-    tie.close
-    (tie.spec (λ c. search needs) (λ c. search needs) (λ c. search needs) (λ c κs. search needs) word-requires (λ c. search needs) returns returns-2)
+hit-one-spec = tie.close (tie.spec (λ c. search needs) (λ c. search needs) (λ c. search needs) (λ c κs. search needs) word-requires (λ c. search needs) returns returns-2)

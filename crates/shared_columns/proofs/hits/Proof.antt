@@ -79,19 +79,4 @@ returns c =
     wrote-as (a .index .now) (l .index) (a .start) (l .at) _ _ (ap (alongOf (hit (a .take) (a .mark .now) (a .lo)) (a .y)) (take-all (l .q) (a .b .now) (omega (arith, c .loop-test .left)))) (l .inv .2)
 
 pub hits-spec : {M : Type 1} → statement M
-hits-spec =
-    tie.close
-    (tie.spec
-    Inv-loop
-    μ-loop
-    loop-holds
-    mul-v
-    shared-slice-read-v
-    cast-hit-one
-    add-hit-one
-    hit-one-requires
-    add-q
-    loop-less
-    loop-again
-    same-length
-    returns)
+hits-spec = tie.close (tie.spec Inv-loop μ-loop loop-holds mul-v shared-slice-read-v cast-hit-one add-hit-one hit-one-requires add-q loop-less loop-again same-length returns)

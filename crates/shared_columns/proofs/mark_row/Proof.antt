@@ -87,21 +87,4 @@ returns c =
     marks.marking-end (a .mark .now) (l .mark) (getD (a .off .now) (a .i) 0) (row (a .off .now) (a .cols .now) (a .i)) (l .k - getD (a .off .now) (a .i) 0) (omega (arith, e, row-long (a .off .now) (a .cols .now) (a .i) (length (a .mark .now)) (s .pre))) (l .inv .3)
 
 pub mark-row-spec : {M : Type 1} → statement M
-mark-row-spec =
-    tie.close
-    (tie.spec
-    Inv-loop
-    μ-loop
-    word-at-requires
-    add-word-at
-    word-at-requires-2
-    loop-holds
-    word-at-requires-3
-    cast-store
-    add-store
-    store-requires
-    add-k
-    loop-less
-    loop-again
-    same-length
-    returns)
+mark-row-spec = tie.close (tie.spec Inv-loop μ-loop word-at-requires add-word-at word-at-requires-2 loop-holds word-at-requires-3 cast-store add-store store-requires add-k loop-less loop-again same-length returns)

@@ -67,6 +67,4 @@ returns c =
     wrote-as (a .index .now) (c .before .before .hits .last .1 .1 .1 .1 .1 .0) (a .start) (c .before .before .hits .result) _ _ (marks.span-is (a .take) (a .off .now) (a .cols .now) (s .pre .0 .m) (s .pre .0 .wide) (s .pre .0 .grid) (a .mark .now) (a .i) (a .j) (s .pre .0 .inside) (s .pre .0 .other) (s .pre .0 .long) (s .pre .0 .marks) (x .result) (y .result) (x .ensures) (y .ensures) (c .before .before .before .before .before .before .before .word-at .result) (c .before .before .before .before .before .before .before .word-at .ensures)) (c .before .before .hits .ensures)
 
 pub put-shared-spec : {M : Type 1} → statement M
-put-shared-spec =
-    tie.close
-    (tie.spec (λ c κs. search needs) (λ c κs. search needs) (λ c. search needs) (λ c κs. search needs) cast-hits cast-hits-2 mul-hits sub-hits part-hits-start part-hits-end hits-requires (λ c. search needs) returns)
+put-shared-spec = tie.close (tie.spec (λ c κs. search needs) (λ c κs. search needs) (λ c. search needs) (λ c κs. search needs) cast-hits cast-hits-2 mul-hits sub-hits part-hits-start part-hits-end hits-requires (λ c. search needs) returns)

@@ -37,6 +37,4 @@ returns c =
     advanced _ _ _ _ _ _ (on (s .pre .2) (c .before .before .before .before .before .before .before .before .before .before .before .before .before .before .before .before .before .step-length4 .ensures)) (on (s .pre .2) (c .before .before .before .before .before .before .before .before .before .before .before .before .before .before .before .before .pick4 .ensures)) (rw m at (c .before .before .before .before .before .before .before .before .before .before .before .before .before .before .vector-update .ensures)) (rw m at (c .before .before .before .before .before .before .before .before .before .before .vector-update2 .ensures)) (rw m at (c .before .before .before .before .before .before .vector-update3 .ensures)) (rw m at (c .before .before .vector-update4 .ensures))
 
 pub advance-spec : {M : Type 1} → statement M
-advance-spec =
-    tie.close
-    (tie.spec regions-requires (λ c κs. search needs) (λ c κs. search needs) vector-update-requires vector-update-requires-2 vector-update-requires-3 vector-update-requires-4 (λ c. search needs) returns)
+advance-spec = tie.close (tie.spec regions-requires (λ c κs. search needs) (λ c κs. search needs) vector-update-requires vector-update-requires-2 vector-update-requires-3 vector-update-requires-4 (λ c. search needs) returns)

@@ -42,6 +42,4 @@ returns c =
     λ off cols H d P Y. changed _ _ H d _ _ _ _ (cols-for (prepared P)) (P .slack) Y (p .0) (p .1) (q .0) (q .1) (on (s .pre .2) (c .larger4 .ensures))
 
 pub compute-dx-dz-dw-spec : {M : Type 1} → statement M
-compute-dx-dz-dw-spec =
-    tie.close
-    (tie.spec regions-requires atindptr-requires atindices-requires atmap-requires column-changes-requires slack-changes-requires (λ c κs. search needs) (λ c. search needs) returns)
+compute-dx-dz-dw-spec = tie.close (tie.spec regions-requires atindptr-requires atindices-requires atmap-requires column-changes-requires slack-changes-requires (λ c κs. search needs) (λ c. search needs) returns)

@@ -34,6 +34,4 @@ returns c =
     directed _ _ H d _ _ _ _ _ _ _ (low-for (prepared P)) (high-for (prepared P)) a f (held-for P (f .factored)) x
 
 pub directions-spec : {M : Type 1} → statement M
-directions-spec =
-    tie.close
-    (tie.spec (λ c κs. search needs) factor-solve-requires compute-dx-dz-dw-requires (λ c. search needs) returns)
+directions-spec = tie.close (tie.spec (λ c κs. search needs) factor-solve-requires compute-dx-dz-dw-requires (λ c. search needs) returns)

@@ -36,6 +36,4 @@ returns c =
     (rw m at (c .before .before .vector-set4 .ensures))
 
 pub normal-eqn-init-spec : {M : Type 1} → statement M
-normal-eqn-init-spec =
-    tie.close
-    (tie.spec regions-requires (λ c κs. tt) (λ c κs. tt) vector-set-requires (λ c κs. tt) vector-set-requires-2 (λ c κs. tt) vector-set-requires-3 (λ c κs. tt) vector-set-requires-4 (λ c. search needs) returns)
+normal-eqn-init-spec = tie.close (tie.spec regions-requires (λ c κs. tt) (λ c κs. tt) vector-set-requires (λ c κs. tt) vector-set-requires-2 (λ c κs. tt) vector-set-requires-3 (λ c κs. tt) vector-set-requires-4 (λ c. search needs) returns)

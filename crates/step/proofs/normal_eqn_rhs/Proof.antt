@@ -42,6 +42,4 @@ returns c =
     λ H tol. right-side _ _ H (dataAt (s .args .block) (s .args .plan .m) (s .args .plan .n) (s .args .b .now) (s .args .c .now) tol) _ _ _ _ (rows-for (prepared (s .pre .0))) (cols-for (prepared (s .pre .0))) u f
 
 pub normal-eqn-rhs-spec : {M : Type 1} → statement M
-normal-eqn-rhs-spec =
-    tie.close
-    (tie.spec regions-requires atindptr-requires atindices-requires atmap-requires rhs-u-requires rhs-f-requires (λ c. search needs) returns)
+normal-eqn-rhs-spec = tie.close (tie.spec regions-requires atindptr-requires atindices-requires atmap-requires rhs-u-requires rhs-f-requires (λ c. search needs) returns)

@@ -46,6 +46,4 @@ returns-2 c =
     ap (λ (x : Side). getD (colsOf x (s .args .cols .now) (s .args .bytes .now)) (s .args .k) 0) (sym (c .before .enum-told2 .given .1))
 
 pub column-at-spec : {M : Type 1} → statement M
-column-at-spec =
-    tie.close
-    (tie.spec enum-told shared-slice-read-result cast-result (λ c. search needs) mul-result shared-slice-read-result-2 cast-result-2 returns returns-2)
+column-at-spec = tie.close (tie.spec enum-told shared-slice-read-result cast-result (λ c. search needs) mul-result shared-slice-read-result-2 cast-result-2 returns returns-2)

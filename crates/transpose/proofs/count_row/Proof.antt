@@ -128,20 +128,4 @@ returns c =
     }
 
 pub count-row-spec : {M : Type 1} → statement M
-count-row-spec =
-    tie.close
-    (tie.spec
-    Inv-loop
-    μ-loop
-    word-at-requires
-    add-word-at
-    word-at-requires-2
-    loop-holds
-    column-at-requires
-    bump-requires
-    add-s
-    add-k
-    loop-less
-    loop-again
-    same-length
-    returns)
+count-row-spec = tie.close (tie.spec Inv-loop μ-loop word-at-requires add-word-at word-at-requires-2 loop-holds column-at-requires bump-requires add-s add-k loop-less loop-again same-length returns)

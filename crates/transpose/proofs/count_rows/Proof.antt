@@ -77,16 +77,4 @@ returns c =
     )
 
 pub count-rows-spec : {M : Type 1} → statement M
-count-rows-spec =
-    tie.close
-    (tie.spec
-    Inv-loop
-    μ-loop
-    loop-holds
-    count-row-requires
-    add-s
-    add-i
-    loop-less
-    loop-again
-    same-length
-    returns)
+count-rows-spec = tie.close (tie.spec Inv-loop μ-loop loop-holds count-row-requires add-s add-i loop-less loop-again same-length returns)

@@ -97,22 +97,4 @@ returns c =
     (r .0, (r .1 .0, subst (λ (z : List ℕ). Starts z (a .n + 1) (λ x. getD (a .next .now) x 0)) (sym (y .ensures .1)) (r .1 .1)))
 
 pub put-ends-spec : {M : Type 1} → statement M
-put-ends-spec =
-    tie.close
-    (tie.spec
-    Inv-loop
-    μ-loop
-    word-requires
-    loop-holds
-    swap-requires
-    swap-requires-2
-    add-t
-    word-requires-2
-    add-e
-    loop-less
-    loop-again
-    swap-requires-3
-    same-length
-    same-length-2
-    same-length-3
-    returns)
+put-ends-spec = tie.close (tie.spec Inv-loop μ-loop word-requires loop-holds swap-requires swap-requires-2 add-t word-requires-2 add-e loop-less loop-again swap-requires-3 same-length same-length-2 same-length-3 returns)

@@ -65,16 +65,4 @@ returns c =
     λ n b. law.scatter-end (a .off .now) (colsOf (a .side) (a .cols .now) (a .bytes .now)) (a .what) (a .m) n (a .index .now) (a .next .now) (a .start) b (l .i) (l .index) (l .next) (l .inv .1) (l .inv .3 n b) (omega (arith, l .inv .0, c .loop-test .left))
 
 pub scatter-spec : {M : Type 1} → statement M
-scatter-spec =
-    tie.close
-    (tie.spec
-    Inv-loop
-    μ-loop
-    loop-holds
-    scatter-row-requires
-    add-i
-    loop-less
-    loop-again
-    same-length
-    same-length-2
-    returns)
+scatter-spec = tie.close (tie.spec Inv-loop μ-loop loop-holds scatter-row-requires add-i loop-less loop-again same-length same-length-2 returns)

@@ -112,23 +112,4 @@ returns c =
     λ m n r. law.passing-end (a .off .now) (colsOf (a .side) (a .cols .now) (a .bytes .now)) m n (a .what) (a .i) (a .index .now) (a .next .now) (a .start) r (l .k) (l .index) (l .next) (omega (arith, c .before .before .word-at2 .ensures)) (l .inv .3 m n r)
 
 pub scatter-row-spec : {M : Type 1} → statement M
-scatter-row-spec =
-    tie.close
-    (tie.spec
-    Inv-loop
-    μ-loop
-    word-at-requires
-    add-word-at
-    word-at-requires-2
-    loop-holds
-    column-at-requires
-    cast-of-entry
-    cast-of-entry-2
-    of-entry-requires
-    put-in-requires
-    add-k
-    loop-less
-    loop-again
-    same-length
-    same-length-2
-    returns)
+scatter-row-spec = tie.close (tie.spec Inv-loop μ-loop word-at-requires add-word-at word-at-requires-2 loop-holds column-at-requires cast-of-entry cast-of-entry-2 of-entry-requires put-in-requires add-k loop-less loop-again same-length same-length-2 returns)

@@ -101,6 +101,4 @@ returns c =
     (l .ensures (a .n) (law.place-bins (a .off .now) (colsOf (a .side) (a .cols .now) (a .bytes .now)) (a .m) (a .n) (s .pre .0) (q .last .1 .1 .1 .1 .1 .0) y (a .index .now) (p .last .1 .0) (a .start) (p .result) (s .pre .1) (p .ensures .0) again (p .ensures .1 .1) (t .result) (t .ensures) (k .last .1 .1 .1 .1 .1 .1 .0) (k .kept .1 .1 .1 .1 .1 .1 .0 ∙ p .kept .1 .0) (omega (arith, s .pre .3, p .kept .1 .1 .1 .0))))
 
 pub transpose-spec : {M : Type 1} → statement M
-transpose-spec =
-    tie.close
-    (tie.spec (λ c κs. search needs) count-rows-requires put-ends-requires word-at-requires scatter-requires add-scatter scatter-requires-2 add-result add-result-2 same-length (λ c. search needs) (λ c. search needs) returns)
+transpose-spec = tie.close (tie.spec (λ c κs. search needs) count-rows-requires put-ends-requires word-at-requires scatter-requires add-scatter scatter-requires-2 add-result add-result-2 same-length (λ c. search needs) (λ c. search needs) returns)

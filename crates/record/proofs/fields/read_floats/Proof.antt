@@ -49,19 +49,4 @@ unfolding floats vec
 returns c = filled-all _ _ _ _ (omega arith) (c .before .loop .inv)
 
 pub read-floats-spec : {M : Type 1} → statement M
-read-floats-spec =
-    tie.close
-    (tie.spec
-    Inv-loop
-    μ-loop
-    loop-holds
-    mul-float-at
-    add-float-at
-    float-at-requires
-    mul-out
-    slice-write-out
-    add-k
-    loop-less
-    loop-again
-    same-length
-    returns)
+read-floats-spec = tie.close (tie.spec Inv-loop μ-loop loop-holds mul-float-at add-float-at float-at-requires mul-out slice-write-out add-k loop-less loop-again same-length returns)

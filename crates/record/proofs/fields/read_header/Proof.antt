@@ -36,6 +36,4 @@ returns-6 c =
     (within .before .is-within .ensures) (not-false _ (within .if4 .left)) (ended .before .record-bytes .ensures) (ended .if5 .left)
 
 pub read-header-spec : {M : Type 1} → statement M
-read-header-spec =
-    tie.close
-    (tie.spec returns (λ c κs. search needs) (λ c. search needs) returns-2 (λ c κs. search needs) returns-3 (λ c κs. search needs) (λ c κs. search needs) (λ c κs. search needs) (λ c κs. search needs) returns-4 (λ c κs. search needs) returns-5 (λ c κs. search needs) (λ c κs. search needs) returns-6)
+read-header-spec = tie.close (tie.spec returns (λ c κs. search needs) (λ c. search needs) returns-2 (λ c κs. search needs) returns-3 (λ c κs. search needs) (λ c κs. search needs) (λ c κs. search needs) (λ c κs. search needs) returns-4 (λ c κs. search needs) returns-5 (λ c κs. search needs) (λ c κs. search needs) returns-6)

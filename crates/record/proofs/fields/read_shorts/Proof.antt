@@ -51,20 +51,4 @@ unfolding shorts grow
 returns c = filled-all _ _ _ _ (omega arith) (c .before .loop .inv)
 
 pub read-shorts-spec : {M : Type 1} → statement M
-read-shorts-spec =
-    tie.close
-    (tie.spec
-    Inv-loop
-    μ-loop
-    loop-holds
-    mul-le16
-    add-le16
-    le16-requires
-    cast-out
-    mul-out
-    slice-write-out
-    add-k
-    loop-less
-    loop-again
-    same-length
-    returns)
+read-shorts-spec = tie.close (tie.spec Inv-loop μ-loop loop-holds mul-le16 add-le16 le16-requires cast-out mul-out slice-write-out add-k loop-less loop-again same-length returns)
