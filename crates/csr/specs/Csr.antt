@@ -5,11 +5,19 @@ use Prim.Native.Nat.{ℕ, _+_, _<_, _≤_}
 use lib.ListN.{getD, length}
 use Rattle.csr.specs.Pattern.{row}
 use Rattle.base.specs.Numbers.{Below, Rising, Part}
+use Rattle.csr.specs.Questions.{maxRows, maxColumns, maxEntries}
+
+-- the most entries that a factor has, and more than a list of columns has, the matrix's or the factor's
+abbrev pub maxStored : ℕ
+maxStored = 32896
+
+abbrev pub maxPlaces : ℕ
+maxPlaces = 65536
 
 -- the lists of m rows, each with rising columns: the matrix's, or the factor's
 pub record Csr (off cols : List ℕ) (m : ℕ) : Type 0 where
   pub offsets : m < length off
-  pub few : m ≤ 256
+  pub few : m ≤ maxRows
   pub order : (i : ℕ) → i < m → getD off i 0 ≤ getD off (i + 1) 0
   pub ends : (i : ℕ) → i ≤ m → getD off i 0 ≤ length cols
   pub rising : (i : ℕ) → i < m → Rising (row off cols i)
@@ -26,12 +34,12 @@ pub record Offsets (m : ℕ) (off : List ℕ) (t : ℕ) : Type 0 where
   pub first : getD off 0 0 ≡ 0
   pub rises : (i : ℕ) → i < m → getD off i 0 ≤ getD off (i + 1) 0
   pub last : getD off m 0 ≡ t
-  pub few : t ≤ 16384
+  pub few : t ≤ maxEntries
 
 -- questions 1 to 5 got a yes
 pub record Accepted (off cols : List ℕ) (m n : ℕ) : Type 0 where
   pub csr : Csr off cols m
   pub offsets : Offsets m off (length cols)
-  pub wide : n ≤ 1024
+  pub wide : n ≤ maxColumns
   pub within : (i : ℕ) → i < m → Below n (row off cols i)
   pub filled : (i : ℕ) → i < m → getD off i 0 < getD off (i + 1) 0

@@ -8,7 +8,7 @@ ghost use Rattle.base.specs.Numbers.{Part};
 ghost use Rattle.csr.specs.Pattern.{row};
 ghost use Rattle.csr.specs.Csr.{Offsets};
 ghost use Rattle.csr.specs.Verdict.{refused, refusal, toldAsked};
-ghost use Rattle.csr.specs.Questions.{firstFrom, badRow, offsetsRight, firstNo};
+ghost use Rattle.csr.specs.Questions.{firstFrom, badRow, offsetsRight, firstNo, maxRows};
 use base::span;
 use base::word_at;
 
@@ -115,7 +115,7 @@ fn first_bad(offsets: &[u32], columns: &[u32], m: usize, n: usize) -> usize
 
 // Question 3, of t columns and so many values.
 fn offsets_right(offsets: &[u32], t: usize, values: usize, m: usize) -> bool
-    requires { ⌜ m ≤ 256 ⌝ }
+    requires { ⌜ m ≤ maxRows ⌝ }
     ensures { λ r. ⌜ r ≡ offsetsRight m (now (offsets .entry)) t values ⌝ }
 {
     if offsets.len() != m + 1 {

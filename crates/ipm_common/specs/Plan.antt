@@ -2,16 +2,17 @@
 use mathlib.Core.Path.{_≡_}
 use mathlib.Core.Bool.{_&&_, cond}
 use mathlib.Core.List.{List, _++_}
-use Prim.Native.Nat.{ℕ, suc, _<_, _≤_}
+use Prim.Native.Nat.{ℕ, suc, _<_, _≤_, _*_}
 use lib.Dec.{leb, ltb}
 use lib.ListN.{length, drop}
 use Rattle.base.specs.Sums.{sum}
 use Rattle.csr.specs.Verdict.{Verdict, passed, planned, accepted, refused, ask, andThen, refusal}
-use Rattle.csr.specs.Questions.{firstNo}
+use Rattle.csr.specs.Questions.{firstNo, maxRows}
 use Rattle.csr.specs.Counts.{countE, countS, countD, sizeW}
 use Rattle.lists.specs.Lists.{planWords}
 use Rattle.ipm_common.specs.declared.PlanAnswer.{PlanAnswer}
 use Rattle.ipm_common.specs.declared.PlanAnswer.the-variants.{Planned, Refused}
+use Rattle.csr.specs.Csr.{maxPlaces}
 
 -- each case of the answer, by document 01's number and values
 abbrev pub toldPlan : PlanAnswer → Verdict
@@ -52,7 +53,7 @@ pub record Room (m n : ℕ) (s : List ℕ) : Type 0 where
 pub record Memories (m n : ℕ) (lindptr lindices mark next again : List ℕ) : Type 0 where
   pub starts : m < length lindptr
   pub columns : sum m suc ≤ length lindices
-  pub short : length lindices ≤ 65536
+  pub short : length lindices ≤ maxPlaces
   pub marks : n ≤ length mark
   pub counts : Room m n next
   pub firsts : Room m n again
@@ -62,7 +63,7 @@ pub record Tallied (offsets columns : List ℕ) (m e s d : ℕ) : Type 0 where
   pub stored : e ≡ countE offsets columns m
   pub shared : s ≡ countS offsets columns m
   pub products : d ≡ countD offsets columns m
-  pub few : s ≤ 16777216
+  pub few : s ≤ maxRows * maxPlaces
 
 -- the plan and the old rest where E is below a bound and the memory has room, else as before
 unfoldable pub written : ℕ → ℕ → ℕ → List ℕ → List ℕ → List ℕ → List ℕ

@@ -6,11 +6,13 @@ ghost use Rattle.pattern.specs.Word.{bit};
 ghost use Rattle.base.specs.Cat.{Wrote};
 ghost use Rattle.lists.specs.Lists.{shape, planOf};
 ghost use Rattle.pattern.specs.Ready.{Ready};
-ghost use Rattle.csr.specs.Csr.{Accepted};
+ghost use Rattle.csr.specs.Csr.{Accepted, maxPlaces};
 ghost use Rattle.pair_lists.specs.Kept.{Rows};
 ghost use Rattle.ipm_common.specs.Plan.{Room, Memories, toldPlan, planVerdict, planIndex, Answered, Tallied, Counted};
+ghost use Rattle.csr.specs.Questions.{maxRows, maxColumns, maxEntries};
 use csr::Asked;
 use csr::Refusal;
+use layout::Plan;
 use lists::Side;
 
 // The sixteen lists. A memory over the columns is marked, two more are counted in.
@@ -92,7 +94,7 @@ pub fn count_all(
 
 // W.
 fn words(m: usize, n: usize, t: usize, counts: Counts) -> usize
-    requires { ⌜ (m ≤ 256) × (n ≤ 1024) × (t ≤ 16384) × (counts .s ≤ 16777216) ⌝ }
+    requires { ⌜ (m ≤ maxRows) × (n ≤ maxColumns) × (t ≤ maxEntries) × (counts .s ≤ maxRows * maxPlaces) ⌝ }
     ensures { λ r. ⌜ r ≡ 5 * counts .e + 3 * counts .s + 2 * counts .d + 3 * m + n + 2 * t + 5 ⌝ }
 {
     let e = counts.e as usize;
@@ -117,7 +119,7 @@ fn plan_in(
     requires { ⌜ Accepted (now offsets) (now columns) m n × Memories m n (now lindptr) (now lindices) (now mark) (now next) (now again) ⌝ }
     ensures { λ r. ⌜ Counted m n (now (offsets .entry)) (now (columns .entry)) below (now (index .entry)) (now (index .exit)) (r .e) (r .s) (r .d) ⌝ }
 {
-    let mut p = [0u64; 1024];
+    let mut p = [0u64; pattern::WORDS];
     pattern::pattern(offsets, columns, m, &mut p);
     pair_lists::list_rows(&p, m, lindptr, lindices);
     let t = count_all(m, n, offsets, columns, &p, lindptr, lindices, next);
@@ -160,11 +162,11 @@ fn plan_few(
     requires { ⌜ Accepted (now offsets) (now columns) m n × (m ≤ 16) × (n ≤ 32) ⌝ }
     ensures { λ r. ⌜ Counted m n (now (offsets .entry)) (now (columns .entry)) below (now (index .entry)) (now (index .exit)) (r .e) (r .s) (r .d) ⌝ }
 {
-    let mut lindptr = [0u32; 17];
-    let mut lindices = [0u8; 136];
-    let mut mark = [0u32; 33];
-    let mut next = [0u32; 33];
-    let mut again = [0u32; 33];
+    let mut lindptr = [0u32; FEW_ROWS + 1];
+    let mut lindices = [0u8; FEW_ROWS * (FEW_ROWS + 1) / 2];
+    let mut mark = [0u32; FEW_COLUMNS + 1];
+    let mut next = [0u32; FEW_COLUMNS + 1];
+    let mut again = [0u32; FEW_COLUMNS + 1];
     plan_in(
         m,
         n,
@@ -192,11 +194,11 @@ fn plan_many(
     requires { ⌜ Accepted (now offsets) (now columns) m n ⌝ }
     ensures { λ r. ⌜ Counted m n (now (offsets .entry)) (now (columns .entry)) below (now (index .entry)) (now (index .exit)) (r .e) (r .s) (r .d) ⌝ }
 {
-    let mut lindptr = [0u32; 257];
-    let mut lindices = [0u8; 32896];
-    let mut mark = [0u32; 1025];
-    let mut next = [0u32; 1025];
-    let mut again = [0u32; 1025];
+    let mut lindptr = [0u32; Plan::MAX_ROWS + 1];
+    let mut lindices = [0u8; Plan::MAX_ROWS * (Plan::MAX_ROWS + 1) / 2];
+    let mut mark = [0u32; Plan::MAX_COLUMNS + 1];
+    let mut next = [0u32; Plan::MAX_COLUMNS + 1];
+    let mut again = [0u32; Plan::MAX_COLUMNS + 1];
     plan_in(
         m,
         n,

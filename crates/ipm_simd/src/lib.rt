@@ -5,7 +5,7 @@ ghost use mathlib.Core.List.{_++_};
 ghost use Prim.Native.Nat.{ℕ, _+_, _<_, _≤_};
 ghost use lib.Dec.{leb};
 ghost use lib.ListN.{length, take, drop, replicate};
-ghost use Rattle.csr.specs.Csr.{Accepted};
+ghost use Rattle.csr.specs.Csr.{Accepted, maxStored};
 ghost use Rattle.csr.specs.Verdict.{toldAsked};
 ghost use Rattle.lanes.specs.Arithmetic.{null};
 ghost use Rattle.machine.specs.declared.Outcome.the-variants.{NoAt11};
@@ -13,6 +13,7 @@ ghost use Rattle.machine.specs.Outcome.{largestLimit};
 ghost use Rattle.memory.specs.Planned.{Planned};
 ghost use Rattle.ipm_simd.specs.Solve.{given, lent, toldSolve, outcomeVerdict, lengthsRight, sizesVerdict, Solved};
 ghost use Rattle.ipm_simd.specs.Parts.{Asked10, EntriesBelow, written, Ends, Continued};
+ghost use Rattle.csr.specs.Questions.{maxRows, maxColumns};
 use csr::Asked;
 use csr::Refusal;
 use lanes::LaneState;
@@ -56,7 +57,7 @@ struct Lengths {
 
 // Question 8.
 fn lengths_right(m: usize, n: usize, lengths: Lengths) -> bool
-    requires { ⌜ (m ≤ 256) × (n ≤ 1024) ⌝ }
+    requires { ⌜ (m ≤ maxRows) × (n ≤ maxColumns) ⌝ }
     ensures { λ r. ⌜ r ≡ lengthsRight m n (lengths .b) (lengths .c) (lengths .tolerances) (lengths .output) ⌝ }
 {
     let output = lengths.output;
@@ -84,7 +85,7 @@ fn limit_right(limit: usize) -> bool
 
 // Questions 6 to 10, by W, the plan's sizes, the lengths of the lists and the limit.
 fn ask_sizes(words: usize, plan: Plan, lengths: Lengths, limit: usize) -> Asked
-    requires { ⌜ (plan .m ≤ 256) × (plan .n ≤ 1024) × (plan .stored ≤ 32896) ⌝ }
+    requires { ⌜ (plan .m ≤ maxRows) × (plan .n ≤ maxColumns) × (plan .stored ≤ maxStored) ⌝ }
     ensures { λ r. ⌜ toldAsked r ≡ sizesVerdict words (plan .stored) (plan .m) (plan .n) (plan .s) (lengths .index) (lengths .b) (lengths .c) (lengths .tolerances) (lengths .output) (lengths .work) limit ⌝ }
 {
     let m = plan.m;
@@ -190,7 +191,7 @@ fn solve_planned(
 
 // How many stored entries the working memory has no room for: questions 7 to 10 get a yes just where E is below this.
 fn entries_below(m: usize, n: usize, s: usize, lengths: Lengths, limit: usize) -> usize
-    requires { ⌜ (m ≤ 256) × (n ≤ 1024) ⌝ }
+    requires { ⌜ (m ≤ maxRows) × (n ≤ maxColumns) ⌝ }
     ensures { λ r. ⌜ EntriesBelow m n s (lengths .b) (lengths .c) (lengths .tolerances) (lengths .output) (lengths .work) limit r ⌝ }
 {
     if m < s {

@@ -15,6 +15,7 @@ ghost use Rattle.layout.specs.Layout.{lIn};
 ghost use Rattle.lane_test.specs.Measures.{judged, Measured, Judges, primalTol, dualTol, gapTol, judgedLane};
 ghost use Rattle.kernels.specs.Kernels.{Laid, Within, wIn, slackY};
 ghost use Rattle.residuals.specs.Residuals.{primalSum, dualSum};
+ghost use Rattle.csr.specs.Questions.{maxRows, maxColumns};
 use kernels::dot_product;
 use kernels::squares_and_products;
 use lanes::add4;
@@ -107,7 +108,7 @@ fn gap_in(g: [f64; 4], nx: [f64; 4], ny: [f64; 4]) -> [f64; 4]
 
 // mu, given g, by a centring.
 fn mu_in(g: [f64; 4], n: usize, s: usize, centring: f64) -> [f64; 4]
-    requires { ⌜ (n ≤ 1024) × (s ≤ 256) ⌝ }
+    requires { ⌜ (n ≤ maxColumns) × (s ≤ maxRows) ⌝ }
     ensures { λ r. ⌜ r ≡ lanes (λ l. centring ⊗ at g l ⊘ whole (n + s)) ⌝ }
 {
     let k = n + s;
@@ -125,7 +126,7 @@ pub struct Measures {
 }
 
 pub fn measure(work: &[f64], width: usize, plan: Plan, centring: f64) -> Measures
-    requires { ⌜ (plan .m ≤ 256) × (plan .n ≤ 1024) × (plan .s ≤ plan .m) × (lIn plan ≤ room width (now work)) × Width width ⌝ }
+    requires { ⌜ (plan .m ≤ maxRows) × (plan .n ≤ maxColumns) × (plan .s ≤ plan .m) × (lIn plan ≤ room width (now work)) × Width width ⌝ }
     ensures { λ r. ⌜ Measured width (plan .m) (plan .n) (plan .s) centring (now (work .entry)) (r .nx) (r .ny) (r .g) (r .mu) ⌝ }
 {
     let mem = plan.regions();

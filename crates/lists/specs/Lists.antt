@@ -17,6 +17,7 @@ use Rattle.lists.specs.declared.What.the-variants.{Numbers, Places}
 use Rattle.lists.specs.declared.Which.{Which}
 use Rattle.lists.specs.declared.Which.the-variants.{AnormIndptr, AnormIndptrI, AnormIndptrJ, AnormIndices, LdecompIndptr, LdecompIndptrI, LdecompIndptrJ, Lindptr, LdiagIndptr, Lindices}
 use Rattle.base.specs.Numbers.{find}
+use Rattle.csr.specs.Questions.{maxRows, maxColumns}
 
 -- what the lists are read off
 pub record Shape : Type 0 where
@@ -172,8 +173,8 @@ byWhat Places i x = x
 
 -- how many columns there may be
 abbrev pub widest : Side → ℕ
-widest Factor = 256
-widest Matrix = 1024
+widest Factor = maxRows
+widest Matrix = maxColumns
 
 unfoldable pub endsOf : Shape → Side → ℕ → ℕ → List ℕ
 unfolding columnEnds

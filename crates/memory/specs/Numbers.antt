@@ -9,6 +9,7 @@ use Rattle.lanes.specs.Lanes.{Width, room}
 use Rattle.lanes.specs.Region.{reg}
 use Rattle.layout.specs.declared.Block.{Block}
 use Rattle.layout.specs.Layout.{yAt, dyAt, wAt, dwAt}
+use Rattle.csr.specs.Questions.{maxRows, maxColumns}
 
 -- lane l's numbers, and what its step has worked out, in the memory of a block of `width` lanes
 abbrev pub numbersAt : ℕ → ℕ → ℕ → ℕ → List Float → ℕ → State
@@ -26,8 +27,8 @@ dataAt block m n b c tol l =
 
 -- a block's lanes are among those of b, c and the tolerances, which are as long as stated, and the sizes are in their limits
 pub record Lent (block : Block) (width m n s : ℕ) (b c tol : List Float) : Type 0 where
-  pub rows : m ≤ 256
-  pub columns : n ≤ 1024
+  pub rows : m ≤ maxRows
+  pub columns : n ≤ maxColumns
   pub slack : s ≤ m
   pub lanes : block .total ≤ 16
   pub wide : Width width

@@ -8,6 +8,8 @@ use Rattle.csr.specs.Pattern.{row}
 use Rattle.base.specs.Cat.{cat, pick}
 use Rattle.lists.specs.declared.Which.{Which}
 use Rattle.lists.specs.declared.Which.the-variants.{AnormIndptr, AnormIndptrI, AnormIndptrJ, AnormIndices, LdecompIndptr, LdecompIndptrI, LdecompIndptrJ, Lindptr, LdiagIndptr, Lindices}
+use Rattle.csr.specs.Questions.{maxRows}
+use Rattle.csr.specs.Csr.{maxPlaces}
 
 -- the k below n that h holds, rising
 unfoldable pub kept : (ℕ → Bool) → ℕ → List ℕ
@@ -22,11 +24,11 @@ keptRows h i = cat i (λ a. kept (h a) (a + 1))
 -- lindptr and lindices are the row offsets and the columns of m rows of the grid
 pub record Rows (h : ℕ → ℕ → Bool) (lindptr lindices : List ℕ) (m : ℕ) : Type 0 where
   pub offsets : m < length lindptr
-  pub few : m ≤ 256
+  pub few : m ≤ maxRows
   pub starts : (i : ℕ) → i ≤ m → getD lindptr i 0 ≡ length (keptRows h i)
   pub rows : (i : ℕ) → i < m → row lindptr lindices i ≡ kept (h i) (i + 1)
   pub fits : getD lindptr m 0 ≤ length lindices
-  pub short : length lindices ≤ 65536
+  pub short : length lindices ≤ maxPlaces
 
 -- the places in a list, from base on, of the k that h holds
 unfoldable pub placesOf : (ℕ → Bool) → ℕ → List ℕ → List ℕ

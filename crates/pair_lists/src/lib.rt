@@ -3,7 +3,7 @@ ghost use mathlib.Core.Path.{_≡_};
 ghost use mathlib.Core.Bool.{true, false};
 ghost use Prim.Native.Nat.{suc, _+_, _-_, _<_, _≤_};
 ghost use lib.ListN.{length, getD};
-ghost use Rattle.pattern.specs.Word.{bit};
+ghost use Rattle.pattern.specs.Word.{bit, patternWords};
 ghost use Rattle.base.specs.Sums.{sum};
 ghost use Rattle.base.specs.Cat.{Wrote, cat};
 ghost use Rattle.base.specs.Numbers.{Below};
@@ -11,8 +11,9 @@ ghost use Rattle.lists.specs.Lists.{shape, walkOf, piece, weight, listOf, tenOf
 ghost use Rattle.pair_lists.specs.Kept.{kept, Rows, placesOf, marksRead, diagonalOnly};
 ghost use Rattle.pair_lists.specs.Listing.{Listing, Unmarked, RowReady, RowListing, InRow, Counting, AtPair};
 ghost use Rattle.shared_columns.specs.Marked.{MarkedOver};
-ghost use Rattle.csr.specs.Csr.{RowOf};
+ghost use Rattle.csr.specs.Csr.{RowOf, maxPlaces};
 ghost use Rattle.csr.specs.Pattern.{row};
+ghost use Rattle.csr.specs.Questions.{maxRows, maxEntries};
 use base::byte_at;
 use base::keep;
 use base::keep_byte;
@@ -27,7 +28,7 @@ use shared_columns::put_shared;
 
 // Row i of the pattern as a list of bytes.
 pub fn list_row(p: &[u64], i: usize, lindices: &mut [u8], start: usize) -> usize
-    requires { ⌜ (length (now p) ≡ 1024) × (i < 256) × (start + i + 1 ≤ length (now lindices)) ⌝ }
+    requires { ⌜ (length (now p) ≡ patternWords) × (i < maxRows) × (start + i + 1 ≤ length (now lindices)) ⌝ }
     ensures { λ r. ⌜ Wrote (now (lindices .entry)) (now (lindices .exit)) start (kept (bit (now (p .entry)) i) (i + 1)) r ⌝ }
 {
     let mut at = start;
@@ -41,7 +42,7 @@ pub fn list_row(p: &[u64], i: usize, lindices: &mut [u8], start: usize) -> usize
 
 // The rows of the pattern as lists: their offsets and their columns.
 pub fn list_rows(p: &[u64], m: usize, lindptr: &mut [u32], lindices: &mut [u8])
-    requires { ⌜ (length (now p) ≡ 1024) × (m ≤ 256) × (m < length (now lindptr)) × (sum m suc ≤ length (now lindices)) × (length (now lindices) ≤ 65536) ⌝ }
+    requires { ⌜ (length (now p) ≡ patternWords) × (m ≤ maxRows) × (m < length (now lindptr)) × (sum m suc ≤ length (now lindices)) × (length (now lindices) ≤ maxPlaces) ⌝ }
     ensures { λ _. ⌜ Rows (bit (now (p .entry))) (now (lindptr .exit)) (now (lindices .exit)) m ⌝ }
 {
     store(lindptr, 0, 0);
@@ -56,7 +57,7 @@ pub fn list_rows(p: &[u64], m: usize, lindptr: &mut [u32], lindices: &mut [u8])
 
 // The places, from base on, of the numbers of a list that row q of the pattern holds.
 pub fn places(p: &[u64], q: usize, l: &[u8], base: u32, index: &mut [u32], start: usize) -> usize
-    requires { ⌜ (length (now p) ≡ 1024) × (q < 256) × Below 256 (now l) × (base + length (now l) ≤ 65536) × (start + length (placesOf (bit (now p) q) base (now l)) ≤ length (now index)) ⌝ }
+    requires { ⌜ (length (now p) ≡ patternWords) × (q < maxRows) × Below maxRows (now l) × (base + length (now l) ≤ maxPlaces) × (start + length (placesOf (bit (now p) q) base (now l)) ≤ length (now index)) ⌝ }
     ensures { λ r. ⌜ Wrote (now (index .entry)) (now (index .exit)) start (placesOf (bit (now (p .entry)) q) base (now (l .entry))) r ⌝ }
 {
     let mut at = start;
@@ -80,7 +81,7 @@ pub fn products(
     index: &mut [u32],
     start: usize,
 ) -> usize
-    requires { ⌜ (length (now p) ≡ 1024) × InRow (bit (now p)) (now lindptr) (now lindices) r t × (q < 256) × (start + length (walkOf (bit (now p)) r q (getD (now lindices) t 0) (getD (now lindptr) r 0)) ≤ length (now index)) ⌝ }
+    requires { ⌜ (length (now p) ≡ patternWords) × InRow (bit (now p)) (now lindptr) (now lindices) r t × (q < maxRows) × (start + length (walkOf (bit (now p)) r q (getD (now lindices) t 0) (getD (now lindptr) r 0)) ≤ length (now index)) ⌝ }
     ensures { λ x. ⌜ Wrote (now (index .entry)) (now (index .exit)) start (walkOf (bit (now (p .entry))) r q (getD (now (lindices .entry)) t 0) (getD (now (lindptr .entry)) r 0)) x ⌝ }
 {
     let a = word_at(lindptr, r);
@@ -127,7 +128,7 @@ pub fn weigh(
     j: usize,
 ) -> u32
     requires { ⌜ RowReady which (now off) (now cols) (now p) (now mark) i × (j ≤ i) ⌝ }
-    ensures { λ r. ⌜ (r ≡ weight (shape (now (off .entry)) (now (cols .entry))) which i j) × (r ≤ 16384) ⌝ }
+    ensures { λ r. ⌜ (r ≡ weight (shape (now (off .entry)) (now (cols .entry))) which i j) × (r ≤ maxEntries) ⌝ }
 {
     match which {
         Which::AnormIndptr => count_shared(off, cols, mark, i, j) as u32,

@@ -7,6 +7,7 @@ use lib.Dec.{eqb}
 use lib.ListN.{getD}
 use Rattle.csr.specs.Pattern.{has, row}
 use Rattle.base.specs.Numbers.{Below}
+use Rattle.csr.specs.Questions.{maxColumns}
 
 -- the first, or else the second
 abbrev pub orElse : ℕ → ℕ → ℕ
@@ -36,4 +37,4 @@ module _ (off cols : List ℕ) where
 
 -- a memory over 1,024 columns that holds F
 abbrev pub Firsts : List ℕ → (ℕ → ℕ) → Type 0
-Firsts first F = (e : ℕ) → e < 1024 → getD first e 0 ≡ F e
+Firsts first F = (e : ℕ) → e < maxColumns → getD first e 0 ≡ F e

@@ -8,6 +8,11 @@ use lib.Dec.{eqb, leb, ltb}
 use lib.ListN.{getD}
 use Rattle.csr.specs.Pattern.{stored}
 use Rattle.base.specs.Sums.{sum, one}
+use Rattle.csr.specs.Questions.{maxRows}
+
+-- four words of 64 bits for each row
+abbrev pub patternWords : ℕ
+patternWords = 1024
 
 -- is digit k of a number set?
 unfoldable pub digit : ℕ → ℕ → Bool
@@ -20,24 +25,24 @@ bit p i j = digit (getD p (i * 4 + j / 64) 0) (j % 64)
 
 -- p is q with bit j of row i set, and no other bit changed
 abbrev pub Put : List ℕ → List ℕ → ℕ → ℕ → Type 0
-Put q p i j = (a b : ℕ) → a < 256 → b < 256 → bit p a b ≡ (eqb a i && eqb b j) || bit q a b
+Put q p i j = (a b : ℕ) → a < maxRows → b < maxRows → bit p a b ≡ (eqb a i && eqb b j) || bit q a b
 
 -- row i of p holds just what `stored` says
 abbrev pub Done : (ℕ → ℕ → Bool) → List ℕ → ℕ → Type 0
-Done nb p i = (b : ℕ) → b < 256 → bit p i b ≡ leb b i && stored nb i b
+Done nb p i = (b : ℕ) → b < maxRows → bit p i b ≡ leb b i && stored nb i b
 
 -- row i of p holds the diagonal and the neighbours below it
 abbrev pub Seeded : (ℕ → ℕ → Bool) → List ℕ → ℕ → Type 0
-Seeded nb p i = (b : ℕ) → b < 256 → bit p i b ≡ eqb i b || (ltb b i && nb i b)
+Seeded nb p i = (b : ℕ) → b < maxRows → bit p i b ≡ eqb i b || (ltb b i && nb i b)
 
 -- p and q agree but for row i
 abbrev pub OtherRows : List ℕ → List ℕ → ℕ → Type 0
-OtherRows q p i = (a b : ℕ) → a < 256 → b < 256 → (a ≡ i → ⊥) → bit p a b ≡ bit q a b
+OtherRows q p i = (a b : ℕ) → a < maxRows → b < maxRows → (a ≡ i → ⊥) → bit p a b ≡ bit q a b
 
 -- the number of bits set in row i
 unfoldable pub rowOnes : List ℕ → ℕ → ℕ
 unfolding bit sum
-rowOnes p i = sum 256 (λ j. one (bit p i j))
+rowOnes p i = sum maxRows (λ j. one (bit p i j))
 
 -- r is word w of what rows i and j have in common
 abbrev pub CommonWord : List ℕ → ℕ → ℕ → ℕ → ℕ → Type 0
@@ -45,8 +50,8 @@ CommonWord p i j w r = (d : ℕ) → d < 64 → bit p i (w * 64 + d) && bit p j 
 
 -- row i of p is clear
 abbrev pub Clear : List ℕ → ℕ → Type 0
-Clear p i = (b : ℕ) → b < 256 → bit p i b ≡ false
+Clear p i = (b : ℕ) → b < maxRows → bit p i b ≡ false
 
 -- p is q with bit f - 1 of row i set, if f is not 0
 abbrev pub Linked : List ℕ → List ℕ → ℕ → ℕ → Type 0
-Linked q p i f = (a b : ℕ) → a < 256 → b < 256 → bit p a b ≡ (eqb a i && eqb f (suc b)) || bit q a b
+Linked q p i f = (a b : ℕ) → a < maxRows → b < maxRows → bit p a b ≡ (eqb a i && eqb f (suc b)) || bit q a b

@@ -14,6 +14,11 @@ const MOST_CASES: u64 = 16384;
 // The bytes of a word.
 const WORD_BYTES: usize = 4;
 
+// The bytes of plan.bin are fewer, and the words of a plan in it.
+const FILE_BYTES: usize = 262_144;
+
+const PLAN_WORDS: usize = 4096;
+
 // The words of the file, and how many there are.
 fn decode(s: &[u8], words: &mut [u32]) -> usize
     ensures { λ r. ⌜ r ≤ length (now (words .exit)) ⌝ }
@@ -57,7 +62,7 @@ enum Case {
 
 // One case, cut out: whether plan answers W and writes the words.
 fn planned(m: u32, n: u32, offsets: &[u32], columns: &[u32], words: &[u32]) -> bool {
-    let mut index = [OLD; 4096];
+    let mut index = [OLD; PLAN_WORDS];
     match ipm_common::plan(m as usize, n as usize, offsets, columns, &mut index) {
         PlanAnswer::Planned(w) => w == words.len() && written(&index, words),
         PlanAnswer::Refused(_) => false,
@@ -146,10 +151,10 @@ fn main() {
         os::fail(b"plan.bin");
         return;
     }
-    let mut buffer = [0u8; 262144];
+    let mut buffer = [0u8; FILE_BYTES];
     let n = io::read_full(file, &mut buffer);
     libc::close(file);
-    let mut words = [0u32; 65536];
+    let mut words = [0u32; FILE_BYTES / WORD_BYTES];
     let k = decode(&buffer[..n], &mut words);
     let tally = run_all(&words[..k]);
     io::print_decimal(STDOUT_FILENO, tally.right);

@@ -2,7 +2,7 @@
 ghost use mathlib.Core.Path.{_≡_};
 ghost use Prim.Native.Nat.{_+_, _<_, _≤_};
 ghost use lib.ListN.{length, getD};
-ghost use Rattle.csr.specs.Csr.{RowOf};
+ghost use Rattle.csr.specs.Csr.{RowOf, maxPlaces};
 ghost use Rattle.csr.specs.Pattern.{row};
 ghost use Rattle.base.specs.Numbers.{Below};
 ghost use Rattle.csr.specs.Counts.{common};
@@ -62,7 +62,7 @@ pub fn hits(
     index: &mut [u32],
     start: usize,
 ) -> usize
-    requires { ⌜ Below (length (now mark)) (now b) × (y + length (now b) ≤ 65536) × (start + length (alongOf (hit take (now mark) lo) y (now b)) ≤ length (now index)) ⌝ }
+    requires { ⌜ Below (length (now mark)) (now b) × (y + length (now b) ≤ maxPlaces) × (start + length (alongOf (hit take (now mark) lo) y (now b)) ≤ length (now index)) ⌝ }
     ensures { λ r. ⌜ Wrote (now (index .entry)) (now (index .exit)) start (alongOf (hit take (now (mark .entry)) lo) y (now (b .entry))) r ⌝ }
 {
     let mut at = start;

@@ -7,7 +7,7 @@ use lib.Dec.{eqb}
 use lib.ListN.{length, getD, take}
 use Rattle.csr.specs.Counts.{common}
 use Rattle.csr.specs.Pattern.{has, row}
-use Rattle.csr.specs.Csr.{Csr, RowOf}
+use Rattle.csr.specs.Csr.{Csr, RowOf, maxPlaces}
 use Rattle.base.specs.Cat.{pick, cat}
 use Rattle.base.specs.Numbers.{Below}
 use Rattle.lists.specs.Lists.{shape, holds, entry, column, inColumn, sideOf}
@@ -16,6 +16,7 @@ use Rattle.lists.specs.declared.What.the-variants.{Numbers}
 use Rattle.lists.specs.declared.Side.{Side}
 use Rattle.lists.specs.declared.Side.the-variants.{Factor, Matrix}
 use Rattle.base.specs.Sums.{sum}
+use Rattle.csr.specs.Questions.{maxRows, maxColumns}
 
 -- the columns of a side: the matrix's stand in words, the factor's in bytes
 abbrev pub colsOf : Side → List ℕ → List ℕ → List ℕ
@@ -54,8 +55,8 @@ pub record Outside (old new : List ℕ) (start end : ℕ) : Type 0 where
 -- lists of rows, rising, columns below n: the matrix's, or the factor's
 pub record Grid (off cols : List ℕ) (m n : ℕ) : Type 0 where
   pub csr : Csr off cols m
-  pub short : length cols ≤ 65536
-  pub wide : n ≤ 1024
+  pub short : length cols ≤ maxPlaces
+  pub wide : n ≤ maxColumns
   pub within : (i : ℕ) → i < m → Below n (row off cols i)
 
 -- entry c of a memory is where bin c starts
@@ -75,7 +76,7 @@ pub record Scattering (off cols : List ℕ) (m n : ℕ) (w : What) (i : ℕ) (in
   pub inside : i < m
   pub long : n ≤ length next
   pub room : start + sum n (roomOf off cols m) ≤ length index
-  pub few : sum n (roomOf off cols m) ≤ 262144
+  pub few : sum n (roomOf off cols m) ≤ maxRows * maxColumns
   pub bins : Bins index next start n (roomOf off cols m) (rowsOf off cols w i)
 
 -- the first i of m rows stand in their bins, and nothing else has changed
@@ -97,14 +98,14 @@ pub record Uncounted (off cols : List ℕ) (m : ℕ) (next : List ℕ) : Type 0 
 -- row i and a memory that counts, for each column of it, the rows before it that hold the column
 pub record RowCounting (off cols : List ℕ) (i : ℕ) (next : List ℕ) : Type 0 where
   pub at : RowOf off cols i (length next)
-  pub few : i < 256
+  pub few : i < maxRows
   pub counts : (c : ℕ) → has (row off cols i) c ≡ true → getD next c 0 ≡ length (seen off cols i c)
 
 -- row i is counted: in its columns, and how many columns it shares with the rows up to it
 pub record RowCounted (off cols : List ℕ) (i : ℕ) (old next : List ℕ) (shares : ℕ) : Type 0 where
   pub counts : (c : ℕ) → getD old c 0 ≡ length (seen off cols i c) → getD next c 0 ≡ length (seen off cols (i + 1) c)
   pub pairs : shares ≡ sum (suc i) (λ j. common (row off cols i) (row off cols j))
-  pub few : shares ≤ 256 * (getD off (i + 1) 0 - getD off i 0)
+  pub few : shares ≤ maxRows * (getD off (i + 1) 0 - getD off i 0)
 
 -- a 0 and the ends of n bins
 unfoldable pub endsFrom : (ℕ → ℕ) → ℕ → List ℕ

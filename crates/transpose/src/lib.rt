@@ -1,6 +1,6 @@
 // The transpose of CSR lists by counting, and what pairs of rows share, counted by column.
 ghost use mathlib.Core.Path.{_≡_};
-ghost use Prim.Native.Nat.{ℕ, _+_, _<_, _≤_};
+ghost use Prim.Native.Nat.{ℕ, _+_, _<_, _≤_, _*_};
 ghost use lib.ListN.{length, getD, set};
 ghost use Rattle.csr.specs.Counts.{countS};
 ghost use lib.Seq.{sets};
@@ -8,12 +8,14 @@ ghost use Rattle.base.specs.Cat.{Wrote, cat};
 ghost use Rattle.transpose.specs.Bins.{rowsOf, EmptyBins, Scattering, Scattered, Grid, Uncounted, Starts, seen, RowCounting, RowCounted, endsFrom, sideIn, colsOf};
 use base::word_at;
 ghost use Rattle.lists.specs.Lists.{byWhat};
+ghost use Rattle.csr.specs.Questions.{maxRows, maxColumns};
+ghost use Rattle.csr.specs.Csr.{maxPlaces};
 use lists::Side;
 use lists::What;
 
 // One more word into the bin of column e.
 pub fn put_in(index: &mut [u32], next: &mut [u32], start: usize, e: usize, x: u32)
-    requires { ⌜ (e < length (now next)) × (start + getD (now next) e 0 < length (now index)) × (getD (now next) e 0 < 262144) ⌝ }
+    requires { ⌜ (e < length (now next)) × (start + getD (now next) e 0 < length (now index)) × (getD (now next) e 0 < maxRows * maxColumns) ⌝ }
     ensures { λ _. ⌜ (now (index .exit) ≡ set (now (index .entry)) (start + getD (now (next .entry)) e 0) x) × (now (next .exit) ≡ set (now (next .entry)) e (getD (now (next .entry)) e 0 + 1)) ⌝ }
 {
     let q = next[e];
@@ -71,7 +73,7 @@ pub fn scatter_row(
 
 // One more in the count of column e, and the count.
 pub fn bump(next: &mut [u32], e: usize) -> usize
-    requires { ⌜ (e < length (now next)) × (getD (now next) e 0 < 256) ⌝ }
+    requires { ⌜ (e < length (now next)) × (getD (now next) e 0 < maxRows) ⌝ }
     ensures { λ r. ⌜ (r ≡ getD (now (next .entry)) e 0 + 1) × (now (next .exit) ≡ set (now (next .entry)) e (getD (now (next .entry)) e 0 + 1)) ⌝ }
 {
     let q = next[e] + 1;
@@ -113,7 +115,7 @@ pub fn count_rows(
     next: &mut [u32],
 ) -> usize
     requires { ⌜ Uncounted (now off) (colsOf side (now cols) (now bytes)) m (now next) ⌝ }
-    ensures { λ r. ⌜ ((c : ℕ) → getD (now (next .entry)) c 0 ≡ 0 → getD (now (next .exit)) c 0 ≡ length (seen (now (off .entry)) (colsOf side (now (cols .entry)) (now (bytes .entry))) m c)) × (r ≡ countS (now (off .entry)) (colsOf side (now (cols .entry)) (now (bytes .entry))) m) × (r ≤ 16777216) ⌝ }
+    ensures { λ r. ⌜ ((c : ℕ) → getD (now (next .entry)) c 0 ≡ 0 → getD (now (next .exit)) c 0 ≡ length (seen (now (off .entry)) (colsOf side (now (cols .entry)) (now (bytes .entry))) m c)) × (r ≡ countS (now (off .entry)) (colsOf side (now (cols .entry)) (now (bytes .entry))) m) × (r ≤ maxRows * maxPlaces) ⌝ }
 {
     let mut s: usize = 0;
     let mut i: usize = 0;
@@ -141,7 +143,7 @@ pub fn put_ends(
     again: &mut [u32],
     start: usize,
 ) -> usize
-    requires { ⌜ (n < length (now next)) × (n < length (now again)) × (n ≤ 1024) × ((c : ℕ) → c < n → getD (now next) c 0 ≤ 256) × (start + n + 1 ≤ length (now index)) ⌝ }
+    requires { ⌜ (n < length (now next)) × (n < length (now again)) × (n ≤ maxColumns) × ((c : ℕ) → c < n → getD (now next) c 0 ≤ maxRows) × (start + n + 1 ≤ length (now index)) ⌝ }
     ensures ends { λ r. ⌜ Wrote (now (index .entry)) (now (index .exit)) start (endsFrom (λ c. getD (now (next .entry)) c 0) n) r ⌝ }
     ensures starts { λ r. ⌜ Starts (now (next .exit)) n (λ c. getD (now (next .entry)) c 0) × Starts (now (again .exit)) (n + 1) (λ c. getD (now (next .entry)) c 0) ⌝ }
 {
