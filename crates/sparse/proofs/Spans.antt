@@ -35,10 +35,10 @@ module _ {off : List ℕ} {i size : ℕ} (P : Part off i size) where
         let q : length vs ≡ length (span off beside i) = ap length ev in
         omega (arith, span-length list e, span-length beside z)
 
-    pub turn-at : getD es k 0 ≡ getD list (getD off i 0 + k) 0
+    turn-at : getD es k 0 ≡ getD list (getD off i 0 + k) 0
     turn-at = let n : length es ≡ length (span off list i) = ap length ee in rw ee (cut-at (getD off i 0) (getD off (i + 1) 0) list k 0 (omega (arith, span-length list e)))
 
-    pub turn-within : getD off i 0 + k < length list
+    turn-within : getD off i 0 + k < length list
     turn-within = let n : length es ≡ length (span off list i) = ap length ee in omega (arith, span-length list e, P .ends)
 
     pub turn-fits : {room : ℕ} (o : ℕ) → Fits room o list → o + getD es k 0 < room
