@@ -6,8 +6,8 @@ use mathlib.Core.List.{List, [], _∷_}
 use Prim.Native.Nat.{ℕ, zero, suc, _+_, _*_, _≤_, _<_}
 use native.Mathlib.Nat.{eq-or-lt-of-le}
 use native.Mathlib.Omega.{arith}
-use lib.ListN.{getD, length, length-append, take, List·getD-append}
-use lib.Seq.{getD-at, take-append-le, ext-getD}
+use lib.ListN.{getD, length, length-append, List·getD-append}
+use lib.Seq.{getD-at, ext-getD}
 use lib.Ieee.{Float, nan}
 use Rattle.lanes.specs.Lists.{at, grow, vec, fold, first, lane}
 
@@ -16,22 +16,6 @@ module _ {A : Type 0} (f : List A → ℕ → A) where
   unfolding grow
   grow-length zero = refl
   grow-length (suc n) = length-append (grow n f) (f (grow n f) n ∷ []) ∙ omega (arith, grow-length n)
-
-  -- the first k are made as a list of k
-  pub grow-take : (n k : ℕ) → k ≤ n → take k (grow n f) ≡ grow k f
-  unfolding grow
-  grow-take zero k h = go k h
-    where
-      go : (k : ℕ) → k ≤ 0 → take k (grow 0 f) ≡ grow k f
-      go zero h = refl
-      go (suc k) h = absurd (omega arith)
-  grow-take (suc n) k h = go (grow-take n k) (eq-or-lt-of-le h)
-    where
-      go : (k ≤ n → take k (grow n f) ≡ grow k f) → (k ≡ suc n) ⊎ (k < suc n) → take k (grow (suc n) f) ≡ grow k f
-      go ih (inl e) =
-          subst (λ (j : ℕ). take j (grow (suc n) f) ≡ grow j f) (sym e)
-          (lib.Seq.take-all (suc n) (grow (suc n) f) (omega (arith, grow-length (suc n))))
-      go ih (inr l) = take-append-le k (grow n f) (f (grow n f) n ∷ []) (omega (arith, grow-length n)) ∙ ih (omega arith)
 
   -- element k is made by f from the k before it
   pub grow-at : (n k : ℕ) (z : A) → k < n → getD (grow n f) k z ≡ f (grow k f) k
@@ -57,10 +41,6 @@ pub vec-same : (n : ℕ) (f g : ℕ → Float) → ((k : ℕ) → k < n → f k 
 vec-same n f g h =
     ext-getD nan (vec n f) (vec n g) (vec-length n f ∙ sym (vec-length n g))
     (λ k l. let b : k < n = omega (arith, vec-length n f) in vec-at n f k b ∙ h k b ∙ sym (vec-at n g k b))
-
-pub lane-length : (K n l : ℕ) (v : List Float) → length (lane K n l v) ≡ n
-unfolding lane
-lane-length K n l v = vec-length n (λ k. at v (K * k + l))
 
 pub lane-at : (K n l : ℕ) (v : List Float) (k : ℕ) → k < n → at (lane K n l v) k ≡ at v (K * k + l)
 unfolding lane

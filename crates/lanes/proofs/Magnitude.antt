@@ -13,9 +13,6 @@ use borrow.Author.Tests.{eq-eqb, eqb-true, ltb-true, ltb-false}
 use Rattle.lanes.specs.Arithmetic.{magnitude}
 use Rattle.base.proofs.Bools.{and-left}
 
-zero64 : Float
-zero64 = fin false 0 (pos 0)
-
 as-zero : ofBits binary64 0 ≡ fin false 0 (pos 0)
 unfolding ofBits
 as-zero = refl

@@ -20,10 +20,6 @@ pub pairs-16 : sum 16 suc ≡ 136
 unfolding sum
 pairs-16 = refl
 
-pub pairs-64 : sum 64 suc ≡ 2080
-unfolding sum
-pairs-64 = refl
-
 pub pairs-256 : sum 256 suc ≡ 32896
 unfolding sum
 pairs-256 = refl

@@ -1,5 +1,5 @@
 -- The entries of a row, for a program that goes through the stored lists from one offset to the next. Assumes nothing.
-use mathlib.Core.Path.{_≡_, refl, sym, ap, _∙_, subst}
+use mathlib.Core.Path.{_≡_, refl, sym, ap, _∙_}
 use mathlib.Core.Bool.{Bool, cond}
 use mathlib.Core.List.{List, [], _∷_}
 use Prim.Native.Nat.{ℕ, zero, suc, _+_, _-_, _≤_, _<_}
@@ -59,9 +59,6 @@ module _ (A : Problem) (i : ℕ) where
   module _ (rising : Between 0 (A .n) (row (A .off) (A .cols) i)) (ends : from + many ≤ length (A .cols)) where
     row-many : length (row (A .off) (A .cols) i) ≡ many
     row-many = row-length (A .off) (A .cols) i (omega arith)
-
-    pub column-lt : (j : ℕ) → j < many → getD (A .cols) (from + j) 0 < A .n
-    column-lt j h = subst (λ (e : ℕ). e < A .n) (row-at (A .off) (A .cols) i j h) (under 0 (A .n) (row (A .off) (A .cols) i) rising j (omega (arith, row-many)))
 
     pub entry-at : (j : ℕ) → j < many → entry A i (getD (A .cols) (from + j) 0) ≡ at (A .vals) (from + j)
     unfolding entry

@@ -1,6 +1,5 @@
 -- The lists lindptr and lindices are the factor's rows. Assumes nothing.
 use mathlib.Core.Path.{_≡_, refl, sym, ap, _∙_, subst}
-use mathlib.Core.Logic.{_↔_}
 use mathlib.Core.Bool.{Bool, true}
 use mathlib.Core.List.{List, [], _∷_, _++_, append-assoc}
 use Prim.Native.Nat.{ℕ, zero, suc, _+_, _-_, _<_, _≤_}
@@ -8,22 +7,19 @@ use native.Mathlib.Omega.{arith}
 use native.Mathlib.Numerals.{add-one}
 use lib.ListN.{length, getD}
 use lib.Ieee.{Float}
-use Rattle.csr.specs.Pattern.{has, neighbours, stored}
-use Rattle.csr.specs.Chain.{Chain}
-use Rattle.csr.specs.Walks.{neighbours-sym}
-use Rattle.csr.proofs.Chain.{stored↔chain}
+use Rattle.csr.specs.Pattern.{has}
 use Rattle.base.specs.Cat.{cat, pick, pairs}
 use Rattle.lists.specs.Lists.{Shape, shape, lplace, listOf, piece}
 use Rattle.lists.specs.declared.Which.the-variants.{Lindptr, Lindices}
-use Rattle.lists.proofs.Counts.{lplace-from, held-stored}
+use Rattle.lists.proofs.Counts.{lplace-from}
 use Rattle.lists.proofs.Sizes.{size-list}
-use Rattle.lanes.specs.Lists.{at, Between}
+use Rattle.lanes.specs.Lists.{Between}
 use Rattle.machine.specs.Machine.{inFactor}
 use Rattle.machine.specs.Work.{problemOf}
-use Rattle.plan_laws.proofs.Ranks.{ranked, lplace-start, lplace-next, lplace-row, lplace-along, lplace-down, by-entry-length, by-row-at, entry-of}
+use Rattle.plan_laws.proofs.Ranks.{ranked, lplace-start, lplace-next, lplace-row, lplace-along, lplace-down, by-entry-length, by-row-at}
 use Rattle.plan_laws.proofs.Picks.{picks-all, held-factor, held-diag}
 use Rattle.base.specs.Numbers.{cut, span}
-use Rattle.plan_laws.specs.Meaning.{LowOf, Holds}
+use Rattle.plan_laws.specs.Meaning.{LowOf}
 use Rattle.base.proofs.Numbers.{cut-part, cut-at}
 use Rattle.base.proofs.Write.{cat-split}
 use Rattle.plan_laws.proofs.Picked.{picked, named-length, picked-rise, picked-has}
@@ -115,22 +111,3 @@ module _ (off cols : List ℕ) (m : ℕ) where
         let e : getD ptr (i + 1) 0 - 1 ≡ lplace g i i = omega (arith, ptr-next i h) in
         ap (λ (k : ℕ). getD ind k 0) e ∙ ind-at i i h (omega arith) (held-diag off cols i);
   }
-
-  -- numbers that stand at the places of the stored pairs stand as the rows say
-  pub holds-of : (n s : ℕ) (vals lv : List Float) (L : ℕ → ℕ → Float) → ((i j : ℕ) → i < m → j ≤ i → g .held i j ≡ true → at lv (lplace g i j) ≡ L i j)
-      → Holds (problemOf m n s off cols vals) ptr ind lv L
-  holds-of n s vals lv L f = record {
-    reads = λ i h k a b.
-        let e = entry-of g i k (omega (arith, ptr-at i (omega arith))) (omega (arith, ptr-at (i + 1) (omega arith), ap (λ (x : ℕ). lplace g x 0) (add-one i))) in
-        ap (at lv) (sym (e .at))
-        ∙ f i (e .j) h (e .low) (e .held)
-        ∙ ap (L i) (sym (ap (λ (x : ℕ). getD ind x 0) (sym (e .at)) ∙ ind-at i (e .j) h (e .low) (e .held)));
-  }
-
-  -- THE PLANNED FACTOR: its row i has j below the diagonal exactly when there is a chain
-  pub planned : (i j : ℕ) → i < m → j < i → (has (span ptr ind i) j ≡ true) ↔ Chain (neighbours off cols) i j
-  planned i j h l =
-      let c = stored↔chain (neighbours off cols) (neighbours-sym off cols) i j l in
-      let e : has (span ptr ind i) j ≡ stored (neighbours off cols) i j =
-      ap (λ (xs : List ℕ). has xs j) (row-cut i h) ∙ picked-has (g .held i) (suc i) j (omega arith) ∙ held-stored off cols i j (omega arith) in
-      (λ t. c .0 (sym e ∙ t), λ w. e ∙ c .1 w)

@@ -164,9 +164,6 @@ module _ (g : Shape) where
   unfolding lplace before sum
   lplace-down i a h = omega (arith, sum-more i a (λ r. sum (suc r) (λ b. one (g .held r b))) h)
 
-  pub lplace-up : (i : ℕ) → lplace g i 0 ≤ lplace g (suc i) 0
-  lplace-up i = lplace-down i (suc i) (omega arith)
-
   -- a stored pair that stands before another has the lower place
   pub lplace-lt : (a b i : ℕ) → a < i → b ≤ a → g .held a b ≡ true → lplace g a b < lplace g i 0
   lplace-lt a b i h l t = omega (arith, lplace-next g 0 a b t, lplace-along a (suc b) (suc a) (omega arith), lplace-row g 0 a, lplace-down (suc a) i h)

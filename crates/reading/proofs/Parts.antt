@@ -92,10 +92,6 @@ take-replicate zero n x h = refl
 take-replicate (suc k) zero x h = absurd (omega arith)
 take-replicate (suc k) (suc n) x h = ap (λ l. x ∷ l) (take-replicate k n x (omega arith))
 
-pub zeros-long : (k : ℕ) → length (zeros k) ≡ k
-unfolding zeros
-zeros-long k = lib.ListN.length-replicate k 0
-
 pub blank-long : (k : ℕ) → length (blank k) ≡ k
 unfolding blank
 blank-long k = lib.ListN.length-replicate k (ofBits binary64 0)

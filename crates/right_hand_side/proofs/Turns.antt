@@ -14,7 +14,7 @@ use Rattle.layout.specs.declared.Block.{Block}
 use Rattle.layout.specs.declared.Regions.{Regions}
 use Rattle.sparse.specs.Parts.{plusRow, plusCol}
 use Rattle.kernels.specs.Kernels.{Laid, xIn, tmpIn, yIn}
-use Rattle.kernels.proofs.Loops.{filled, Three, three-none, three-turn, three}
+use Rattle.kernels.proofs.Loops.{filled, Three, three-turn, three}
 use Rattle.right_hand_side.specs.RightHandSide.{vStart, overLane, costLane, uLane, fLane, costAt, uAt, fAt, RightU, RightF}
 
 -- ---- the right-hand side, by columns
@@ -24,9 +24,6 @@ module _ (width : ℕ) (mem : Regions) (atindptr atindices atmap : List ℕ) (va
   abbrev pub UpTo : ℕ → List Float → List Float → Type 0
   UpTo e old new =
       Three width (mem .dx) (mem .dz) (mem .tmp) e (mem .n) (costLane width mem atindptr atindices atmap vals block c old) (overLane width mem mu old) (uLane width mem atindptr atindices atmap vals block c mu old) old new
-
-  pub right-none : (ws : List Float) → UpTo 0 ws ws
-  right-none ws = three-none _ _ _ _ _ _ _ _ _
 
   module _ {old new : List Float} {e : ℕ} (P : Laid width mem old) (g : UpTo e old new) (h : e < mem .n) where
     kept-three : Kept width (mem .dx) (3 * mem .n) old new

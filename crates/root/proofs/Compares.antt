@@ -13,9 +13,6 @@ both a b h k = omega arith
 same : (a b : ℕ) → a < b → a ≡ b → ⊥
 same a b h k = omega arith
 
-same' : (a b : ℕ) → b < a → a ≡ b → ⊥
-same' a b h k = omega arith
-
 both' : (a b : ℕ) → a < b → b < a → ⊥
 both' a b h k = omega arith
 

@@ -49,10 +49,6 @@ no-nan nan e = absurd (true≢false e)
 no-nan (inf s) e = tt
 no-nan (fin s m e) h = tt
 
-pub nan-root : nan ≡ root binary64 nan
-unfolding root
-nan-root = refl
-
 pub nan-made : div binary64 (ofBits binary64 0) (ofBits binary64 0) ≡ nan
 unfolding div ofBits
 nan-made = refl
