@@ -10,7 +10,8 @@ use lib.Pow.{pow-lt}
 use lib.Ieee.{Float, nan, inf, fin, binary64, fits, lt, eq, neg, ofBits, up, down}
 use lib.Ieee.Fits.{up-pos}
 use borrow.Author.Tests.{eq-eqb, eqb-true, ltb-true, ltb-false}
-use Rattle.lanes.specs.Arithmetic.{magnitude}
+use Rattle.lanes.specs.Arithmetic.{null, magnitude}
+use Rattle.lanes.proofs.Consts.{null-bits}
 use Rattle.base.proofs.Bools.{and-left}
 
 as-zero : ofBits binary64 0 ≡ fin false 0 (pos 0)
@@ -79,5 +80,5 @@ positive-size (inf false) h = refl
 positive-size (fin false m e) h = refl
 positive-size (fin true m e) h = absurd (false≢true h)
 
-pub positive : (x : Float) → lt (ofBits binary64 0) x ≡ true → x ≡ magnitude x
-positive x h = positive-size x (sym (ap (λ (z : Float). lt z x) as-zero) ∙ h)
+pub positive : (x : Float) → lt null x ≡ true → x ≡ magnitude x
+positive x h = positive-size x (ap (λ (z : Float). lt z x) (sym as-zero ∙ null-bits) ∙ h)
