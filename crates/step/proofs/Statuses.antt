@@ -1,9 +1,9 @@
 -- The start, and the step that the statuses ask for. Assumes nothing.
 use mathlib.Core.Path.{_≡_, refl, ap, _∙_}
-use mathlib.Core.Logic.{_≢_}
+use mathlib.Core.Logic.{_≢_, inr}
 use mathlib.Core.Bool.{Bool, true, false, cond, _&&_}
 use mathlib.Core.List.{List}
-use Prim.Native.Nat.{ℕ, _<_}
+use Prim.Native.Nat.{ℕ, _+_, _*_, _<_, _≤_}
 use native.Mathlib.Omega.{arith}
 use lib.ListN.{getD}
 use lib.Ieee.{Float, lt, isNan}
@@ -12,16 +12,16 @@ use Rattle.lanes.specs.Arithmetic.{null}
 use Rattle.lanes.specs.Constants.{startValue}
 use Rattle.lanes.specs.Lanes.{lanes, On, Width}
 use Rattle.lanes.specs.Region.{reg, Kept, Fills, Apart, before}
-use Rattle.lanes.proofs.Regions.{kept-apart}
+use Rattle.lanes.proofs.Regions.{kept-apart, places-le}
 use Rattle.lanes.proofs.Quads.{on}
 use Rattle.machine.specs.Machine.{Problem, LaneData, Settings, State, R, Q, G, mu, status, direction, stepLength, stepped}
 use Rattle.machine.specs.declared.Status.{Status}
 use Rattle.machine.specs.declared.Status.the-variants.{Spoilt, Done, Step}
 use Rattle.machine.specs.Outcome.{isDone}
 use Rattle.machine.specs.Work.{stepOf, stepBy}
-use Rattle.layout.specs.Layout.{yAt, wAt}
+use Rattle.layout.specs.Layout.{yAt, wAt, lAt}
 use Rattle.memory.specs.Numbers.{numbersAt}
-use Rattle.step.specs.Steps.{Fresh, Told, LanesStep}
+use Rattle.step.specs.Steps.{Untouched, Fresh, Told, LanesStep}
 use Rattle.step.proofs.Steps.{Took, untouched, untouched-on}
 
 -- ---- the start
@@ -34,9 +34,11 @@ pub fresh : (width m n s : ℕ) {x z y w w0 w1 w2 w3 w4 : List Float}
     → Fills width (yAt n) m (λ t. vec m (λ e. at y t)) w2 w3 → Fills width (wAt n m) s (λ t. vec s (λ e. at w t)) w3 w4 → Fresh width m n s w0 w4
 fresh width m n s {x} {z} {y} {w} {w0} {w1} {w2} {w3} {w4} sx sz sy sw F1 F2 F3 F4 =
     record {
-      frame =
-          untouched-on (untouched (F1 .kept) (omega arith))
-          (untouched-on (untouched (F2 .kept) (omega arith)) (untouched-on (untouched (F3 .kept) (omega arith)) (untouched (F4 .kept) (omega arith))));
+      size = F4 .kept .size ∙ F3 .kept .size ∙ F2 .kept .size ∙ F1 .kept .size;
+      outside =
+          λ j a b c.
+          F4 .kept .outside j c ∙ F3 .kept .outside j b ∙ F2 .kept .outside j (inr a)
+          ∙ F1 .kept .outside j (inr (omega (arith, places-le width {o = n} {k = n + n} (omega arith))));
       all = λ t b i. record { x = ex t b i; z = ez t b i; y = ey t b i; w = ew t b i };
     }
   where
@@ -54,6 +56,16 @@ fresh width m n s {x} {z} {y} {w} {w0} {w1} {w2} {w3} {w4} sx sz sy sw F1 F2 F3 
 
     ew : (t : ℕ) → t < width → reg width w4 (wAt n m) s t ≡ vec s (λ _. startValue)
     ew t b = F4 .within t b ∙ ap (λ (u : Float). vec s (λ _. u)) (sw .lane t b)
+
+-- nothing behind the numbers' regions has changed
+pub fresh-frame : {width m n s : ℕ} {old new : List Float} → Fresh width m n s old new → Untouched width (lAt n m s) old new
+fresh-frame {width} {m} {n} {s} F = record {
+  size = F .size;
+  beyond = λ j a. F .outside j (past j (n + n) (omega arith) a) (inr (past j (yAt n + m) (omega arith) a)) (inr (past j (wAt n m + s) (omega arith) a));
+}
+  where
+    past : (j k : ℕ) → k ≤ lAt n m s → width * lAt n m s ≤ j → width * k ≤ j
+    past j k h a = omega (arith, places-le width {o = k} {k = lAt n m s} h)
 
 -- ---- the step that the statuses ask for
 

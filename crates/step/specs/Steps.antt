@@ -2,7 +2,7 @@
 use Prim.Native.Nat.{ℕ, _+_, _*_, _≤_, _<_}
 use mathlib.Core.Path.{_≡_}
 use mathlib.Core.Bool.{Bool, cond, false}
-use mathlib.Core.Logic.{_≢_}
+use mathlib.Core.Logic.{_⊎_, _≢_}
 use mathlib.Core.List.{List}
 use lib.ListN.{getD, length}
 use lib.Ieee.{Float}
@@ -17,7 +17,7 @@ use Rattle.machine.specs.declared.Status.the-variants.{Spoilt}
 use Rattle.machine.specs.Work.{stepOf}
 use Rattle.layout.specs.declared.Block.{Block}
 use Rattle.layout.specs.declared.Plan.{Plan}
-use Rattle.layout.specs.Layout.{dyAt, rhsAt, lAt, topIn}
+use Rattle.layout.specs.Layout.{yAt, dyAt, rhsAt, wAt, lAt, topIn}
 use Rattle.memory.specs.Numbers.{numbersAt, directionAt}
 use Rattle.memory.specs.Planned.{Planned, problemIn, dataIn}
 
@@ -131,9 +131,15 @@ pub record Advanced (width m n s : ℕ) (damping : Float) (ratios : List Float) 
       → let h = cond (getD done l false) null (smaller (damping ⊘ at ratios l) one) in
       numbersAt width m n s new l ≡ movedBy m n s (numbersAt width m n s old l) h (directionAt width m n s old l)
 
--- every number is 1000.0
+-- every number is 1000.0, and nothing but x, z, y and w has changed
 pub record Fresh (width m n s : ℕ) (old new : List Float) : Type 0 where
-  pub frame : Untouched width (lAt n m s) old new
+  pub size : length new ≡ length old
+  pub outside :
+      (j : ℕ)
+      → width * (n + n) ≤ j
+      → (j < width * yAt n) ⊎ (width * (yAt n + m) ≤ j)
+      → (j < width * wAt n m) ⊎ (width * (wAt n m + s) ≤ j)
+      → at new j ≡ at old j
   pub all :
       (l : ℕ)
       → l < width

@@ -155,7 +155,7 @@ fn advance(
     vector_update(work, width, mem.w, mem.dw, mem.s, h);
 }
 
-// Every number as it is at the start, 1000.0.
+// Every number as it is at the start, 1000.0; the rest stays.
 pub fn normal_eqn_init(work: &mut [f64], width: usize, plan: Plan)
     requires { ⌜ (lIn plan ≤ room width (now work)) × Width width ⌝ }
     ensures { λ _. ⌜ Fresh width (plan .m) (plan .n) (plan .s) (now (work .entry)) (now (work .exit)) ⌝ }

@@ -12,6 +12,7 @@ use Rattle.memory.specs.Calls.{callIn, memoryIn}
 use Rattle.lane_test.specs.Measures.{Measured}
 use Rattle.step.specs.Steps.{Untouched, Told}
 use Rattle.step.proofs.Steps.{untouched-room, untouched-on, untouched-wider}
+use Rattle.step.proofs.Statuses.{fresh-frame}
 use Rattle.run.specs.Tests.{Runs, ForLanes}
 use Rattle.run.proofs.Runs.{standard-runs, bears, ends-ran, goes, goes-on, told-step, stepped}
 use Rattle.run.proofs.run.Statement.{statement}
@@ -35,7 +36,7 @@ loop-holds c =
     let f = c .before .before .normal-eqn-init .ensures in (
       (λ H R. start-steps (callIn H (s .args .plan) (s .args .block) (s .args .width) (s .args .off .now) (s .args .cols .now) (s .args .vals .now) (s .args .b .now) (s .args .c .now) (s .args .tol .now)) (s .args .limit) _ (s .pre .1) (f .all)),
       record { size = refl; beyond = λ j l. refl },
-      omega (arith, s .pre .0 .room, untouched-room (f .frame)),
+      omega (arith, s .pre .0 .room, untouched-room (fresh-frame f)),
     )
 
 add-k : tie.Need-add-k Inv-loop μ-loop
@@ -60,7 +61,7 @@ returns : tie.Need-returns Inv-loop μ-loop
 returns c =
     let s = c .before .before .before .before .before .before .before .before .before .before .before .before .before .before .before .before .before .before .before .before .before .before in
     let l = c .before .before .before .before .before .before .before .before .before .loop in (
-      untouched-on (untouched-wider (c .before .before .before .before .before .before .before .before .before .before .before .before .normal-eqn-init .ensures .frame) (omega arith)) (l .inv .1),
+      untouched-on (untouched-wider (fresh-frame (c .before .before .before .before .before .before .before .before .before .before .before .before .normal-eqn-init .ensures)) (omega arith)) (l .inv .1),
       λ H R. ends-ran (callIn H (s .args .plan) (s .args .block) (s .args .width) (s .args .off .now) (s .args .cols .now) (s .args .vals .now) (s .args .b .now) (s .args .c .now) (s .args .tol .now)) (s .args .limit) (l .k) _ (c .before .before .before .before .before .test-at .result) (l .inv .0 H R) (c .before .before .before .before .before .test-at .ensures H R .says) _ (sym (c .before .before .before .turn-after .ensures) ∙ c .before .outcome .given .1),
     )
 
