@@ -122,7 +122,7 @@ module _ (a : Given) {output work : List Float} {index : List ℕ} {stored share
     answer = er ∙ ap outcomeVerdict (R .answer);
     buffers = all;
     demand3 = demand3 (call a) (words a) (room a) (plannedHas a) (a .limit) (lent output index work) (lent output1 index1 work2) (solved (call a) (a .limit)) (memoryIn (planOf a stored shared products) 4 work1)
-        (R .tests .0) (R .tests .1) (λ i j l b. planned-stored (a .offsets) (a .columns) (a .m) i j b l) refl all;
+        (R .said) (R .tests) (λ i j l b. planned-stored (a .offsets) (a .columns) (a .m) i j b l) refl all;
   }
     where
       F : ℕ

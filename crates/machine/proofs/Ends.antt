@@ -304,3 +304,21 @@ module _ (K : ℕ) (says : ℕ → ℕ → Status) where
       go : (t : Bool) → eqb (first N stops) N ≡ t → testsMade K says N ≡ k
       go true b = absurd (apart-12 (outcome K says N) k N e (outcome-is N true b))
       go false b = made-is N false b ∙ here (someSpoilt K says (first N stops + 1)) (sym (outcome-is N false b) ∙ e)
+
+  -- a smaller limit makes the first of the same tests
+  pub made-within : (N j : ℕ) → 1 ≤ j → j ≤ testsMade K says N → testsMade K says j ≡ j
+  made-within N j h b = go (decLt (first j stops) j)
+    where
+      most : (t : Bool) → eqb (first N stops) N ≡ t → testsMade K says N ≤ first N stops + 1
+      most true e = omega (arith, made-is N true e, eqb-true (first N stops) N e)
+      most false e = omega (arith, made-is N false e)
+
+      after : Dec (first j stops < first N stops) → first j stops < j → first N stops ≤ first j stops
+      after (yes l) g = absurd (true≢false (sym (first-hit stops j g) ∙ first-none stops N (first j stops) l))
+      after (no l) g = omega arith
+
+      go : Dec (first j stops < j) → testsMade K says j ≡ j
+      go (yes g) =
+          made-is j false (ne-eqb (first j stops) j (λ e. omega arith))
+          ∙ omega (arith, after (decLt (first j stops) (first N stops)) g, most (eqb (first N stops) N) refl)
+      go (no g) = made-is j true (eq-eqb (first j stops) j (omega (arith, first-le stops j)))

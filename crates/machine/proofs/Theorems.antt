@@ -21,6 +21,7 @@ use Rattle.machine.proofs.Factor.{factor-is}
 use Rattle.machine.proofs.Tests as tests
 use Rattle.machine.proofs.Ends as ending
 use Rattle.machine.proofs.Demand3 as demand
+use Rattle.machine.proofs.Turns as turns
 
 pub zero-step-keeps : theorems.Zero-step-keeps
 zero-step-keeps p dp s f = unmoved p dp s (subst T (sym f) tt)
@@ -102,6 +103,9 @@ module _ (C : Call) where
 
   pub every-test : theorems.Every-test C
   every-test = demand.every-test C
+
+  pub test-by-test : theorems.Test-by-test C
+  test-by-test = turns.test-by-test C
 
   pub larger-solve : theorems.Larger-solve C
   larger-solve = demand.two-limits C

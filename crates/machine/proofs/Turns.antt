@@ -16,9 +16,10 @@ use Rattle.machine.specs.Outcome.{Outcome, accepted, noAt11, noAt12, tes
 use Rattle.machine.specs.Demand3.{Memory, Has, Started, Reads, AtTest, Made}
 use Rattle.machine.specs.Work.{Says, Stepped, Ran}
 use Rattle.lanes.proofs.Lists.{first-same}
-use Rattle.machine.proofs.Ends.{Quiet, both, ends, some-no, stop-spoilt, stop-done, stop-spent, made-accepted}
+use Rattle.machine.proofs.Ends.{Quiet, both, ends, some-no, stop-spoilt, stop-done, stop-spent, made-accepted, made-within}
 use Rattle.machine.proofs.Lanes.{interleaved-same}
 use Rattle.machine.proofs.Machines.{lane-live, said-of, fresh-has, moved-has}
+use Rattle.machine.specs.Theorems as theorems
 use Rattle.machine.specs.Theorems.{SoundState}
 use Rattle.machine.proofs.Wait.{SoundMachine, left-sound, rust-next}
 use Rattle.machine.proofs.Demand3.{made-once, made-again, made-test, made-from}
@@ -111,7 +112,9 @@ module _ (C : Call) where
         let s = stop-spoilt (C .K) (laneStatus C) N k (g .under) (g .quiet) (some-spoilt r e true (lt-ltb r (C .K) b)) in
         record {
           answer = ap (noAt11 (k + 1)) (e ∙ lowest-is) ∙ sym (s .0);
-          tests = (said, subst (λ (j : ℕ). Made C j M said) (sym (s .1)) made);
+          said = said;
+          tests = subst (λ (j : ℕ). Made C j M said) (sym (s .1)) made;
+          says = h;
         }
 
     module _ (r u : ℕ) (e : r ≡ first (C .K) (λ l. isSpoilt (getD said l spoilt))) (d : u ≡ first (C .K) (λ l. not (isDone (getD said l spoilt)))) (b : r < C .K → ⊥) where
@@ -122,7 +125,7 @@ module _ (C : Call) where
       unfolding solved
       ran-done z =
           let s = stop-done (C .K) (laneStatus C) N k (g .under) (g .quiet) none (all-done u d true (eq-eqb u (C .K) z)) in
-          record { answer = sym (s .0); tests = (said, subst (λ (j : ℕ). Made C j M said) (sym (s .1)) made) }
+          record { answer = sym (s .0); said = said; tests = subst (λ (j : ℕ). Made C j M said) (sym (s .1)) made; says = h }
 
       module _ (z : u ≡ C .K → ⊥) where
         quieter : Quiet (C .K) (laneStatus C) (k + 1 + 1)
@@ -141,7 +144,9 @@ module _ (C : Call) where
             let s = stop-spent (C .K) (laneStatus C) N (subst (λ (i : ℕ). Quiet (C .K) (laneStatus C) (i + 1)) q quieter) in
             record {
               answer = ap noAt12 q ∙ sym (s .0);
-              tests = (said, subst (λ (j : ℕ). Made C j M said) (q ∙ sym (s .1)) made);
+              said = said;
+              tests = subst (λ (j : ℕ). Made C j M said) (q ∙ sym (s .1)) made;
+              says = h;
             }
 
         pub steps-on : (M' : Memory) → (k + 1 ≡ N → ⊥) → Stepped C M M' → Going N (k + 1) M'
@@ -160,9 +165,8 @@ module _ (C : Call) where
   unfolding solved
   ran-live {N} {M} R k e l h =
       let a = sym (R .answer) ∙ e in
-      let said = R .tests .0 in
-      let made = subst (λ (j : ℕ). AtTest C j M said) (made-accepted (C .K) (laneStatus C) N k a) (made-test C (testsMade (C .K) (laneStatus C) N) M said (R .tests .1)) in
-      lane-live C k M said made l h (both (laneStatus C l k) (ends (C .K) (laneStatus C) N .reported k a .0 .all l h))
+      let made = subst (λ (j : ℕ). AtTest C j M (R .said)) (made-accepted (C .K) (laneStatus C) N k a) (made-test C (testsMade (C .K) (laneStatus C) N) M (R .said) (R .tests)) in
+      lane-live C k M (R .said) made l h (both (laneStatus C l k) (ends (C .K) (laneStatus C) N .reported k a .0 .all l h))
 
   -- so a list f of its lanes, interleaved, is the machines'
   pub ran-field : {N : ℕ} {M : Memory} {o : Outcome} → Ran C N M o → (f : State → List Float) (count k : ℕ) → o ≡ accepted k → 1 ≤ C .K
@@ -170,3 +174,8 @@ module _ (C : Call) where
   unfolding fieldAt
   ran-field {N} {M} R f count k a p =
       interleaved-same (C .K) count (λ l e. at (f (M l)) e) (λ l e. fieldOf f (laneMachine C l k) e) p (λ l e h b. sym (ap (λ (X : Machine). fieldOf f X e) (ran-live R k a l h)))
+
+  -- the run under the limit j ends with test j, where a run under some limit makes that test
+  pub test-by-test : theorems.Test-by-test C
+  test-by-test N j h b M o R =
+      (R .said, subst (λ (i : ℕ). AtTest C i M (R .said)) (made-within (C .K) (laneStatus C) N j h b) (made-test C (testsMade (C .K) (laneStatus C) j) M (R .said) (R .tests)), R .says)

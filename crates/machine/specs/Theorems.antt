@@ -13,10 +13,10 @@ use Rattle.csr.specs.Chain.{Chain}
 use Rattle.lanes.specs.Arithmetic.{_⊕_, _⊗_, null, one}
 use Rattle.lanes.specs.Lists.{at}
 use Rattle.machine.specs.Machine.{Problem, LaneData, Settings, State, live, Status, spoilt, done, status, mu, direction, allFinite, after, standard, R, Q, G, machine, yields, inFactor, cell, factor, factorEntry}
-use Rattle.machine.specs.Outcome.{Outcome, noAt12, largestLimit, outcome, Call, laneData}
+use Rattle.machine.specs.Outcome.{Outcome, noAt12, largestLimit, outcome, testsMade, Call, laneData, laneStatus}
 use Rattle.machine.specs.Ends.{Ends}
 use Rattle.machine.specs.Demand3.{Memory, Buffers, Has, AtTest, Made, Demand3}
-use Rattle.machine.specs.Work.{stepOf}
+use Rattle.machine.specs.Work.{stepOf, Says, Ran}
 
 -- ---- the numbers of a machine
 
@@ -184,6 +184,17 @@ module _ (C : Call) where
       → 1 ≤ j
       → j ≤ k
       → (M' : Memory) × (said' : List Status) × AtTest C j M' said'
+
+  -- 'at every test made': for each j up to the number of tests made under a limit N, a run under the limit j ends with test j.
+  -- Each lane of the memory that it leaves has its machine's numbers there, and they are done or spoilt exactly when the machine is
+  abbrev pub Test-by-test : Type 0
+  Test-by-test =
+      (N j : ℕ)
+      → 1 ≤ j
+      → j ≤ testsMade (C .K) (laneStatus C) N
+      → (M : Memory) (o : Outcome)
+      → Ran C j M o
+      → (said : List Status) × AtTest C j M said × Says C M said
 
   -- two solves that meet demand 3, the second under a larger limit: one answer, the same buffers
   abbrev pub Larger-solve : Type 0

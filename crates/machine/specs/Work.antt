@@ -41,7 +41,9 @@ module _ (C : Call) where
       → l < C .K
       → M' l ≡ stepOf (C .problem) (C .settings) (laneData C l) (M l) (status (C .problem) (C .settings) (laneData C l) (M l))
 
-  -- all the tests were made, and on no other numbers than the machines'; M is the memory of the last
+  -- all the tests were made, and on no other numbers than the machines'; M is the memory of the last, which said of each lane what its numbers there yield
   pub record Ran (N : ℕ) (M : Memory) (o : Outcome) : Type 0 where
     pub answer : o ≡ solved C N
-    pub tests : (said : List Status) × Made C (testsMade (C .K) (laneStatus C) N) M said
+    pub said : List Status
+    pub tests : Made C (testsMade (C .K) (laneStatus C) N) M said
+    pub says : Says M said

@@ -3,7 +3,7 @@ use mathlib.Core.Path.{_≡_, refl, sym, ap, _∙_, subst}
 use mathlib.Core.Logic.{_≢_}
 use mathlib.Core.Bool.{Bool, true, false, cond, not}
 use mathlib.Core.List.{List, [], _∷_}
-use Prim.Native.Nat.{ℕ, _+_, _<_}
+use Prim.Native.Nat.{ℕ, _+_, _<_, _≤_}
 use native.Mathlib.Omega.{arith}
 use borrow.Author.Tests.{ltb-true, ltb-false, eqb-true, eqb-false}
 use lib.Dec.{eqb, ltb}
@@ -23,7 +23,7 @@ use Rattle.machine.specs.Outcome.{isSpoilt, isDone, Call, laneData, laneMachine
 use Rattle.machine.specs.Demand3.{Memory, Has}
 use Rattle.machine.specs.Work.{stepOf, Says, Stepped, Ran}
 use Rattle.machine.proofs.Demand3.{made-test}
-use Rattle.machine.proofs.Turns.{Going, steps-reads, made, ran-spoilt, ran-done, ran-spent, steps-on}
+use Rattle.machine.proofs.Turns.{Going, steps-reads, made, ran-spoilt, ran-done, ran-spent, steps-on, test-by-test}
 use Rattle.layout.specs.declared.Block.{Block}
 use Rattle.layout.specs.declared.Plan.{Plan}
 use Rattle.memory.specs.Numbers.{numbersAt}
@@ -35,7 +35,7 @@ use Rattle.lane_test.proofs.Tests.{mu-lane}
 use Rattle.step.specs.Steps.{Told, LanesStep}
 use Rattle.run.specs.declared.Turn.{Turn}
 use Rattle.run.specs.declared.Turn.the-variants.{Ends as ends, Steps as steps}
-use Rattle.run.specs.Tests.{Runs, Bears, Tested, turnAfter}
+use Rattle.run.specs.Tests.{Runs, Bears, Tested, AtEveryTest, turnAfter}
 
 -- document 01's settings are such
 pub standard-runs : {A : Problem} → Runs A standard
@@ -109,6 +109,10 @@ module _ (C : Call) (N k : ℕ) (M : Memory) (said : List Status) (g : Going C N
   pub goes-on : (M′ : Memory) → Goes (C .K) said N (k + 1) → Stepped C M M′ → Going C N (k + 1) M′
   unfolding spoiltIn undoneIn
   goes-on M′ G v = steps-on C N k M said g h (spoiltIn (C .K) said) (undoneIn (C .K) said) refl refl (G .sound) (G .behind) M′ (G .under) v
+
+-- a run, and what its memory is of every run
+pub ran-tests : (C : Call) (N : ℕ) → 1 ≤ N → (M : Memory) (o : Outcome) → Ran C N M o → Ran C N M o × AtEveryTest C N M
+ran-tests C N h M o R = (R, λ N′ b. let t = test-by-test C N′ N h b M o R in (t .0, record { made = t .1; says = t .2 }))
 
 -- ---- the tests of a block's lanes
 module _ (H : Settings) (plan : Plan) (block : Block) (w : ℕ) (W : Width w) (off cols : List ℕ) (vals b c tol : List Float) where

@@ -14,7 +14,7 @@ use Rattle.machine.specs.Machine.{Problem, LaneData, Settings, State, lost, sta
 use Rattle.machine.specs.declared.Status.{Status}
 use Rattle.machine.specs.declared.Status.the-variants.{Spoilt as spoilt}
 use Rattle.machine.specs.declared.Outcome.the-variants.{Accepted as accepted, NoAt11 as noAt11, NoAt12 as noAt12}
-use Rattle.machine.specs.Outcome.{isSpoilt, isDone, Call, laneData, laneMachine}
+use Rattle.machine.specs.Outcome.{isSpoilt, isDone, testsMade, Call, laneData, laneMachine, laneStatus}
 use Rattle.machine.specs.Demand3.{Memory, Reads, AtTest}
 use Rattle.machine.specs.Work.{Says}
 use Rattle.layout.specs.declared.Block.{Block}
@@ -60,6 +60,10 @@ module _ (C : Call) where
   pub record Tested (k : ℕ) (M : Memory) (said : List Status) : Type 0 where
     pub made : AtTest C k M said
     pub says : Says C M said
+
+  -- M is the memory of test j, under whatever limit N a run makes that test
+  abbrev pub AtEveryTest : ℕ → Memory → Type 0
+  AtEveryTest j M = (N : ℕ) → j ≤ testsMade (C .K) (laneStatus C) N → (said : List Status) × Tested j M said
 
 -- what follows test k, of what it said of K lanes: an end at the lowest spoilt lane, with all lanes done or at the limit N, else a step
 unfoldable pub turnAfter : ℕ → List Status → ℕ → ℕ → Turn

@@ -8,7 +8,7 @@ ghost use Rattle.layout.specs.Layout.{topIn};
 ghost use Rattle.machine.specs.Work.{Ran};
 ghost use Rattle.memory.specs.Calls.{memoryIn};
 ghost use Rattle.step.specs.Steps.{Untouched};
-ghost use Rattle.run.specs.Tests.{Bears, Tested, Provided, MeasuredIn, ForLanes, turnAfter};
+ghost use Rattle.run.specs.Tests.{Bears, Tested, AtEveryTest, Provided, MeasuredIn, ForLanes, turnAfter};
 use lane_test::Measures;
 use lanes::LaneState;
 use lanes::add4;
@@ -92,7 +92,7 @@ fn turn_after(statuses: [Status; 4], width: usize, limit: usize, k: usize) -> Tu
     Turn::Steps
 }
 
-// The tests up to the limit, with a step between one and the next.
+// The tests up to the limit, with a step between one and the next. At every test made each lane has its machine's numbers: under the limit j, for each j up to the number of tests made under any other, they are in the memory at the end. What dx, dz, tmp, dy, rhs, dw and the factor hold there is open: a step writes them before it reads them.
 pub fn run(
     off: &[u32],
     cols: &[u32],
@@ -108,7 +108,7 @@ pub fn run(
     limit: usize,
 ) -> Outcome
     requires { ⌜ Provided plan block width (now off) (now cols) (now vals) (now index) (now b) (now c) (now tol) (now work) × (1 ≤ limit) ⌝ }
-    ensures { λ r. ⌜ Untouched width (topIn plan) (now (work .entry)) (now (work .exit)) × ForLanes (λ C. Ran C limit (memoryIn plan width (now (work .exit))) r) plan block width (now (off .entry)) (now (cols .entry)) (now (vals .entry)) (now (b .entry)) (now (c .entry)) (now (tol .entry)) ⌝ }
+    ensures { λ r. ⌜ Untouched width (topIn plan) (now (work .entry)) (now (work .exit)) × ForLanes (λ C. Ran C limit (memoryIn plan width (now (work .exit))) r × AtEveryTest C limit (memoryIn plan width (now (work .exit)))) plan block width (now (off .entry)) (now (cols .entry)) (now (vals .entry)) (now (b .entry)) (now (c .entry)) (now (tol .entry)) ⌝ }
 {
     normal_eqn_init(work, width, plan);
     let mut k: usize = 0;

@@ -24,7 +24,7 @@ report-requires c κs =
     let p = e .pre .1 in
     let r = c .before .before .before .before .run .ensures in
     let a = (given (e .args .plan .m) (e .args .plan .n) (e .args .plan .s) (e .args .offsets .now) (e .args .columns .now) (e .args .values .now) (e .args .b .now) (e .args .c .now) (e .args .tolerances .now) (e .args .limit)) in
-    (omega (arith, p .output, p .work, r .0 .size), lane-under (call a) (e .args .limit) (c .before .before .before .before .run .result) (run-four a p (r .1 standard standard-runs) .answer))
+    (omega (arith, p .output, p .work, r .0 .size), lane-under (call a) (e .args .limit) (c .before .before .before .before .run .result) (run-four a p (r .1 standard standard-runs .0) .answer))
 
 clear-front-requires : tie.Need-clear-front-requires
 clear-front-requires c κs = let p = c .before .before .before .before .before .before .before .before .before .before .before .before .before .before .before .before .before .before .before .before .pre .1 in omega (arith, p .work, c .before .before .before .before .before .before .before .before .run .ensures .0 .size, c .before .before .before .before .before .before .before .before .before .before .numbers .ensures)
@@ -35,7 +35,7 @@ returns c =
     let a = (given (e .args .plan .m) (e .args .plan .n) (e .args .plan .s) (e .args .offsets .now) (e .args .columns .now) (e .args .values .now) (e .args .b .now) (e .args .c .now) (e .args .tolerances .now) (e .args .limit)) in
     let ran = c .before .before .before .before .before .before .before .before .before .before .before .run .ensures in
     let told = c .before .before .before .before .before .before .report .ensures in
-    λ old asked planned. finished a asked planned (ran .0) (run-four a asked (ran .1 standard standard-runs)) (told .0) (told .1) (rw (c .before .before .before .before .before .before .before .before .before .before .before .before .before .numbers .ensures) at (c .before .before .clear-front .ensures))
+    λ old asked planned. finished a asked planned (ran .0) (run-four a asked (ran .1 standard standard-runs .0)) (told .0) (told .1) (rw (c .before .before .before .before .before .before .before .before .before .before .before .before .before .numbers .ensures) at (c .before .before .clear-front .ensures))
 
 pub solve-planned-spec : {M : Type 1} → statement M
 solve-planned-spec = tie.close (tie.spec numbers-requires run-requires report-requires clear-front-requires (λ c. search needs) (λ c. search needs) returns)

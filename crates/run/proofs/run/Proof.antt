@@ -14,7 +14,7 @@ use Rattle.step.specs.Steps.{Untouched, Told}
 use Rattle.step.proofs.Steps.{untouched-room, untouched-on, untouched-wider}
 use Rattle.step.proofs.Statuses.{fresh-frame}
 use Rattle.run.specs.Tests.{Runs, ForLanes}
-use Rattle.run.proofs.Runs.{standard-runs, bears, ends-ran, goes, goes-on, told-step, stepped}
+use Rattle.run.proofs.Runs.{standard-runs, bears, ends-ran, ran-tests, goes, goes-on, told-step, stepped}
 use Rattle.run.proofs.run.Statement.{statement}
 use Rattle.run.proofs.run.Tie as tie
 
@@ -62,7 +62,7 @@ returns c =
     let s = c .before .before .before .before .before .before .before .before .before .before .before .before .before .before .before .before .before .before .before .before .before .before in
     let l = c .before .before .before .before .before .before .before .before .before .loop in (
       untouched-on (untouched-wider (fresh-frame (c .before .before .before .before .before .before .before .before .before .before .before .before .normal-eqn-init .ensures)) (omega arith)) (l .inv .1),
-      λ H R. ends-ran (callIn H (s .args .plan) (s .args .block) (s .args .width) (s .args .off .now) (s .args .cols .now) (s .args .vals .now) (s .args .b .now) (s .args .c .now) (s .args .tol .now)) (s .args .limit) (l .k) _ (c .before .before .before .before .before .test-at .result) (l .inv .0 H R) (c .before .before .before .before .before .test-at .ensures H R .says) _ (sym (c .before .before .before .turn-after .ensures) ∙ c .before .outcome .given .1),
+      λ H R. ran-tests (callIn H (s .args .plan) (s .args .block) (s .args .width) (s .args .off .now) (s .args .cols .now) (s .args .vals .now) (s .args .b .now) (s .args .c .now) (s .args .tol .now)) (s .args .limit) (s .pre .1) _ _ (ends-ran (callIn H (s .args .plan) (s .args .block) (s .args .width) (s .args .off .now) (s .args .cols .now) (s .args .vals .now) (s .args .b .now) (s .args .c .now) (s .args .tol .now)) (s .args .limit) (l .k) _ (c .before .before .before .before .before .test-at .result) (l .inv .0 H R) (c .before .before .before .before .before .test-at .ensures H R .says) _ (sym (c .before .before .before .turn-after .ensures) ∙ c .before .outcome .given .1)),
     )
 
 enum-told : tie.Need-enum-told Inv-loop μ-loop
