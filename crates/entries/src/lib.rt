@@ -23,7 +23,7 @@ fn narrow(list: &[f64], p: usize, width: usize) -> [f64; 4]
     [list[p], list[p + h], list[p + l], list[p + l]]
 }
 
-// Entry `entry` of the working memory: its lanes lie at width·entry .. width·entry + width − 1.
+// Entry `entry` of the working memory: its lanes lie at width·entry .. width·entry + width − 1. What the array has behind them is open.
 pub fn get(work: &[f64], entry: usize, width: usize) -> [f64; 4]
     requires { ⌜ Width width × (entry < room width (now work)) ⌝ }
     ensures { λ r. ⌜ On width r (cell width (now (work .entry)) entry) ⌝ }
@@ -34,7 +34,7 @@ pub fn get(work: &[f64], entry: usize, width: usize) -> [f64; 4]
     narrow(work, width * entry, width)
 }
 
-// The lanes from `first` on of an entry of a list of `total` lanes.
+// The lanes from `first` on of an entry of a list of `total` lanes. What the array has behind them is open.
 pub fn get_lanes(list: &[f64], total: usize, entry: usize, first: usize, width: usize) -> [f64; 4]
     requires { ⌜ Width width × (first + width ≤ total) × (entry < room total (now list)) ⌝ }
     ensures { λ r. ⌜ On width r (λ l. cell total (now (list .entry)) entry (first + l)) ⌝ }

@@ -183,7 +183,7 @@ fn lanes_done(statuses: [Status; 4]) -> [bool; 4]
     ]
 }
 
-// The step that the statuses ask for: a done lane works its step out too, and its step length is 0.
+// The step that the statuses ask for: a done lane works its step out too, and its step length is 0. What dx, dz, tmp, dy, rhs, dw and the factor hold after is open: the next step writes them before it reads them.
 pub fn step_lanes(
     off: &[u32],
     cols: &[u32],
