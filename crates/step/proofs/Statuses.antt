@@ -22,7 +22,7 @@ use Rattle.machine.specs.Work.{stepOf, stepBy}
 use Rattle.layout.specs.Layout.{yAt, wAt, lAt}
 use Rattle.memory.specs.Numbers.{numbersAt}
 use Rattle.step.specs.Steps.{Untouched, Fresh, Told, LanesStep}
-use Rattle.step.proofs.Steps.{Took, untouched, untouched-on}
+use Rattle.step.proofs.Steps.{Took}
 
 -- ---- the start
 pub starts : {width : ℕ} {v : Float} {r : List Float} → Width width → r ≡ lanes (λ t. v) → v ≡ startValue → On width r (λ t. startValue)
