@@ -1,9 +1,10 @@
 -- The answer to a record, as bytes. Definitions only.
 use mathlib.Core.Bool.{cond}
 use mathlib.Core.List.{List, []}
-use Prim.Native.Nat.{ℕ, _+_, _*_}
+use Prim.Native.Nat.{ℕ, _+_, _-_, _*_, _/_}
 use lib.ListN.{replicate}
 use lib.Ieee.{Float, binary64, ofBits}
+use Rattle.layout.specs.Layout.{workingSize}
 use Rattle.csr.specs.Verdict.{Verdict, passed, planned, accepted, refused}
 use Rattle.machine.specs.Demand3.{Buffers}
 use Rattle.ipm_simd.specs.Solve.{Given, given, lent, solveVerdict, solveBuffers}
@@ -37,12 +38,34 @@ zeros k = replicate k 0
 unfoldable pub blank : ℕ → List Float
 blank k = replicate k (ofBits binary64 0)
 
--- words and numbers enough within the limits: E is at most 136, S 1,088 and D 680. Were they too few, the answer would be that refusal
+-- the most offsets and columns, the most values, tolerances, b and c, and the most that the output holds
+abbrev pub mostShorts : ℕ
+mostShorts = mostRows + 1 + mostEntries
+
+abbrev pub mostFloats : ℕ
+mostFloats = mostEntries + 12 + 4 * mostRows + 4 * mostColumns
+
+abbrev pub mostOutput : ℕ
+mostOutput = 4 * mostColumns
+
+-- the most that E can be: one for each pair of rows j ≤ i
+abbrev pub mostStored : ℕ
+mostStored = mostRows * (mostRows + 1) / 2
+
+-- the most that S can be: an entry is shared with at most every row, each pair of rows is counted once, and that of a row with itself too
+abbrev pub mostShared : ℕ
+mostShared = mostEntries * (mostRows + 1) / 2
+
+-- the most that D can be: one for each three rows k < j ≤ i
+abbrev pub mostProducts : ℕ
+mostProducts = (mostRows - 1) * mostRows * (mostRows + 1) / 6
+
+-- the most that W and F can be; a slack row is one of the rows. specs/Theorems.antt says that they are enough
 abbrev pub indexWords : ℕ
-indexWords = 5 * 136 + 3 * 1088 + 2 * 680 + 3 * mostRows + mostColumns + 2 * mostEntries + 5
+indexWords = 5 * mostStored + 3 * mostShared + 2 * mostProducts + 3 * mostRows + mostColumns + 2 * mostEntries + 5
 
 abbrev pub workFloats : ℕ
-workFloats = 4 * (5 * mostColumns + 3 * mostRows + 2 * mostRows + 136)
+workFloats = workingSize 4 mostRows mostColumns mostRows mostStored
 
 -- what is lent for n columns
 abbrev pub lentFor : ℕ → Buffers
