@@ -127,6 +127,7 @@ common-more (x ∷ xs) y ys h = go (ℕ-discrete x y) (common-more xs y ys (h .1
     go (yes e) ih = omega (arith, ih, one-le (eqb x y || has ys x), ap one (or-left (eqb y x) (has xs y) (eq-eqb y x (sym e))), ap one (sym (ap (has xs) e) ∙ absent x xs (h .0)))
     go (no e) ih = rw (ne-eqb x y e, ne-eqb y x (λ q. e (sym q))) (omega (arith, ih))
 
+-- a rising list has each number of the second at most once
 pub common-second : (xs ys : List ℕ) → Rising xs → common xs ys ≤ length ys
 unfolding common
 common-second xs [] h = omega (arith, common-nil xs)

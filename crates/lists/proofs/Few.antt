@@ -49,7 +49,7 @@ products-few off cols m =
     (λ i b. sum-le (suc i) (λ j. sum j (λ k. one (isStored off cols i k && isStored off cols j k))) (λ j. j) (λ j d. count-le j (λ k. isStored off cols i k && isStored off cols j k)))
 
 module _ (off cols : List ℕ) (m : ℕ) (ok : Csr off cols m) where
-  -- two rows share at most half of the entries that both have
+  -- two rows share at most half of the entries that they have together
   pub shared-few : 2 * countS off cols m ≤ (m + 1) * length cols
   unfolding countS
   shared-few =

@@ -13,8 +13,8 @@ use Rattle.ipm_simd.specs.Solve.{Given, given, lent}
 use Rattle.record.specs.declared.RecordSizes.{RecordSizes}
 use Rattle.record.specs.Little.{le2, le8, shorts, floats}
 use Rattle.record.specs.Record.{mOf, nOf, tOf, columnsAt, valuesAt, tolerancesAt, bAt, cAt, sizesOf}
-use Rattle.reading.specs.Parts.{Whole, partsOf}
-use Rattle.reading.specs.Answer.{givenOf, solveText, lentFor, zeros, blank, mostShorts, mostFloats, mostOutput, indexWords, workFloats}
+use Rattle.reading.specs.Parts.{Whole, mostShorts, mostFloats, mostOutput, partsOf}
+use Rattle.reading.specs.Answer.{givenOf, solveText, lentFor, zeros, blank, indexWords, workFloats}
 
 -- ---- an array whose first k elements were lent and became `new`
 module _ {A : Type 0} (arr new : List A) (k : ℕ) (fits : k ≤ length arr) (kept : length new ≡ length (take k arr)) where

@@ -38,29 +38,19 @@ zeros k = replicate k 0
 unfoldable pub blank : ℕ → List Float
 blank k = replicate k (ofBits binary64 0)
 
--- the most offsets and columns, the most values, tolerances, b and c, and the most that the output holds
-abbrev pub mostShorts : ℕ
-mostShorts = mostRows + 1 + mostEntries
-
-abbrev pub mostFloats : ℕ
-mostFloats = mostEntries + 12 + 4 * mostRows + 4 * mostColumns
-
-abbrev pub mostOutput : ℕ
-mostOutput = 4 * mostColumns
-
--- the most that E can be: one for each pair of rows j ≤ i
+-- the most that E can be: an entry for each pair of rows j ≤ i
 abbrev pub mostStored : ℕ
 mostStored = mostRows * (mostRows + 1) / 2
 
--- the most that S can be: an entry is shared with at most every row, each pair of rows is counted once, and that of a row with itself too
+-- the most that S can be: two rows share at most half of the entries that they have together, and a row is in mostRows pairs, twice in that with itself
 abbrev pub mostShared : ℕ
 mostShared = mostEntries * (mostRows + 1) / 2
 
--- the most that D can be: one for each three rows k < j ≤ i
+-- the most that D can be: a product for each three rows k < j ≤ i
 abbrev pub mostProducts : ℕ
 mostProducts = (mostRows - 1) * mostRows * (mostRows + 1) / 6
 
--- the most that W and F can be; a slack row is one of the rows. specs/Theorems.antt says that they are enough
+-- the most that W and F can be, where every row may be a slack row. Memory-enough in specs/Theorems.antt says that no record needs more
 abbrev pub indexWords : ℕ
 indexWords = 5 * mostStored + 3 * mostShared + 2 * mostProducts + 3 * mostRows + mostColumns + 2 * mostEntries + 5
 

@@ -1,7 +1,8 @@
 // Memory for a record within the limits.
 ghost use mathlib.Core.Path.{_≡_};
 ghost use lib.ListN.{length};
-ghost use Rattle.reading.specs.Answer.{mostShorts, mostFloats, mostOutput, indexWords, workFloats, zeros, blank};
+ghost use Rattle.reading.specs.Answer.{zeros, blank, indexWords, workFloats};
+ghost use Rattle.reading.specs.Parts.{mostShorts, mostFloats, mostOutput};
 use record::LANES;
 use record::MOST_COLUMNS;
 use record::MOST_ENTRIES;
@@ -16,11 +17,13 @@ const MOST_FLOATS: usize = MOST_ENTRIES + TOLERANCES + LANES * MOST_ROWS + LANES
 
 const MOST_OUTPUT: usize = LANES * MOST_COLUMNS;
 
-// E, S and D at most: pairs of rows, half of what the pairs have, and triples of rows.
+// E at most: an entry for each pair of rows.
 const MOST_STORED: usize = MOST_ROWS * (MOST_ROWS + 1) / 2;
 
+// S at most: for each pair of rows half of what they have together.
 const MOST_SHARED: usize = MOST_ENTRIES * (MOST_ROWS + 1) / 2;
 
+// D at most: a product for each three rows.
 const MOST_PRODUCTS: usize = (MOST_ROWS - 1) * MOST_ROWS * (MOST_ROWS + 1) / 6;
 
 // W and F at most.
@@ -32,8 +35,7 @@ const INDEX_WORDS: usize = 5 * MOST_STORED
     + 2 * MOST_ENTRIES
     + 5;
 
-const WORK_FLOATS: usize =
-    LANES * (5 * MOST_COLUMNS + 3 * MOST_ROWS + 2 * MOST_ROWS + MOST_STORED);
+const WORK_FLOATS: usize = LANES * (5 * MOST_COLUMNS + 3 * MOST_ROWS + 2 * MOST_ROWS + MOST_STORED);
 
 pub fn shorts() -> [u32; MOST_SHORTS]
     ensures { λ r. ⌜ mostShorts ≡ length r ⌝ }
