@@ -4,7 +4,7 @@ use mathlib.Core.Bool.{Bool, true, false}
 use Prim.Native.Nat.{ℕ, zero, suc, _+_, _-_, _*_, _<_, _≤_}
 use native.Mathlib.Omega.{arith}
 use native.Mathlib.Decide.{ℕ-discrete}
-use native.Mathlib.Nat.{add-zero, add-suc, suc-mul}
+use native.Mathlib.Nat.{add-zero, add-suc, suc-mul, mul-add}
 use native.Mathlib.Numerals.{add-one}
 use lib.Dec.{eqb}
 use borrow.Author.Tests.{eq-eqb, ne-eqb}
@@ -71,6 +71,17 @@ pub sum-more : (a b : ℕ) (f : ℕ → ℕ) → a ≤ b → sum a f ≤ sum b f
 sum-more a b f h =
     let z : a + (b - a) ≡ b = omega arith in
     omega (arith, sum-add a (b - a) f, ap (λ (k : ℕ). sum k f) z)
+
+-- pairs of n rows, each with at most half of what its two rows have: a row is in n pairs, and twice in that with itself
+pub sum-pairs : (n : ℕ) (w : ℕ → ℕ → ℕ) (f : ℕ → ℕ) → ((i j : ℕ) → i < n → j ≤ i → 2 * w i j ≤ f i + f j) → 2 * sum n (λ i. sum (suc i) (λ j. w i j)) ≤ suc n * sum n f
+unfolding sum
+sum-pairs zero w f h = omega arith
+sum-pairs (suc n) w f h =
+    omega (arith, sum-pairs n w f (λ i j b d. h i j (omega arith) d), last (suc n) (omega arith), mul-add (suc n) (sum n f) (f n), suc-mul (suc n) (sum n f + f n))
+  where
+    last : (k : ℕ) → k ≤ suc n → 2 * sum k (λ j. w n j) ≤ k * f n + sum k f
+    last zero l = omega arith
+    last (suc k) l = omega (arith, last k (omega arith), h n k (omega arith) (omega arith), suc-mul k (f n))
 
 -- number i and all before it
 pub sum-room : (n i : ℕ) (f : ℕ → ℕ) → i < n → sum i f + f i ≤ sum n f

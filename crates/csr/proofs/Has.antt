@@ -112,6 +112,27 @@ unfolding common
 common-le [] ys = omega arith
 common-le (x ∷ xs) ys = omega (arith, common-le xs ys, one-le (has ys x))
 
+common-nil : (xs : List ℕ) → common xs [] ≡ 0
+unfolding common has
+common-nil [] = refl
+common-nil (x ∷ xs) = omega (arith, common-nil xs)
+
+-- a number more in the second list
+common-more : (xs : List ℕ) (y : ℕ) (ys : List ℕ) → Rising xs → common xs (y ∷ ys) ≤ one (has xs y) + common xs ys
+unfolding common has
+common-more [] y ys h = omega arith
+common-more (x ∷ xs) y ys h = go (ℕ-discrete x y) (common-more xs y ys (h .1))
+  where
+    go : Dec (x ≡ y) → common xs (y ∷ ys) ≤ one (has xs y) + common xs ys → one (eqb x y || has ys x) + common xs (y ∷ ys) ≤ one (eqb y x || has xs y) + (one (has ys x) + common xs ys)
+    go (yes e) ih = omega (arith, ih, one-le (eqb x y || has ys x), ap one (or-left (eqb y x) (has xs y) (eq-eqb y x (sym e))), ap one (sym (ap (has xs) e) ∙ absent x xs (h .0)))
+    go (no e) ih = rw (ne-eqb x y e, ne-eqb y x (λ q. e (sym q))) (omega (arith, ih))
+
+-- a rising list has each number of the second at most once
+pub common-second : (xs ys : List ℕ) → Rising xs → common xs ys ≤ length ys
+unfolding common
+common-second xs [] h = omega (arith, common-nil xs)
+common-second xs (y ∷ ys) h = omega (arith, common-more xs y ys h, common-second xs ys h, one-le (has xs y))
+
 -- ---- where a number stands first
 
 pub find-lt : (e : ℕ) (xs : List ℕ) → has xs e ≡ true → find e xs < length xs

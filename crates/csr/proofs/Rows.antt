@@ -1,10 +1,11 @@
 -- Laws of the rows of a matrix. Assumes nothing.
 use mathlib.Core.Path.{_≡_, sym, ap, ap₂, _∙_, subst}
 use mathlib.Core.List.{List}
-use Prim.Native.Nat.{ℕ, _+_, _-_, _<_, _≤_}
+use Prim.Native.Nat.{ℕ, zero, suc, _+_, _-_, _<_, _≤_}
 use native.Mathlib.Omega.{arith}
 use lib.ListN.{length, getD}
 use Rattle.base.specs.Numbers.{cut, Below}
+use Rattle.base.specs.Sums.{sum}
 use Rattle.base.proofs.Numbers.{part-le, cut-length, cut-at, below-at}
 use Rattle.csr.specs.Csr.{Csr, RowOf}
 use Rattle.csr.specs.Pattern.{row}
@@ -26,6 +27,14 @@ row-at off cols i q h = cut-at (getD off i 0) (getD off (i + 1) 0) cols q 0 h
 pub row-le : (off cols : List ℕ) (i : ℕ) → length (row off cols i) ≤ length cols
 unfolding row
 row-le off cols i = part-le (getD off (i + 1) 0 - getD off i 0) (getD off i 0) cols
+
+-- the first k rows together are no longer than where row k starts
+pub rows-le : (off cols : List ℕ) (m k : ℕ) → Csr off cols m → k ≤ m → sum k (λ i. length (row off cols i)) ≤ getD off k 0
+unfolding sum
+rows-le off cols m zero g l = omega arith
+rows-le off cols m (suc k) g l =
+    let z : suc k ≡ k + 1 = omega arith in
+    rw z (omega (arith, rows-le off cols m k g (omega arith), row-length off cols k (g .ends (k + 1) (omega arith)), g .order k (omega arith)))
 
 -- ---- row i, whatever the others are
 pub row-of : (off cols : List ℕ) (m i n : ℕ) → Csr off cols m → i < m → Below n (row off cols i) → RowOf off cols i n

@@ -16,7 +16,7 @@ use Rattle.reading.specs.Answer.{solveText, givenOf, lentFor, answerText
 use Rattle.base.proofs.Bools.{and-left, and-right}
 
 module _ (s : List ℕ) where
-  own-whole : wellFormed s ≡ true → Whole s (sizesOf s)
+  pub own-whole : wellFormed s ≡ true → Whole s (sizesOf s)
   unfolding wellFormed
   own-whole w =
       let rest = and-right (eqb (kindOf s) 1) _ (and-right (eqb (length s) (4 + lengthOf s)) _ w) in

@@ -13,7 +13,7 @@ use Rattle.ipm_simd.specs.Solve.{Given, given, lent}
 use Rattle.record.specs.declared.RecordSizes.{RecordSizes}
 use Rattle.record.specs.Little.{le2, le8, shorts, floats}
 use Rattle.record.specs.Record.{mOf, nOf, tOf, columnsAt, valuesAt, tolerancesAt, bAt, cAt, sizesOf}
-use Rattle.reading.specs.Parts.{Whole, partsOf}
+use Rattle.reading.specs.Parts.{Whole, mostShorts, mostFloats, mostOutput, partsOf}
 use Rattle.reading.specs.Answer.{givenOf, solveText, lentFor, zeros, blank, indexWords, workFloats}
 
 -- ---- an array whose first k elements were lent and became `new`
@@ -102,28 +102,28 @@ blank-take k n h = take-replicate k n (ofBits binary64 0) h
 
 -- ---- the arrays are long enough
 module _ {s : List ℕ} {z : RecordSizes} (W : Whole s z) where
-  pub shorts-fit : {l : ℕ} → 145 ≡ l → shortCount z ≤ l
+  pub shorts-fit : {l : ℕ} → mostShorts ≡ l → shortCount z ≤ l
   shorts-fit e = omega (arith, e, W .rows, W .entries)
 
-  pub floats-fit : {l : ℕ} → 332 ≡ l → floatCount z ≤ l
+  pub floats-fit : {l : ℕ} → mostFloats ≡ l → floatCount z ≤ l
   floats-fit e = omega (arith, e, W .rows, W .columns, W .entries)
 
-  pub output-long : {arr : List Float} → arr ≡ blank 128 → length (take (4 * z .n) arr) ≡ 4 * z .n
-  output-long {arr} e = length-take-le (4 * z .n) arr (omega (arith, ap length e, blank-long 128, W .columns))
+  pub output-long : {arr : List Float} → arr ≡ blank mostOutput → length (take (4 * z .n) arr) ≡ 4 * z .n
+  output-long {arr} e = length-take-le (4 * z .n) arr (omega (arith, ap length e, blank-long mostOutput, W .columns))
 
 -- ---- the text of what was read is the text of the record's solve
 module _ (s : List ℕ) (z : RecordSizes) (W : Whole s z) where
-  lent-is : (o w : List Float) (i : List ℕ) → o ≡ blank 128 → i ≡ zeros indexWords → w ≡ blank workFloats → lent (take (4 * z .n) o) i w ≡ lentFor (nOf s)
+  lent-is : (o w : List Float) (i : List ℕ) → o ≡ blank mostOutput → i ≡ zeros indexWords → w ≡ blank workFloats → lent (take (4 * z .n) o) i w ≡ lentFor (nOf s)
   lent-is o w i eo ei ew =
       let n-is : z .n ≡ nOf s = ap (λ (y : RecordSizes). y .n) (W .sizes) in
       let o-is : take (4 * z .n) o ≡ blank (4 * nOf s) =
-      ap (take (4 * z .n)) eo ∙ blank-take (4 * z .n) 128 (omega (arith, W .columns)) ∙ ap (λ (k : ℕ). blank (4 * k)) n-is in
+      ap (take (4 * z .n)) eo ∙ blank-take (4 * z .n) mostOutput (omega (arith, W .columns)) ∙ ap (λ (k : ℕ). blank (4 * k)) n-is in
       cc
 
   pub read-text : (o w : List Float) (i : List ℕ) (arr S : List ℕ) (brr F : List Float)
-      → o ≡ blank 128 → i ≡ zeros indexWords → w ≡ blank workFloats
-      → 145 ≡ length arr → S ≡ shorts s 16 (length (take (shortCount z) arr))
-      → 332 ≡ length brr → F ≡ floats s (floatsFrom z) (length (take (floatCount z) brr))
+      → o ≡ blank mostOutput → i ≡ zeros indexWords → w ≡ blank workFloats
+      → mostShorts ≡ length arr → S ≡ shorts s 16 (length (take (shortCount z) arr))
+      → mostFloats ≡ length brr → F ≡ floats s (floatsFrom z) (length (take (floatCount z) brr))
       → length S ≡ length (take (shortCount z) arr) → length F ≡ length (take (floatCount z) brr)
       → solveText (partsOf z (take (shortCount z) (S ++ drop (shortCount z) arr)) (take (floatCount z) (F ++ drop (floatCount z) brr))) (lent (take (4 * z .n) o) i w)
       ≡ solveText (givenOf s) (lentFor (nOf s))

@@ -1,9 +1,10 @@
 -- The answer to a record, as bytes. Definitions only.
 use mathlib.Core.Bool.{cond}
 use mathlib.Core.List.{List, []}
-use Prim.Native.Nat.{ℕ, _+_, _*_}
+use Prim.Native.Nat.{ℕ, _+_, _-_, _*_, _/_}
 use lib.ListN.{replicate}
 use lib.Ieee.{Float, binary64, ofBits}
+use Rattle.layout.specs.Layout.{workingSize}
 use Rattle.csr.specs.Verdict.{Verdict, passed, planned, accepted, refused}
 use Rattle.machine.specs.Demand3.{Buffers}
 use Rattle.ipm_simd.specs.Solve.{Given, given, lent, solveVerdict, solveBuffers}
@@ -37,12 +38,24 @@ zeros k = replicate k 0
 unfoldable pub blank : ℕ → List Float
 blank k = replicate k (ofBits binary64 0)
 
--- words and numbers enough within the limits: E is at most 136, S 1,088 and D 680. Were they too few, the answer would be that refusal
+-- the most that E can be: an entry for each pair of rows j ≤ i
+abbrev pub mostStored : ℕ
+mostStored = mostRows * (mostRows + 1) / 2
+
+-- the most that S can be: two rows share at most half of the entries that they have together, and a row is in mostRows pairs, twice in that with itself
+abbrev pub mostShared : ℕ
+mostShared = mostEntries * (mostRows + 1) / 2
+
+-- the most that D can be: a product for each three rows k < j ≤ i
+abbrev pub mostProducts : ℕ
+mostProducts = (mostRows - 1) * mostRows * (mostRows + 1) / 6
+
+-- the most that W and F can be, where every row may be a slack row. Memory-enough in specs/Theorems.antt says that no record needs more
 abbrev pub indexWords : ℕ
-indexWords = 5 * 136 + 3 * 1088 + 2 * 680 + 3 * mostRows + mostColumns + 2 * mostEntries + 5
+indexWords = 5 * mostStored + 3 * mostShared + 2 * mostProducts + 3 * mostRows + mostColumns + 2 * mostEntries + 5
 
 abbrev pub workFloats : ℕ
-workFloats = 4 * (5 * mostColumns + 3 * mostRows + 2 * mostRows + 136)
+workFloats = workingSize 4 mostRows mostColumns mostRows mostStored
 
 -- what is lent for n columns
 abbrev pub lentFor : ℕ → Buffers

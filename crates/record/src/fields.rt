@@ -9,11 +9,11 @@ use crate::RecordSizes;
 use crate::little;
 
 // What a record of the reading program may hold at most.
-const MOST_ROWS: usize = 16;
+pub const MOST_ROWS: usize = 16;
 
-const MOST_COLUMNS: usize = 32;
+pub const MOST_COLUMNS: usize = 32;
 
-const MOST_ENTRIES: usize = 128;
+pub const MOST_ENTRIES: usize = 128;
 
 pub const LANES: usize = 4;
 

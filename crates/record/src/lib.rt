@@ -3,6 +3,9 @@ mod fields;
 mod little;
 
 pub use fields::LANES;
+pub use fields::MOST_COLUMNS;
+pub use fields::MOST_ENTRIES;
+pub use fields::MOST_ROWS;
 pub use fields::OFFSETS_AT;
 pub use fields::SHORT_BYTES;
 pub use fields::TOLERANCES;

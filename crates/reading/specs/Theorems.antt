@@ -1,0 +1,14 @@
+-- What is proved of these definitions, as types. proofs/Theorems.antt proves each, under the same name in lower case. Definitions only.
+use mathlib.Core.Path.{_≡_}
+use mathlib.Core.Logic.{_≢_}
+use mathlib.Core.Bool.{true}
+use mathlib.Core.List.{List}
+use Prim.Native.Nat.{ℕ}
+use Rattle.csr.specs.Verdict.{refused}
+use Rattle.ipm_simd.specs.Solve.{solveVerdict}
+use Rattle.record.specs.Record.{nOf, wellFormed}
+use Rattle.reading.specs.Answer.{givenOf, lentFor}
+
+-- the program's own memory is enough: the answer to a well-formed record is never a no at 6, 8 or 9
+abbrev pub Memory-enough : Type 0
+Memory-enough = (s : List ℕ) → wellFormed s ≡ true → (q p l : ℕ) → solveVerdict (givenOf s) (lentFor (nOf s)) ≡ refused q p l → (q ≢ 6) × (q ≢ 8) × (q ≢ 9)
