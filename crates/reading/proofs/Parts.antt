@@ -92,6 +92,10 @@ take-replicate zero n x h = refl
 take-replicate (suc k) zero x h = absurd (omega arith)
 take-replicate (suc k) (suc n) x h = ap (λ l. x ∷ l) (take-replicate k n x (omega arith))
 
+pub zeros-long : (k : ℕ) → length (zeros k) ≡ k
+unfolding zeros
+zeros-long k = lib.ListN.length-replicate k 0
+
 pub blank-long : (k : ℕ) → length (blank k) ≡ k
 unfolding blank
 blank-long k = lib.ListN.length-replicate k (ofBits binary64 0)
@@ -102,11 +106,11 @@ blank-take k n h = take-replicate k n (ofBits binary64 0) h
 
 -- ---- the arrays are long enough
 module _ {s : List ℕ} {z : RecordSizes} (W : Whole s z) where
-  pub shorts-fit : {l : ℕ} → mostShorts ≡ l → shortCount z ≤ l
-  shorts-fit e = omega (arith, e, W .rows, W .entries)
+  pub shorts-fit : {arr : List ℕ} → arr ≡ zeros mostShorts → shortCount z ≤ length arr
+  shorts-fit e = omega (arith, ap length e, zeros-long mostShorts, W .rows, W .entries)
 
-  pub floats-fit : {l : ℕ} → mostFloats ≡ l → floatCount z ≤ l
-  floats-fit e = omega (arith, e, W .rows, W .columns, W .entries)
+  pub floats-fit : {arr : List Float} → arr ≡ blank mostFloats → floatCount z ≤ length arr
+  floats-fit e = omega (arith, ap length e, blank-long mostFloats, W .rows, W .columns, W .entries)
 
   pub output-long : {arr : List Float} → arr ≡ blank mostOutput → length (take (4 * z .n) arr) ≡ 4 * z .n
   output-long {arr} e = length-take-le (4 * z .n) arr (omega (arith, ap length e, blank-long mostOutput, W .columns))
@@ -122,8 +126,8 @@ module _ (s : List ℕ) (z : RecordSizes) (W : Whole s z) where
 
   pub read-text : (o w : List Float) (i : List ℕ) (arr S : List ℕ) (brr F : List Float)
       → o ≡ blank mostOutput → i ≡ zeros indexWords → w ≡ blank workFloats
-      → mostShorts ≡ length arr → S ≡ shorts s 16 (length (take (shortCount z) arr))
-      → mostFloats ≡ length brr → F ≡ floats s (floatsFrom z) (length (take (floatCount z) brr))
+      → arr ≡ zeros mostShorts → S ≡ shorts s 16 (length (take (shortCount z) arr))
+      → brr ≡ blank mostFloats → F ≡ floats s (floatsFrom z) (length (take (floatCount z) brr))
       → length S ≡ length (take (shortCount z) arr) → length F ≡ length (take (floatCount z) brr)
       → solveText (partsOf z (take (shortCount z) (S ++ drop (shortCount z) arr)) (take (floatCount z) (F ++ drop (floatCount z) brr))) (lent (take (4 * z .n) o) i w)
       ≡ solveText (givenOf s) (lentFor (nOf s))

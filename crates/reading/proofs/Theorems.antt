@@ -8,7 +8,7 @@ use native.Mathlib.Omega.{arith}
 use native.Mathlib.Nat.{mul-le-mul}
 use borrow.Author.Tests.{eq-eqb, le-leb, leb-true}
 use lib.Dec.{eqb, leb, ltb}
-use lib.ListN.{length, length-replicate}
+use lib.ListN.{length}
 use Rattle.base.specs.Sums.{sum}
 use Rattle.base.proofs.Sums.{sum-more}
 use Rattle.layout.specs.Layout.{workingSize}
@@ -18,7 +18,7 @@ use Rattle.csr.specs.Pattern.{row}
 use Rattle.csr.specs.Csr.{Csr, Accepted}
 use Rattle.csr.specs.Counts.{countE, countS, countD, sizeW}
 use Rattle.csr.specs.Verdict.{Verdict, passed, planned, accepted, refused, ask, andThen}
-use Rattle.csr.specs.Questions.{firstFrom, empty, badRow, offsetsRight, firstNo}
+use Rattle.csr.specs.Questions.{maxRows, maxColumns, firstFrom, empty, badRow, offsetsRight, firstNo}
 use Rattle.csr.proofs.Yes.{accepted-of}
 use Rattle.lists.proofs.Few.{pairs-16, triples-16, stored-few, products-few, shared-few}
 use Rattle.machine.specs.declared.Outcome.{Outcome}
@@ -29,10 +29,10 @@ use Rattle.ipm_simd.specs.Solve.{lengthsRight, outcomeVerdict, sizesVerdict, ca
 use Rattle.ipm_simd.proofs.Questions.{lengths-last}
 use Rattle.record.specs.Little.{shorts, floats}
 use Rattle.record.specs.Record.{mOf, nOf, sOf, tOf, limitOf, offsetsOf, columnsOf, valuesOf, tolerancesOf, bOf, cOf, mostRows, mostColumns, mostEntries, wellFormed, columnsAt}
-use Rattle.reading.specs.Answer.{zeros, mostStored, mostShared, mostProducts, indexWords, workFloats, givenOf, lentFor}
+use Rattle.reading.specs.Answer.{mostStored, mostShared, mostProducts, indexWords, workFloats, givenOf, lentFor}
 use Rattle.reading.specs.Theorems as theorems
 use Rattle.reading.proofs.Headers.{own-whole}
-use Rattle.reading.proofs.Parts.{blank-long}
+use Rattle.reading.proofs.Parts.{zeros-long, blank-long}
 
 -- ---- answers that are no refusal at 6, 8 or 9
 fine : Verdict → Bool
@@ -66,8 +66,8 @@ unfolding fine firstNo
 early-fine m n off cols values =
     let e = firstFrom (empty off) 0 m in
     let b = firstFrom (λ (i : ℕ). badRow n (row off cols i)) 0 m in
-    either (leb 1 m && leb m 256) _ 1 0 0 refl
-    (λ _. either (leb 1 n && leb n 1024) _ 2 0 0 refl
+    either (leb 1 m && leb m maxRows) _ 1 0 0 refl
+    (λ _. either (leb 1 n && leb n maxColumns) _ 2 0 0 refl
     (λ _. either (offsetsRight m off (length cols) values) _ 3 0 0 refl
     (λ _. either (not (ltb e m)) _ 4 e 0 refl
     (λ _. either (not (ltb b m)) passed 5 b 0 refl
@@ -100,10 +100,6 @@ shorts-long s at k = grow-length _ k
 floats-long : (s : List ℕ) (at k : ℕ) → length (floats s at k) ≡ k
 unfolding floats vec
 floats-long s at k = grow-length _ k
-
-zeros-long : (k : ℕ) → length (zeros k) ≡ k
-unfolding zeros
-zeros-long k = length-replicate k 0
 
 -- ---- W and F within the limits
 module _ (off cols : List ℕ) (m n : ℕ) (ok : Csr off cols m) (rows : m ≤ mostRows) (columns : n ≤ mostColumns) where

@@ -1,6 +1,5 @@
 // Memory for a record within the limits.
 ghost use mathlib.Core.Path.{_≡_};
-ghost use lib.ListN.{length};
 ghost use Rattle.reading.specs.Answer.{zeros, blank, indexWords, workFloats};
 ghost use Rattle.reading.specs.Parts.{mostShorts, mostFloats, mostOutput};
 use record::LANES;
@@ -38,13 +37,13 @@ const INDEX_WORDS: usize = 5 * MOST_STORED
 const WORK_FLOATS: usize = LANES * (5 * MOST_COLUMNS + 3 * MOST_ROWS + 2 * MOST_ROWS + MOST_STORED);
 
 pub fn shorts() -> [u32; MOST_SHORTS]
-    ensures { λ r. ⌜ mostShorts ≡ length r ⌝ }
+    ensures { λ r. ⌜ r ≡ zeros mostShorts ⌝ }
 {
     [0; MOST_SHORTS]
 }
 
 pub fn floats() -> [f64; MOST_FLOATS]
-    ensures { λ r. ⌜ mostFloats ≡ length r ⌝ }
+    ensures { λ r. ⌜ r ≡ blank mostFloats ⌝ }
 {
     [0.0; MOST_FLOATS]
 }
