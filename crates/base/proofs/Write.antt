@@ -45,8 +45,8 @@ cleared-next l i h =
     ∙ sym (append-snoc (replicate i 0) 0 (drop (suc i) l))
     ∙ ap₂ (λ (x : List ℕ) (k : ℕ). x ++ drop k l) (replicate-append-replicate i 1 0) (sym (add-one i))
 
-pub cleared-at : (l x : List ℕ) (n c : ℕ) → x ≡ replicate n 0 ++ drop n l → c < n → getD x c 0 ≡ 0
-cleared-at l x n c e h =
+pub cleared-at : (l x : List ℕ) (n : ℕ) → x ≡ replicate n 0 ++ drop n l → (c : ℕ) → c < n → getD x c 0 ≡ 0
+cleared-at l x n e c h =
     ap (λ (y : List ℕ). getD y c 0) e
     ∙ List·getD-append (replicate n 0) (drop n l) 0 c (omega (arith, length-replicate {A = ℕ} n 0))
     ∙ getD-replicate n c 0 0 h
