@@ -219,9 +219,9 @@ fn row_first(which: Which, lindptr: &[u32], i: usize) -> usize
 }
 
 // Where a list goes on, and what it has counted.
-pub struct Spot {
-    pub at: usize,
-    pub n: u32,
+struct Spot {
+    at: usize,
+    n: u32,
 }
 
 // What row i adds to a list: one stored pair after the other.
@@ -313,6 +313,7 @@ fn fill(
 const LISTS: usize = 10;
 
 // The ten lists of pairs, one after the other.
+// What the marks are after is open: each list clears them first.
 pub fn put_ten(
     off: &[u32],
     cols: &[u32],

@@ -178,6 +178,7 @@ fn scatter(
 }
 
 // The three lists of the transpose: ends, rows and places. Two memories hold a word for each column.
+// What the two memories hold after is open: whoever uses them next writes them first.
 pub fn transpose(
     side: Side,
     off: &[u32],
