@@ -1,8 +1,8 @@
 // Words and bytes of a lent list: read, stored, and written one after the other.
 ghost use mathlib.Core.Path.{_≡_};
-ghost use mathlib.Core.List.{[], _∷_};
-ghost use Prim.Native.Nat.{ℕ, _+_, _<_, _≤_};
-ghost use lib.ListN.{length, getD, set};
+ghost use mathlib.Core.List.{[], _∷_, _++_};
+ghost use Prim.Native.Nat.{_+_, _<_, _≤_};
+ghost use lib.ListN.{length, getD, set, drop, replicate};
 ghost use Rattle.base.specs.Cat.{pick, Wrote};
 ghost use Rattle.base.specs.Numbers.{span, Part};
 
@@ -49,10 +49,10 @@ pub fn keep(index: &mut [u32], at: usize, yes: bool, x: u32) -> usize
     if yes { word(index, at, x) } else { at }
 }
 
-// The first n words set to 0.
+// The first n words set to 0, and no other changed.
 pub fn clear(s: &mut [u32], n: usize)
     requires { ⌜ n ≤ length (now s) ⌝ }
-    ensures { λ _. ⌜ ((c : ℕ) → c < n → getD (now (s .exit)) c 0 ≡ 0) ⌝ }
+    ensures { λ _. ⌜ now (s .exit) ≡ replicate n 0 ++ drop n (now (s .entry)) ⌝ }
 {
     let mut i: usize = 0;
     while i < n {

@@ -16,7 +16,7 @@ use layout::Plan;
 use lists::Side;
 
 // The sixteen lists. A memory over the columns is marked, two more are counted in.
-pub fn put_plan(
+fn put_plan(
     off: &[u32],
     cols: &[u32],
     m: usize,
@@ -67,7 +67,7 @@ pub struct Counts {
 }
 
 // E is a count of ones, S and D + E count what pairs of rows share, of the matrix and of the factor.
-pub fn count_all(
+fn count_all(
     m: usize,
     n: usize,
     offsets: &[u32],

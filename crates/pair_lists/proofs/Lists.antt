@@ -1,7 +1,7 @@
 -- Laws of the rows as lists. Assumes nothing.
 use mathlib.Core.Path.{_≡_, refl, sym, ap, ap₂, _∙_, subst}
 use mathlib.Core.Bool.{Bool, true, false, _||_}
-use mathlib.Core.List.{List, _++_, append-assoc, append-nil}
+use mathlib.Core.List.{List, [], _∷_, _++_, append-assoc, append-nil}
 use Prim.Native.Nat.{ℕ, zero, suc, _+_, _-_, _<_, _≤_}
 use native.Mathlib.Omega.{arith}
 use native.Mathlib.Decide.{ℕ-discrete}
@@ -14,7 +14,7 @@ use Rattle.base.proofs.Sums.{sum-ext, sum-more, sum-room}
 use Rattle.base.specs.Cat.{cat, pick, Wrote}
 use Rattle.base.proofs.Write.{length-cat, cat-next, length-pick, wrote-join, wrote-as, cat-split}
 use Rattle.transpose.specs.Bins.{Grid}
-use Rattle.pair_lists.specs.Kept.{kept, keptRows, Rows}
+use Rattle.pair_lists.specs.Kept.{kept, keptRows, rowEnds, Rows}
 use Rattle.base.proofs.Bools.{or-nil}
 use Rattle.base.proofs.Numbers.{below-more, below-join, below-pick, rising-snoc, cut-part}
 use Rattle.csr.proofs.Has.{has-append, has-self, has-other, find-in, find-out, find-one}
@@ -108,27 +108,39 @@ module _ (h : ℕ → ℕ → Bool) where
   all-short zero = omega arith
   all-short (suc i) = omega (arith, all-short i, length-append (keptRows h i) (kept (h i) (i + 1)), kept-short (h i) (i + 1))
 
+  ends-next : (i : ℕ) → rowEnds h (i + 1) ≡ rowEnds h i ++ (length (keptRows h (i + 1)) ∷ [])
+  unfolding rowEnds
+  ends-next i = cat-next i (λ a. length (keptRows h (a + 1)) ∷ [])
+
   -- the rows before i are written, and their offsets stored
-  pub record Listing (li₀ lindices lindptr : List ℕ) (at i : ℕ) : Type 0 where
+  pub record Listing (lp₀ li₀ lindices lindptr : List ℕ) (at i : ℕ) : Type 0 where
     pub wrote : Wrote li₀ lindices 0 (keptRows h i) at
+    pub ends : Wrote lp₀ lindptr 1 (rowEnds h i) (i + 1)
     pub starts : (k : ℕ) → k ≤ i → getD lindptr k 0 ≡ length (keptRows h k)
 
-  pub listing-start : (lindices lindptr lp′ : List ℕ) → 0 < length lindptr → lp′ ≡ set lindptr 0 0 → Listing lindices lindices lp′ 0 0
-  unfolding keptRows cat
+  pub listing-start : (lindices lindptr lp′ : List ℕ) → 0 < length lindptr → lp′ ≡ set lindptr 0 0 → Listing lp′ lindices lindices lp′ 0 0
+  unfolding keptRows rowEnds cat
   listing-start lindices lindptr lp′ l e = record {
     wrote = record { is = refl; next = refl };
+    ends = record { is = refl; next = refl };
     starts = λ k b. let z : k ≡ 0 = omega arith in ap₂ (λ (x : List ℕ) (y : ℕ). getD x y 0) e z ∙ getD-set-same lindptr 0 0 0 l ∙ ap (λ (y : ℕ). length (keptRows h y)) (sym z);
   }
 
-  module _ (li₀ lindices lindptr : List ℕ) (at i : ℕ) (v : Listing li₀ lindices lindptr at i) where
+  module _ (lp₀ li₀ lindices lindptr : List ℕ) (at i : ℕ) (v : Listing lp₀ li₀ lindices lindptr at i) where
     pub listing-room : (l m : ℕ) → i < m → sum m suc ≤ l → at + i + 1 ≤ l
     listing-room l m b r = omega (arith, v .wrote .next, all-short i, sum-room m i suc b)
 
     pub listing-small : i ≤ 256 → at ≤ 32896
     listing-small b = omega (arith, v .wrote .next, all-short i, sum-more i 256 suc b, pairs-256)
 
-    pub listing-next : (li′ lp′ : List ℕ) (r x : ℕ) → i + 1 < length lindptr → Wrote lindices li′ at (kept (h i) (i + 1)) r → x ≡ r → lp′ ≡ set lindptr (i + 1) x → Listing li₀ li′ lp′ r (i + 1)
-    listing-next li′ lp′ r x l w q e = record { wrote = u; starts = λ k b. ap (λ (y : List ℕ). getD y k 0) e ∙ go k b (ℕ-discrete k (i + 1)) }
+    pub listing-next : (li′ lp′ : List ℕ) (r x : ℕ) → i + 1 < length lindptr → Wrote lindices li′ at (kept (h i) (i + 1)) r → x ≡ r → lp′ ≡ set lindptr (i + 1) x → Listing lp₀ li₀ li′ lp′ r (i + 1)
+    listing-next li′ lp′ r x l w q e = record {
+      wrote = u;
+      ends =
+          wrote-as lp₀ lp′ 1 (i + 1 + 1) _ _ (ap (λ (y : ℕ). rowEnds h i ++ (y ∷ [])) (q ∙ u .next ∙ omega arith) ∙ sym (ends-next i))
+          (wrote-join lp₀ lindptr lp′ 1 (i + 1) (i + 1 + 1) _ _ (v .ends) (record { is = e; next = refl }));
+      starts = λ k b. ap (λ (y : List ℕ). getD y k 0) e ∙ go k b (ℕ-discrete k (i + 1));
+    }
       where
         u : Wrote li₀ li′ 0 (keptRows h (i + 1)) r
         u = wrote-as li₀ li′ 0 r _ _ (sym (all-next i)) (wrote-join li₀ lindices li′ 0 at r _ _ (v .wrote) w)
@@ -161,6 +173,9 @@ module _ (h : ℕ → ℕ → Bool) where
             ∙ ap (cut (length (keptRows h k)) (length (keptRows h (k + 1))))
             (whole ∙ ap (λ (x : List ℕ). x ++ tail) (cat-split m k (λ a. kept (h a) (a + 1)) q) ∙ append-assoc (keptRows h k) (kept (h k) (k + 1) ++ after) tail ∙ ap (λ (x : List ℕ). keptRows h k ++ x) (append-assoc (kept (h k) (k + 1)) after tail))
             ∙ cut-part (keptRows h k) (kept (h k) (k + 1)) (after ++ tail) (length (keptRows h k)) (length (keptRows h (k + 1))) refl (ap length (all-next k) ∙ length-append (keptRows h k) (kept (h k) (k + 1)))
+
+    pub listing-whole : (m : ℕ) (lp : List ℕ) → i ≡ m → lp₀ ≡ set lp 0 0 → (lindptr ≡ sets lp 0 (0 ∷ rowEnds h m)) × (lindices ≡ sets li₀ 0 (keptRows h m))
+    listing-whole m lp e f = (v .ends .is ∙ ap₂ (λ (x : List ℕ) (k : ℕ). sets x 1 (rowEnds h k)) f e, v .wrote .is ∙ ap (λ (k : ℕ). sets li₀ 0 (keptRows h k)) e)
 
 -- ---- the lists are a grid
 module _ (h : ℕ → ℕ → Bool) (lindptr lindices : List ℕ) (m : ℕ) (v : Rows h lindptr lindices m) where

@@ -21,6 +21,11 @@ unfoldable pub keptRows : (ℕ → ℕ → Bool) → ℕ → List ℕ
 unfolding kept
 keptRows h i = cat i (λ a. kept (h a) (a + 1))
 
+-- where the rows before i end
+unfoldable pub rowEnds : (ℕ → ℕ → Bool) → ℕ → List ℕ
+unfolding cat keptRows
+rowEnds h i = cat i (λ a. length (keptRows h (a + 1)) ∷ [])
+
 -- lindptr and lindices are the row offsets and the columns of m rows of the grid
 pub record Rows (h : ℕ → ℕ → Bool) (lindptr lindices : List ℕ) (m : ℕ) : Type 0 where
   pub offsets : m < length lindptr

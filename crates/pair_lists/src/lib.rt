@@ -2,13 +2,15 @@
 ghost use mathlib.Core.Path.{_≡_};
 ghost use mathlib.Core.Bool.{true, false};
 ghost use Prim.Native.Nat.{suc, _+_, _-_, _<_, _≤_};
+ghost use mathlib.Core.List.{_∷_};
 ghost use lib.ListN.{length, getD};
+ghost use lib.Seq.{sets};
 ghost use Rattle.pattern.specs.Word.{bit, patternWords};
 ghost use Rattle.base.specs.Sums.{sum};
 ghost use Rattle.base.specs.Cat.{Wrote, cat};
 ghost use Rattle.base.specs.Numbers.{Below};
 ghost use Rattle.lists.specs.Lists.{shape, walkOf, piece, weight, listOf, tenOf};
-ghost use Rattle.pair_lists.specs.Kept.{kept, Rows, placesOf, marksRead, diagonalOnly};
+ghost use Rattle.pair_lists.specs.Kept.{kept, keptRows, rowEnds, Rows, placesOf, marksRead, diagonalOnly};
 ghost use Rattle.pair_lists.specs.Listing.{Listing, Unmarked, RowReady, RowListing, InRow, Counting, AtPair};
 ghost use Rattle.shared_columns.specs.Marked.{MarkedOver};
 ghost use Rattle.csr.specs.Csr.{RowOf, maxPlaces};
@@ -27,7 +29,7 @@ use shared_columns::mark_row;
 use shared_columns::put_shared;
 
 // Row i of the pattern as a list of bytes.
-pub fn list_row(p: &[u64], i: usize, lindices: &mut [u8], start: usize) -> usize
+fn list_row(p: &[u64], i: usize, lindices: &mut [u8], start: usize) -> usize
     requires { ⌜ (length (now p) ≡ patternWords) × (i < maxRows) × (start + i + 1 ≤ length (now lindices)) ⌝ }
     ensures { λ r. ⌜ Wrote (now (lindices .entry)) (now (lindices .exit)) start (kept (bit (now (p .entry)) i) (i + 1)) r ⌝ }
 {
@@ -43,7 +45,9 @@ pub fn list_row(p: &[u64], i: usize, lindices: &mut [u8], start: usize) -> usize
 // The rows of the pattern as lists: their offsets and their columns.
 pub fn list_rows(p: &[u64], m: usize, lindptr: &mut [u32], lindices: &mut [u8])
     requires { ⌜ (length (now p) ≡ patternWords) × (m ≤ maxRows) × (m < length (now lindptr)) × (sum m suc ≤ length (now lindices)) × (length (now lindices) ≤ maxPlaces) ⌝ }
-    ensures { λ _. ⌜ Rows (bit (now (p .entry))) (now (lindptr .exit)) (now (lindices .exit)) m ⌝ }
+    ensures rows { λ _. ⌜ Rows (bit (now (p .entry))) (now (lindptr .exit)) (now (lindices .exit)) m ⌝ }
+    ensures offsets { λ _. ⌜ now (lindptr .exit) ≡ sets (now (lindptr .entry)) 0 (0 ∷ rowEnds (bit (now (p .entry))) m) ⌝ }
+    ensures columns { λ _. ⌜ now (lindices .exit) ≡ sets (now (lindices .entry)) 0 (keptRows (bit (now (p .entry))) m) ⌝ }
 {
     store(lindptr, 0, 0);
     let mut at: usize = 0;
@@ -56,7 +60,7 @@ pub fn list_rows(p: &[u64], m: usize, lindptr: &mut [u32], lindices: &mut [u8])
 }
 
 // The places, from base on, of the numbers of a list that row q of the pattern holds.
-pub fn places(p: &[u64], q: usize, l: &[u8], base: u32, index: &mut [u32], start: usize) -> usize
+fn places(p: &[u64], q: usize, l: &[u8], base: u32, index: &mut [u32], start: usize) -> usize
     requires { ⌜ (length (now p) ≡ patternWords) × (q < maxRows) × Below maxRows (now l) × (base + length (now l) ≤ maxPlaces) × (start + length (placesOf (bit (now p) q) base (now l)) ≤ length (now index)) ⌝ }
     ensures { λ r. ⌜ Wrote (now (index .entry)) (now (index .exit)) start (placesOf (bit (now (p .entry)) q) base (now (l .entry))) r ⌝ }
 {
@@ -71,7 +75,7 @@ pub fn places(p: &[u64], q: usize, l: &[u8], base: u32, index: &mut [u32], start
 }
 
 // What stands in row r before its entry at t, and in row q too, by its place.
-pub fn products(
+fn products(
     p: &[u64],
     lindptr: &[u32],
     lindices: &[u8],
@@ -107,7 +111,7 @@ fn reads_marks(which: Which) -> bool
 }
 
 // Row i marked for a list that reads the marks.
-pub fn mark_for(which: Which, off: &[u32], cols: &[u32], i: usize, mark: &mut [u32])
+fn mark_for(which: Which, off: &[u32], cols: &[u32], i: usize, mark: &mut [u32])
     requires { ⌜ RowOf (now off) (now cols) i (length (now mark)) ⌝ }
     ensures read { λ _. ⌜ (marksRead which ≡ true → MarkedOver (now (mark .entry)) (now (mark .exit)) (getD (now (off .entry)) i 0) (row (now (off .entry)) (now (cols .entry)) i)) ⌝ }
     ensures unread { λ _. ⌜ (marksRead which ≡ false → now (mark .exit) ≡ now (mark .entry)) ⌝ }
@@ -118,7 +122,7 @@ pub fn mark_for(which: Which, off: &[u32], cols: &[u32], i: usize, mark: &mut [u
 }
 
 // What a list of ends counts at (i, j). Row i is marked.
-pub fn weigh(
+fn weigh(
     which: Which,
     off: &[u32],
     cols: &[u32],
@@ -148,7 +152,7 @@ pub fn weigh(
 }
 
 // What the stored pair (i, j) adds to a list. t is its place among the stored, n what the list has counted.
-pub fn put_piece(
+fn put_piece(
     which: Which,
     off: &[u32],
     cols: &[u32],
@@ -215,13 +219,13 @@ fn row_first(which: Which, lindptr: &[u32], i: usize) -> usize
 }
 
 // Where a list goes on, and what it has counted.
-pub struct Spot {
-    pub at: usize,
-    pub n: u32,
+struct Spot {
+    at: usize,
+    n: u32,
 }
 
 // What row i adds to a list: one stored pair after the other.
-pub fn fill_row(
+fn fill_row(
     which: Which,
     off: &[u32],
     cols: &[u32],
@@ -265,7 +269,7 @@ pub fn fill_row(
 }
 
 // One of the ten lists that are written pair by pair.
-pub fn fill(
+fn fill(
     which: Which,
     off: &[u32],
     cols: &[u32],
@@ -309,6 +313,7 @@ pub fn fill(
 const LISTS: usize = 10;
 
 // The ten lists of pairs, one after the other.
+// What the marks are after is open: each list clears them first.
 pub fn put_ten(
     off: &[u32],
     cols: &[u32],

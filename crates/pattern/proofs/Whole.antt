@@ -4,14 +4,18 @@ use mathlib.Core.Bool.{Bool, false, _&&_}
 use mathlib.Core.List.{List}
 use Prim.Native.Nat.{ℕ, zero, suc, _+_, _-_, _*_, _/_, _%_, _<_, _≤_}
 use native.Mathlib.Omega.{arith}
-use native.Mathlib.Decide.{ℕ-discrete}
-use lib.ListN.{getD, replicate}
-use borrow.Author.Tests.{le-leb, lt-leb}
+use native.Mathlib.Decide.{ℕ-discrete, decLt}
+use lib.Dec.{leb, ltb}
+use lib.ListN.{length, getD, replicate}
+use borrow.Author.Tests.{le-leb, lt-leb, lt-ltb, le-ltb}
 use Rattle.csr.specs.Pattern.{stored, neighbours}
+use Rattle.csr.specs.Csr.{Csr}
+use Rattle.csr.specs.Questions.{maxEntries}
 use Rattle.csr.proofs.Rule.{stored-diag}
 use Rattle.base.specs.Sums.{sum, one}
 use Rattle.csr.specs.Counts.{isStored, countE, countD}
-use Rattle.pattern.specs.Word.{bit, digit, Done, OtherRows, rowOnes, Clear}
+use Rattle.pattern.specs.Word.{bit, digit, Done, Whole, OtherRows, rowOnes, Clear}
+use Rattle.pattern.specs.Ready.{Ready}
 use Rattle.base.proofs.Sums.{sum-ext, sum-plus, sum-cut}
 use Rattle.pattern.proofs.Digits.{digit-zero}
 use Rattle.base.proofs.Bools.{and-false, and-true}
@@ -28,6 +32,23 @@ module _ (nb : ℕ → ℕ → Bool) (p q r : List ℕ) (i : ℕ) (hi : i < 256)
 
   pub clear-less : ((a : ℕ) → i ≤ a → a < 256 → Clear p a) → (a : ℕ) → i + 1 ≤ a → a < 256 → Clear r a
   clear-less f a l h b g = o′ a b h g (λ e. omega arith) ∙ o a b h g (λ e. omega arith) ∙ f a (omega arith) h b g
+
+-- ---- all rows
+
+pub rows-all : (nb : ℕ → ℕ → Bool) (p : List ℕ) (m : ℕ) → ((i : ℕ) → i < m → Done nb p i) → ((i : ℕ) → m ≤ i → i < 256 → Clear p i) → Whole nb p m
+rows-all nb p m d z i b h l = go (decLt i m)
+  where
+    go : Dec (i < m) → bit p i b ≡ ltb i m && (leb b i && stored nb i b)
+    go (yes u) = d i u b l ∙ ap (λ (t : Bool). t && (leb b i && stored nb i b)) (sym (lt-ltb i m u))
+    go (no u) = z i (omega arith) h b l ∙ ap (λ (t : Bool). t && (leb b i && stored nb i b)) (sym (le-ltb i m (omega arith)))
+
+pub rows-ready : (off cols p : List ℕ) (m : ℕ) → Csr off cols m → length cols ≤ maxEntries → length p ≡ 1024 → Whole (neighbours off cols) p m → Ready off cols m p
+rows-ready off cols p m g few long w = record {
+  csr = g;
+  short = few;
+  words = long;
+  rows = λ i h b l. w i b (omega (arith, g .few)) l ∙ ap (λ (t : Bool). t && (leb b i && stored (neighbours off cols) i b)) (lt-ltb i m h);
+}
 
 module _ (nb : ℕ → ℕ → Bool) (p : List ℕ) where
   in-row : (i k : ℕ) → Done nb p i → k ≤ i → i < 256 → bit p i k ≡ stored nb i k

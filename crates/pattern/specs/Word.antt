@@ -31,6 +31,10 @@ Put q p i j = (a b : ℕ) → a < maxRows → b < maxRows → bit p a b ≡ (eqb
 abbrev pub Done : (ℕ → ℕ → Bool) → List ℕ → ℕ → Type 0
 Done nb p i = (b : ℕ) → b < maxRows → bit p i b ≡ leb b i && stored nb i b
 
+-- the first m rows of p hold just what `stored` says, and the others nothing
+abbrev pub Whole : (ℕ → ℕ → Bool) → List ℕ → ℕ → Type 0
+Whole nb p m = (i b : ℕ) → i < maxRows → b < maxRows → bit p i b ≡ ltb i m && (leb b i && stored nb i b)
+
 -- row i of p holds the diagonal and the neighbours below it
 abbrev pub Seeded : (ℕ → ℕ → Bool) → List ℕ → ℕ → Type 0
 Seeded nb p i = (b : ℕ) → b < maxRows → bit p i b ≡ eqb i b || (ltb b i && nb i b)

@@ -4,7 +4,7 @@ ghost use mathlib.Core.Bool.{Bool, true, false, _&&_};
 ghost use Prim.Native.Nat.{ℕ, _+_, _<_, _≤_};
 ghost use lib.Count.{ones};
 ghost use lib.ListN.{length, getD};
-ghost use Rattle.pattern.specs.Word.{bit, Put, Done, Seeded, OtherRows, rowOnes, CommonWord, Clear, Linked, patternWords};
+ghost use Rattle.pattern.specs.Word.{bit, Put, Done, Whole, Seeded, OtherRows, rowOnes, CommonWord, Clear, Linked, patternWords};
 ghost use Rattle.base.specs.Sums.{sum, one};
 ghost use Rattle.csr.specs.Pattern.{neighbours};
 ghost use Rattle.csr.specs.Csr.{Csr, RowOf};
@@ -31,7 +31,7 @@ pub fn test(p: &[u64], i: usize, j: usize) -> bool
 }
 
 // Set bit j of row i.
-pub fn put(p: &mut [u64], i: usize, j: usize)
+fn put(p: &mut [u64], i: usize, j: usize)
     requires { ⌜ (length (now p) ≡ patternWords) × (i < maxRows) × (j < maxRows) ⌝ }
     ensures { λ _. ⌜ Put (now (p .entry)) (now (p .exit)) i j ⌝ }
 {
@@ -48,7 +48,7 @@ fn common_word(p: &[u64], i: usize, j: usize, w: usize) -> u64
 }
 
 // Have rows i and j a bit in common?
-pub fn meets(p: &[u64], i: usize, j: usize) -> bool
+fn meets(p: &[u64], i: usize, j: usize) -> bool
     requires { ⌜ (length (now p) ≡ patternWords) × (i < maxRows) × (j < maxRows) ⌝ }
     ensures yes { λ r. ⌜ (r ≡ true → (k : ℕ) × (k < maxRows) × (bit (now (p .entry)) i k ≡ true) × (bit (now (p .entry)) j k ≡ true)) ⌝ }
     ensures no { λ r. ⌜ (r ≡ false → (k : ℕ) → k < maxRows → bit (now (p .entry)) i k && bit (now (p .entry)) j k ≡ false) ⌝ }
@@ -61,7 +61,7 @@ pub fn meets(p: &[u64], i: usize, j: usize) -> bool
 }
 
 // Fill row i: the rows below it are done, and it holds its diagonal and its neighbours.
-pub fn fill_row(p: &mut [u64], i: usize)
+fn fill_row(p: &mut [u64], i: usize)
     requires { ⌜ (length (now p) ≡ patternWords) × (i < maxRows) ⌝ }
     ensures other { λ _. ⌜ OtherRows (now (p .entry)) (now (p .exit)) i ⌝ }
     ensures row { λ _. ⌜ ((nb : ℕ → ℕ → Bool) → ((a : ℕ) → a < i → Done nb (now (p .entry)) a) → Seeded nb (now (p .entry)) i → Done nb (now (p .exit)) i) ⌝ }
@@ -96,7 +96,7 @@ pub fn both_ones(p: &[u64], i: usize, j: usize) -> u32
 }
 
 // How many bits are set in row i.
-pub fn row_ones(p: &[u64], i: usize) -> u32
+fn row_ones(p: &[u64], i: usize) -> u32
     requires { ⌜ (length (now p) ≡ patternWords) × (i < maxRows) ⌝ }
     ensures { λ r. ⌜ (r ≡ rowOnes (now (p .entry)) i) × (r ≤ maxRows) ⌝ }
 {
@@ -132,7 +132,7 @@ fn link(p: &mut [u64], first: &mut [u32], e: usize, i: usize)
 }
 
 // Put the links and the diagonal of row i into a clear row. `first` holds one more than the first row of each column.
-pub fn seed_row(off: &[u32], cols: &[u32], p: &mut [u64], first: &mut [u32], i: usize)
+fn seed_row(off: &[u32], cols: &[u32], p: &mut [u64], first: &mut [u32], i: usize)
     requires { ⌜ RowOf (now off) (now cols) i maxColumns × (i < maxRows) × (length (now p) ≡ patternWords) × Clear (now p) i × (length (now first) ≡ maxColumns) × Firsts (now first) (firstOf (now off) (now cols) i) ⌝ }
     ensures other { λ _. ⌜ OtherRows (now (p .entry)) (now (p .exit)) i ⌝ }
     ensures row { λ _. ⌜ Seeded (links (now (off .entry)) (now (cols .entry))) (now (p .exit)) i ⌝ }
@@ -147,10 +147,10 @@ pub fn seed_row(off: &[u32], cols: &[u32], p: &mut [u64], first: &mut [u32], i: 
     put(p, i, i);
 }
 
-// The whole pattern, into clear rows.
+// The whole pattern, into clear rows: those from m on stay clear.
 pub fn pattern(off: &[u32], cols: &[u32], m: usize, p: &mut [u64])
     requires { ⌜ Csr (now off) (now cols) m × Inside (now off) (now cols) m maxColumns × (length (now p) ≡ patternWords) × ((i : ℕ) → i < maxRows → Clear (now p) i) ⌝ }
-    ensures { λ _. ⌜ ((i : ℕ) → i < m → Done (neighbours (now (off .entry)) (now (cols .entry))) (now (p .exit)) i) ⌝ }
+    ensures { λ _. ⌜ Whole (neighbours (now (off .entry)) (now (cols .entry))) (now (p .exit)) m ⌝ }
 {
     let mut first = [0u32; Plan::MAX_COLUMNS];
     let mut i: usize = 0;

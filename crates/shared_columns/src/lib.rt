@@ -53,7 +53,7 @@ fn hit_one(take: Take, mark: &[u32], lo: u32, y: u32, v: u32, index: &mut [u32],
 }
 
 // The marked columns of a list.
-pub fn hits(
+fn hits(
     take: Take,
     mark: &[u32],
     lo: u32,

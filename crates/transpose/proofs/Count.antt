@@ -1,6 +1,6 @@
 -- Counting by column, and where the columns start. Assumes nothing.
-use mathlib.Core.Path.{_≡_, refl, sym, ap, _∙_, subst}
-use mathlib.Core.Bool.{Bool, true}
+use mathlib.Core.Path.{_≡_, refl, sym, ap, ap₂, _∙_, subst}
+use mathlib.Core.Bool.{Bool, true, false, _||_}
 use mathlib.Core.List.{List, [], _∷_, _++_}
 use Prim.Native.Nat.{ℕ, suc, _+_, _-_, _*_, _<_, _≤_}
 use native.Mathlib.Omega.{arith}
@@ -8,8 +8,8 @@ use native.Mathlib.Decide.{ℕ-discrete}
 use native.Mathlib.Numerals.{add-one}
 use lib.Dec.{eqb}
 use borrow.Author.Tests.{eq-eqb, ne-eqb}
-use lib.ListN.{length, getD, set, length-append}
-use lib.Seq.{sets, getD-set-same, getD-set-other}
+use lib.ListN.{length, getD, set, take, drop, replicate, length-append}
+use lib.Seq.{sets, getD-set-same, getD-set-other, take-all}
 use Rattle.csr.specs.Pattern.{has, row}
 use Rattle.base.specs.Sums.{sum, one}
 use Rattle.base.proofs.Sums.{sum-ext, sum-next, sum-times, count-le}
@@ -18,26 +18,16 @@ use Rattle.lists.specs.Lists.{shape, holds, entry, column, columns, inColumn, c
 use Rattle.lists.specs.declared.What.{What}
 use Rattle.lists.specs.declared.What.the-variants.{Numbers, Places}
 use Rattle.lists.specs.declared.Side.the-variants.{Matrix}
-use Rattle.base.proofs.Write.{length-cat, cat-ext, cat-next, length-pick, wrote-join, wrote-as, singles-length}
+use Rattle.base.proofs.Write.{length-cat, cat-ext, cat-next, length-pick, wrote-join, wrote-as, singles-length, cleared-at}
 use Rattle.lists.proofs.Whole.{side-is, three, three-length}
-use Rattle.transpose.specs.Bins.{Bins, onto, putIn, rowsOf, roomOf, inRow, Grid, EmptyBins, Uncounted, RowCounting, Scattering, Scattered, Starts, seen, endsFrom, sideIn}
-use Rattle.transpose.proofs.Fill.{in-step, in-room, in-start, in-end, bins-whole}
-use Rattle.csr.specs.Csr.{RowOf}
-use Rattle.csr.proofs.Rows.{row-of, row-long, in-row, entry-at, entry-below}
+use Rattle.transpose.specs.Bins.{Bins, rowsOf, roomOf, Grid, EmptyBins, Uncounted, RowCounting, Scattering, Scattered, Starts, seen, endsFrom, sideIn}
+use Rattle.transpose.proofs.Fill.{one-more, absent-e, bins-whole}
+use Rattle.csr.proofs.Rows.{row-of, in-row, entry-at, entry-below}
 use Rattle.base.proofs.Numbers.{below-more}
+use Rattle.base.proofs.Bools.{or-nil}
 use Rattle.csr.proofs.Has.{has-at, below-has}
 
--- ---- one more in a bin
-count-put : (next : List ℕ) (held : ℕ → List ℕ) (e x : ℕ) → e < length next → (c : ℕ) → getD next c 0 ≡ length (held c) → getD (set next e (getD next e 0 + 1)) c 0 ≡ length (putIn e x held c)
-count-put next held e x hn c b = go (ℕ-discrete c e)
-  where
-    go : Dec (c ≡ e) → getD (set next e (getD next e 0 + 1)) c 0 ≡ length (onto (eqb c e) x (held c))
-    go (yes q) =
-        ap (λ (k : ℕ). getD (set next e (getD next e 0 + 1)) k 0) q
-        ∙ getD-set-same next e (getD next e 0 + 1) 0 hn
-        ∙ omega (arith, b, ap (λ (k : ℕ). getD next k 0) q, length-append (held c) (x ∷ []), ap (λ (t : Bool). length (onto t x (held c))) (eq-eqb c e q))
-    go (no q) = getD-set-other next e c (getD next e 0 + 1) 0 q ∙ b ∙ ap (λ (t : Bool). length (onto t x (held c))) (sym (ne-eqb c e q))
-
+-- ---- counts by column
 pub room-few : (off cols : List ℕ) (m c : ℕ) → roomOf off cols m c ≤ m
 unfolding inColumn
 room-few off cols m c = count-le m (λ i. holds (shape off cols) Matrix i c)
@@ -45,71 +35,91 @@ room-few off cols m c = count-le m (λ i. holds (shape off cols) Matrix i c)
 pub room-sum : (off cols : List ℕ) (m n : ℕ) → m ≤ 256 → n ≤ 1024 → sum n (roomOf off cols m) ≤ 262144
 room-sum off cols m n hm hn = omega (arith, sum-times n 256 (roomOf off cols m) (λ c l. omega (arith, room-few off cols m c)))
 
-pub seen-start : (off cols next : List ℕ) (c : ℕ) → getD next c 0 ≡ 0 → getD next c 0 ≡ length (seen off cols 0 c)
-unfolding column cat
-seen-start off cols next c z = z
-
 pub column-long : (off cols : List ℕ) (w : What) (m c : ℕ) → length (rowsOf off cols w m c) ≡ roomOf off cols m c
 unfolding column inColumn
 column-long off cols w m c =
     length-cat m (λ r. pick (holds (shape off cols) Matrix r c) (entry (shape off cols) Matrix w r c))
     ∙ sum-ext m (λ r. length (pick (holds (shape off cols) Matrix r c) (entry (shape off cols) Matrix w r c))) (λ r. one (holds (shape off cols) Matrix r c)) (λ k l. length-pick (holds (shape off cols) Matrix k c) (entry (shape off cols) Matrix w k c))
 
--- row i, each entry counted in its column
-module _ (off cols : List ℕ) (i n : ℕ) (ok : RowOf off cols i n) where
-  pub count-start : (next : List ℕ) (k : ℕ) → k ≡ getD off i 0 → (c : ℕ) → getD next c 0 ≡ length (seen off cols i c) → getD next c 0 ≡ length (inRow off cols Numbers i (k - getD off i 0) c)
-  count-start next k e c b =
-      let z : 0 ≡ k - getD off i 0 = omega arith in
-      b ∙ ap length (in-start off cols Numbers i c) ∙ ap (λ (y : ℕ). length (inRow off cols Numbers i y c)) z
+pub seen-start : (off cols next : List ℕ) (c : ℕ) → getD next c 0 ≡ getD next c 0 + length (seen off cols 0 c)
+unfolding column cat
+seen-start off cols next c = omega arith
 
-  pub count-end : (next : List ℕ) (k : ℕ) → getD off (i + 1) 0 ≤ k → (c : ℕ) → getD next c 0 ≡ length (inRow off cols Numbers i (k - getD off i 0) c) → getD next c 0 ≡ length (seen off cols (i + 1) c)
-  count-end next k h c b = b ∙ ap length (in-end off cols Numbers i (k - getD off i 0) c (omega (arith, row-long off cols i n ok)))
+pub seen-next : (off cols : List ℕ) (i c : ℕ) → length (seen off cols (i + 1) c) ≡ length (seen off cols i c) + one (has (row off cols i) c)
+unfolding column
+seen-next off cols i c =
+    ap length (cat-next i (λ r. pick (has (row off cols r) c) r))
+    ∙ length-append (seen off cols i c) (pick (has (row off cols i) c) i)
+    ∙ ap (λ (k : ℕ). length (seen off cols i c) + k) (length-pick (has (row off cols i) c) i)
 
-  module _ (k e : ℕ) (lo : getD off i 0 ≤ k) (hk : k < getD off (i + 1) 0) (he : e ≡ getD cols k 0) (next : List ℕ) (long : n ≤ length next) where
-    q-in : k - getD off i 0 < length (row off cols i)
-    q-in = in-row off cols i n ok k e lo hk he
+-- the first q entries of a row are counted, each in its column
+abbrev pub Passed : List ℕ → ℕ → List ℕ → List ℕ → Type 0
+Passed xs q old next = (c : ℕ) → getD next c 0 ≡ getD old c 0 + one (has (take q xs) c)
 
-    e-is : e ≡ getD (row off cols i) (k - getD off i 0) 0
-    e-is = entry-at off cols i n ok k e lo hk he
+pub passed-none : (xs : List ℕ) (q : ℕ) (next : List ℕ) → q ≡ 0 → Passed xs q next next
+unfolding has
+passed-none xs q next e c = omega (arith, ap (λ (k : ℕ). one (has (take k xs) c)) e)
 
-    e-in : e < n
-    e-in = entry-below off cols i n ok k e lo hk he
+pub passed-all : (xs : List ℕ) (q : ℕ) (old next : List ℕ) → length xs ≤ q → Passed xs q old next → (c : ℕ) → getD next c 0 ≡ getD old c 0 + one (has xs c)
+passed-all xs q old next h v c = v c ∙ ap (λ (l : List ℕ). getD old c 0 + one (has l c)) (take-all q xs h)
 
-    pub count-turn : (c : ℕ) → getD next c 0 ≡ length (inRow off cols Numbers i (k - getD off i 0) c) → getD (set next e (getD next e 0 + 1)) c 0 ≡ length (inRow off cols Numbers i (k + 1 - getD off i 0) c)
-    count-turn c b =
-        let z : k - getD off i 0 + 1 ≡ k + 1 - getD off i 0 = omega arith in
-        count-put next (inRow off cols Numbers i (k - getD off i 0)) e i (omega (arith, e-in)) c b
-        ∙ ap length (in-step off cols Numbers i (k - getD off i 0) e i (ok .rising) q-in e-is refl c)
-        ∙ ap (λ (y : ℕ). length (inRow off cols Numbers i y c)) z
+-- a turn: entry k of the columns is one of row i
+module _ (off cols : List ℕ) (i : ℕ) (old : List ℕ) (r : RowCounting off cols i old) (k e : ℕ) (lo : getD off i 0 ≤ k) (hk : k < getD off (i + 1) 0) (he : e ≡ getD cols k 0)
+    (next : List ℕ) (same : length next ≡ length old) (v : Passed (row off cols i) (k - getD off i 0) old next) where
+  q-in : k - getD off i 0 < length (row off cols i)
+  q-in = in-row off cols i (length old) (r .at) k e lo hk he
 
-    pub count-has : has (row off cols i) e ≡ true
-    count-has = ap (has (row off cols i)) e-is ∙ has-at (row off cols i) (k - getD off i 0) q-in
+  e-is : e ≡ getD (row off cols i) (k - getD off i 0) 0
+  e-is = entry-at off cols i (length old) (r .at) k e lo hk he
 
-    pub count-asks : i < 256 → getD next e 0 ≡ length (inRow off cols Numbers i (k - getD off i 0) e) → (e < length next) × (getD next e 0 < 256)
-    count-asks few b = (
-      omega (arith, e-in),
-      omega (
-        arith,
-        b,
-        in-room off cols Numbers i (k - getD off i 0) e i (ok .rising) q-in e-is refl (i + 1) (omega arith),
-        room-few off cols (i + 1) e,
-      ),
-    )
+  e-in : e < length next
+  e-in = omega (arith, entry-below off cols i (length old) (r .at) k e lo hk he)
+
+  e-new : has (take (k - getD off i 0) (row off cols i)) e ≡ false
+  e-new = absent-e off cols Numbers i (k - getD off i 0) e i (r .at .rising) q-in e-is refl
+
+  e-has : has (row off cols i) e ≡ true
+  e-has = ap (has (row off cols i)) e-is ∙ has-at (row off cols i) (k - getD off i 0) q-in
+
+  -- its column counts the rows before it
+  e-count : getD next e 0 ≡ length (seen off cols i e)
+  e-count = omega (arith, v e, ap one e-new, r .counts e e-has)
+
+  pub passed-asks : (e < length next) × (getD next e 0 < 256)
+  passed-asks = (e-in, omega (arith, e-count, column-long off cols Numbers i e, room-few off cols i e, r .few))
+
+  pub passed-count : getD next e 0 + 1 ≡ length (seen off cols (i + 1) e)
+  passed-count = omega (arith, e-count, seen-next off cols i e, ap one e-has)
+
+  grown : (c : ℕ) → has (take (k + 1 - getD off i 0) (row off cols i)) c ≡ has (take (k - getD off i 0) (row off cols i)) c || eqb c e
+  grown c =
+      let z : k + 1 - getD off i 0 ≡ k - getD off i 0 + 1 = omega arith in
+      ap (λ (y : ℕ). has (take y (row off cols i)) c) z ∙ one-more off cols Numbers i (k - getD off i 0) e i (r .at .rising) q-in e-is refl c
+
+  pub passed-turn : Passed (row off cols i) (k + 1 - getD off i 0) old (set next e (getD next e 0 + 1))
+  passed-turn c = go (ℕ-discrete c e)
+    where
+      go : Dec (c ≡ e) → getD (set next e (getD next e 0 + 1)) c 0 ≡ getD old c 0 + one (has (take (k + 1 - getD off i 0) (row off cols i)) c)
+      go (yes d) = rw d (getD-set-same next e (getD next e 0 + 1) 0 e-in ∙ omega (arith, v e, ap one e-new, ap one (grown e ∙ ap₂ _||_ e-new (eq-eqb e e refl))))
+      go (no d) =
+          getD-set-other next e c (getD next e 0 + 1) 0 d ∙ v c
+          ∙ ap (λ (t : Bool). getD old c 0 + one t)
+          (sym (grown c ∙ ap (λ (t : Bool). has (take (k - getD off i 0) (row off cols i)) c || t) (ne-eqb c e d) ∙ or-nil (has (take (k - getD off i 0) (row off cols i)) c)))
 
 pub row-counting : (off cols : List ℕ) (m i : ℕ) (old : List ℕ) → Uncounted off cols m old → i < m → (next : List ℕ) → length next ≡ length old
-    → ((c : ℕ) → getD old c 0 ≡ 0 → getD next c 0 ≡ length (seen off cols i c)) → RowCounting off cols i next
+    → ((c : ℕ) → getD next c 0 ≡ getD old c 0 + length (seen off cols i c)) → RowCounting off cols i next
 row-counting off cols m i old u l next long t = record {
   at = row-of off cols m i (length next) (u .grid .csr) l (below-more (u .n) (length next) (row off cols i) (omega (arith, u .long)) (u .grid .within i l));
   few = omega (arith, u .grid .csr .few);
-  counts = λ c h. t c (u .clear c (below-has (u .n) c (row off cols i) (u .grid .within i l) h));
+  counts = λ c h. omega (arith, t c, u .clear c (below-has (u .n) c (row off cols i) (u .grid .within i l) h));
 }
 
 -- entry c of a memory counts what bin c holds
 pub record Tally (next : List ℕ) (n : ℕ) (held : ℕ → List ℕ) : Type 0 where
   pub count : (c : ℕ) → c < n → getD next c 0 ≡ length (held c)
 
-pub tallied : (off cols : List ℕ) (m n : ℕ) (old next : List ℕ) → ((c : ℕ) → c < n → getD old c 0 ≡ 0) → ((c : ℕ) → getD old c 0 ≡ 0 → getD next c 0 ≡ length (seen off cols m c)) → Tally next n (seen off cols m)
-tallied off cols m n old next z t = record { count = λ c h. t c (z c h) }
+pub tallied : (off cols : List ℕ) (m n : ℕ) (old clear next : List ℕ) → clear ≡ replicate n 0 ++ drop n old → ((c : ℕ) → getD next c 0 ≡ getD clear c 0 + length (seen off cols m c)) → Tally next n (seen off cols m)
+tallied off cols m n old clear next z t = record { count = λ c h. omega (arith, t c, cleared-at old clear n z c h) }
 
 -- ---- from counts to ends and starts
 module _ (f : ℕ → ℕ) where

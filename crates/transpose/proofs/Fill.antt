@@ -160,7 +160,7 @@ module _ (off cols : List ℕ) (w : What) (i : ℕ) where
       ∙ sym (cat-next i (λ r. pick (holds (shape off cols) Matrix r c) (entry (shape off cols) Matrix w r c)))
 
   module _ (q e x : ℕ) (up : Rising (row off cols i)) (hq : q < length (row off cols i)) (he : e ≡ getD (row off cols i) q 0) (hx : x ≡ entry (shape off cols) Matrix w i e) where
-    one-more : (c : ℕ) → has (take (q + 1) (row off cols i)) c ≡ has (take q (row off cols i)) c || eqb c e
+    pub one-more : (c : ℕ) → has (take (q + 1) (row off cols i)) c ≡ has (take q (row off cols i)) c || eqb c e
     one-more c =
         ap (λ (k : ℕ). has (take k (row off cols i)) c) (add-one q)
         ∙ ap (λ (l : List ℕ). has l c) (take-suc (row off cols i) q 0 hq)

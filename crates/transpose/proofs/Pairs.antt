@@ -1,27 +1,21 @@
 -- Counting the columns that pairs of rows share, by a count for each column. Assumes nothing.
 use mathlib.Core.Path.{_≡_, refl, sym, ap, ap₂, _∙_}
-use mathlib.Core.Bool.{Bool, true, _||_}
 use mathlib.Core.List.{List, [], _∷_, _++_}
 use Prim.Native.Nat.{ℕ, suc, _+_, _-_, _<_, _≤_}
 use native.Mathlib.Omega.{arith}
 use native.Mathlib.Numerals.{add-one}
 use lib.ListN.{length, getD, take}
-use borrow.Author.Tests.{eq-eqb}
 use lib.Seq.{take-suc, take-all}
 use Rattle.csr.specs.Pattern.{has, row}
 use Rattle.base.specs.Sums.{sum, one}
 use Rattle.csr.specs.Counts.{common}
-use Rattle.base.specs.Cat.{cat, pick}
-use Rattle.base.proofs.Write.{cat-next}
-use Rattle.lists.specs.Lists.{inColumn, column}
+use Rattle.lists.specs.Lists.{inColumn}
 use Rattle.lists.specs.declared.What.the-variants.{Numbers}
-use Rattle.transpose.specs.Bins.{inRow, seen}
-use Rattle.csr.proofs.Has.{has-at, has-last}
+use Rattle.transpose.specs.Bins.{seen}
 use Rattle.csr.specs.Csr.{RowOf}
 use Rattle.csr.proofs.Rows.{row-long, in-row, entry-at}
 use Rattle.transpose.proofs.Count.{column-long}
 use Rattle.base.proofs.Sums.{sum-zero, sum-plus}
-use Rattle.base.proofs.Bools.{or-true}
 
 -- f of each number of a list, added up
 unfoldable pub over : (ℕ → ℕ) → List ℕ → ℕ
@@ -50,13 +44,6 @@ by-column n r (x ∷ xs) =
     ∙ sym (sum-plus n (λ j. one (has (r j) x)) (λ j. common xs (r j)))
 
 -- ---- the counts while row i is passed
-has-to : (l : List ℕ) (q : ℕ) → q < length l → has (take (q + 1) l) (getD l q 0) ≡ true
-has-to l q h =
-    ap (λ (k : ℕ). has (take k l) (getD l q 0)) (add-one q) ∙ ap (λ (k : List ℕ). has k (getD l q 0)) (take-suc l q 0 h)
-    ∙ has-last (take q l) (getD l q 0) (getD l q 0)
-    ∙ ap (λ (t : Bool). has (take q l) (getD l q 0) || t) (eq-eqb (getD l q 0) (getD l q 0) refl)
-    ∙ or-true (has (take q l) (getD l q 0))
-
 -- how many of the rows up to i hold column c
 abbrev pub upTo : List ℕ → List ℕ → ℕ → ℕ → ℕ
 upTo off cols i c = length (seen off cols (i + 1) c)
@@ -71,35 +58,11 @@ module _ (off cols : List ℕ) (i n : ℕ) (ok : RowOf off cols i n) where
       ∙ by-column (suc i) (row off cols) (row off cols i)
 
   module _ (k e : ℕ) (lo : getD off i 0 ≤ k) (hk : k < getD off (i + 1) 0) (he : e ≡ getD cols k 0) where
-    q : ℕ
-    q = k - getD off i 0
-
-    q-in : q < length (row off cols i)
-    unfolding q
-    q-in = in-row off cols i n ok k e lo hk he
-
-    e-is : e ≡ getD (row off cols i) q 0
-    unfolding q
-    e-is = entry-at off cols i n ok k e lo hk he
-
-    -- the count of an entry's column, its row included
-    counted : length (inRow off cols Numbers i (q + 1) e) ≡ upTo off cols i e
-    unfolding inRow column
-    counted =
-        ap (λ (t : Bool). length (cat i held ++ pick t i))
-        (ap (has (take (q + 1) (row off cols i))) e-is ∙ has-to (row off cols i) q q-in ∙ sym (ap (has (row off cols i)) e-is ∙ has-at (row off cols i) q q-in))
-        ∙ ap length (sym (cat-next i held))
-      where
-        held : ℕ → List ℕ
-        held r = pick (has (row off cols r) e) r
-
-    pub pairs-turn : (next : List ℕ) (s x : ℕ) → s ≡ over (upTo off cols i) (take (k - getD off i 0) (row off cols i)) → x ≡ getD next e 0 → getD next e 0 ≡ length (inRow off cols Numbers i (k + 1 - getD off i 0) e)
-        → s + x ≡ over (upTo off cols i) (take (k + 1 - getD off i 0) (row off cols i))
-    unfolding q
-    pairs-turn next s x hs hx t =
+    pub pairs-turn : (s x : ℕ) → s ≡ over (upTo off cols i) (take (k - getD off i 0) (row off cols i)) → x ≡ upTo off cols i e → s + x ≡ over (upTo off cols i) (take (k + 1 - getD off i 0) (row off cols i))
+    pairs-turn s x hs hx =
         let z : k - getD off i 0 + 1 ≡ k + 1 - getD off i 0 = omega arith in
-        ap₂ _+_ hs (hx ∙ t ∙ ap (λ (y : ℕ). length (inRow off cols Numbers i y e)) (sym z) ∙ counted ∙ ap (upTo off cols i) e-is)
-        ∙ sym (over-next (upTo off cols i) (row off cols i) (k - getD off i 0) q-in)
+        ap₂ _+_ hs (hx ∙ ap (upTo off cols i) (entry-at off cols i n ok k e lo hk he))
+        ∙ sym (over-next (upTo off cols i) (row off cols i) (k - getD off i 0) (in-row off cols i n ok k e lo hk he))
         ∙ ap (λ (y : ℕ). over (upTo off cols i) (take y (row off cols i))) z
 
   pub pairs-start : (k : ℕ) → k ≡ getD off i 0 → 0 ≡ over (upTo off cols i) (take (k - getD off i 0) (row off cols i))

@@ -15,7 +15,7 @@ use Rattle.lists.specs.declared.What.{What}
 use Rattle.lists.specs.declared.What.the-variants.{Numbers}
 use Rattle.lists.specs.declared.Side.{Side}
 use Rattle.lists.specs.declared.Side.the-variants.{Factor, Matrix}
-use Rattle.base.specs.Sums.{sum}
+use Rattle.base.specs.Sums.{sum, one}
 use Rattle.csr.specs.Questions.{maxRows, maxColumns}
 
 -- the columns of a side: the matrix's stand in words, the factor's in bytes
@@ -101,9 +101,9 @@ pub record RowCounting (off cols : List ℕ) (i : ℕ) (next : List ℕ) : Type 
   pub few : i < maxRows
   pub counts : (c : ℕ) → has (row off cols i) c ≡ true → getD next c 0 ≡ length (seen off cols i c)
 
--- row i is counted: in its columns, and how many columns it shares with the rows up to it
+-- row i is counted: one more in each of its columns, and how many columns it shares with the rows up to it
 pub record RowCounted (off cols : List ℕ) (i : ℕ) (old next : List ℕ) (shares : ℕ) : Type 0 where
-  pub counts : (c : ℕ) → getD old c 0 ≡ length (seen off cols i c) → getD next c 0 ≡ length (seen off cols (i + 1) c)
+  pub counts : (c : ℕ) → getD next c 0 ≡ getD old c 0 + one (has (row off cols i) c)
   pub pairs : shares ≡ sum (suc i) (λ j. common (row off cols i) (row off cols j))
   pub few : shares ≤ maxRows * (getD off (i + 1) 0 - getD off i 0)
 

@@ -14,7 +14,7 @@ use lists::Side;
 use lists::What;
 
 // One more word into the bin of column e.
-pub fn put_in(index: &mut [u32], next: &mut [u32], start: usize, e: usize, x: u32)
+fn put_in(index: &mut [u32], next: &mut [u32], start: usize, e: usize, x: u32)
     requires { ⌜ (e < length (now next)) × (start + getD (now next) e 0 < length (now index)) × (getD (now next) e 0 < maxRows * maxColumns) ⌝ }
     ensures { λ _. ⌜ (now (index .exit) ≡ set (now (index .entry)) (start + getD (now (next .entry)) e 0) x) × (now (next .exit) ≡ set (now (next .entry)) e (getD (now (next .entry)) e 0 + 1)) ⌝ }
 {
@@ -25,7 +25,7 @@ pub fn put_in(index: &mut [u32], next: &mut [u32], start: usize, e: usize, x: u3
 }
 
 // Entry k of the columns: the matrix's are words, the factor's are bytes.
-pub fn column_at(side: Side, cols: &[u32], bytes: &[u8], k: usize) -> usize
+fn column_at(side: Side, cols: &[u32], bytes: &[u8], k: usize) -> usize
     requires { ⌜ k < length (colsOf side (now cols) (now bytes)) ⌝ }
     ensures { λ r. ⌜ r ≡ getD (colsOf side (now (cols .entry)) (now (bytes .entry))) k 0 ⌝ }
 {
@@ -36,7 +36,7 @@ pub fn column_at(side: Side, cols: &[u32], bytes: &[u8], k: usize) -> usize
 }
 
 // What a list has for an entry of row i: its row or its place.
-pub fn of_entry(what: What, i: u32, place: u32) -> u32
+fn of_entry(what: What, i: u32, place: u32) -> u32
     ensures { λ r. ⌜ r ≡ byWhat what i place ⌝ }
 {
     match what {
@@ -46,7 +46,7 @@ pub fn of_entry(what: What, i: u32, place: u32) -> u32
 }
 
 // The entries of row i, each into its column's bin.
-pub fn scatter_row(
+fn scatter_row(
     side: Side,
     what: What,
     off: &[u32],
@@ -72,7 +72,7 @@ pub fn scatter_row(
 }
 
 // One more in the count of column e, and the count.
-pub fn bump(next: &mut [u32], e: usize) -> usize
+fn bump(next: &mut [u32], e: usize) -> usize
     requires { ⌜ (e < length (now next)) × (getD (now next) e 0 < maxRows) ⌝ }
     ensures { λ r. ⌜ (r ≡ getD (now (next .entry)) e 0 + 1) × (now (next .exit) ≡ set (now (next .entry)) e (getD (now (next .entry)) e 0 + 1)) ⌝ }
 {
@@ -82,7 +82,7 @@ pub fn bump(next: &mut [u32], e: usize) -> usize
 }
 
 // The entries of row i, each counted in its column: how many columns it shares with the rows up to it.
-pub fn count_row(
+fn count_row(
     side: Side,
     off: &[u32],
     cols: &[u32],
@@ -115,7 +115,7 @@ pub fn count_rows(
     next: &mut [u32],
 ) -> usize
     requires { ⌜ Uncounted (now off) (colsOf side (now cols) (now bytes)) m (now next) ⌝ }
-    ensures { λ r. ⌜ ((c : ℕ) → getD (now (next .entry)) c 0 ≡ 0 → getD (now (next .exit)) c 0 ≡ length (seen (now (off .entry)) (colsOf side (now (cols .entry)) (now (bytes .entry))) m c)) × (r ≡ countS (now (off .entry)) (colsOf side (now (cols .entry)) (now (bytes .entry))) m) × (r ≤ maxRows * maxPlaces) ⌝ }
+    ensures { λ r. ⌜ ((c : ℕ) → getD (now (next .exit)) c 0 ≡ getD (now (next .entry)) c 0 + length (seen (now (off .entry)) (colsOf side (now (cols .entry)) (now (bytes .entry))) m c)) × (r ≡ countS (now (off .entry)) (colsOf side (now (cols .entry)) (now (bytes .entry))) m) × (r ≤ maxRows * maxPlaces) ⌝ }
 {
     let mut s: usize = 0;
     let mut i: usize = 0;
@@ -136,13 +136,7 @@ fn swap(next: &mut [u32], e: usize, x: u32) -> u32
 }
 
 // From the counts of n columns: their ends to the index memory, and their starts to two memories.
-pub fn put_ends(
-    n: usize,
-    index: &mut [u32],
-    next: &mut [u32],
-    again: &mut [u32],
-    start: usize,
-) -> usize
+fn put_ends(n: usize, index: &mut [u32], next: &mut [u32], again: &mut [u32], start: usize) -> usize
     requires { ⌜ (n < length (now next)) × (n < length (now again)) × (n ≤ maxColumns) × ((c : ℕ) → c < n → getD (now next) c 0 ≤ maxRows) × (start + n + 1 ≤ length (now index)) ⌝ }
     ensures ends { λ r. ⌜ Wrote (now (index .entry)) (now (index .exit)) start (endsFrom (λ c. getD (now (next .entry)) c 0) n) r ⌝ }
     ensures starts { λ r. ⌜ Starts (now (next .exit)) n (λ c. getD (now (next .entry)) c 0) × Starts (now (again .exit)) (n + 1) (λ c. getD (now (next .entry)) c 0) ⌝ }
@@ -162,7 +156,7 @@ pub fn put_ends(
 }
 
 // The entries of all rows, each into its column's bin.
-pub fn scatter(
+fn scatter(
     side: Side,
     what: What,
     off: &[u32],
@@ -184,6 +178,7 @@ pub fn scatter(
 }
 
 // The three lists of the transpose: ends, rows and places. Two memories hold a word for each column.
+// What the two memories hold after is open: whoever uses them next writes them first.
 pub fn transpose(
     side: Side,
     off: &[u32],

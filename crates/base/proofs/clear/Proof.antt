@@ -1,34 +1,21 @@
--- `lists::clear` meets its contract. Assumes nothing.
-use Prim.Native.Nat.{ℕ, _+_, _-_, _<_, _≤_}
+-- `base::clear` meets its contract. Assumes nothing.
+use Prim.Native.Nat.{ℕ, _-_, _≤_}
 use mathlib.Core.Path.{_≡_, refl, ap, _∙_}
-use mathlib.Core.List.{List}
+use mathlib.Core.List.{List, _++_}
 use native.Mathlib.Omega.{arith}
-use native.Mathlib.Decide.{ℕ-discrete}
-use lib.ListN.{length, getD, set, length-set}
-use lib.Seq.{getD-set-same, getD-set-other}
+use lib.ListN.{length, set, drop, replicate, length-set}
+use Rattle.base.proofs.Write.{cleared-next}
 use Rattle.base.proofs.clear.Statement.{statement}
 use Rattle.base.proofs.clear.Tie as tie
 
-Zeros : List ℕ → ℕ → Type 0
-Zeros s i = (c : ℕ) → c < i → getD s c 0 ≡ 0
-
-zeros-next : (s : List ℕ) (i : ℕ) → i < length s → Zeros s i → Zeros (set s i 0) (i + 1)
-unfolding Zeros
-zeros-next s i h z c l = go (ℕ-discrete c i)
-  where
-    go : Dec (c ≡ i) → getD (set s i 0) c 0 ≡ 0
-    go (yes e) = ap (λ (k : ℕ). getD (set s i 0) k 0) e ∙ getD-set-same s i 0 0 h
-    go (no n) = getD-set-other s i c 0 0 n ∙ z c (omega arith)
-
 abbrev Inv-loop : tie.InvT-loop
-Inv-loop s₀ n i₀ s i = (i ≤ n) × (length s ≡ length s₀) × Zeros s i
+Inv-loop s₀ n i₀ s i = (i ≤ n) × (length s ≡ length s₀) × (s ≡ replicate i 0 ++ drop i s₀)
 
 abbrev μ-loop : tie.MeasureT-loop
-μ-loop s₀ n i₀ s i = n - i
+μ-loop s₀ n i₀ s i = length s₀ - i
 
 loop-holds : tie.Need-loop-holds Inv-loop μ-loop
-unfolding Zeros
-loop-holds c = (omega arith, refl, λ k l. absurd (omega arith))
+loop-holds c = (omega arith, refl, refl)
 
 mul-s : tie.Need-mul-s Inv-loop μ-loop
 mul-s c = omega arith
@@ -45,14 +32,15 @@ loop-less c = omega arith
 loop-again : tie.Need-loop-again Inv-loop μ-loop
 loop-again c =
     let l = c .before .loop in
-    (omega arith, simp length-set (l .inv .1), zeros-next (l .s) (l .i) (omega arith) (l .inv .2))
+    (omega arith, simp length-set (l .inv .1), ap (λ (x : List ℕ). set x (l .i) 0) (l .inv .2) ∙ cleared-next (c .before .before .args .s .now) (l .i) (omega arith))
 
 same-length : tie.Need-same-length Inv-loop μ-loop
 same-length c = c .before .loop .inv .1
 
 returns : tie.Need-returns Inv-loop μ-loop
-unfolding Zeros
-returns c = λ k h. c .before .loop .inv .2 k (omega arith)
+returns c =
+    let e : c .before .loop .i ≡ c .before .before .args .n = omega arith in
+    c .before .loop .inv .2 ∙ ap (λ (k : ℕ). replicate k 0 ++ drop k (c .before .before .args .s .now)) e
 
 pub clear-spec : {M : Type 1} → statement M
 clear-spec = tie.close (tie.spec Inv-loop μ-loop loop-holds mul-s slice-write-s add-i loop-less loop-again same-length returns)

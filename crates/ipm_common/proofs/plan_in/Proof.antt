@@ -6,7 +6,7 @@ use native.Mathlib.Omega.{arith}
 use lib.ListN.{length, drop}
 use borrow.Author.Needs.{needs}
 use Rattle.csr.specs.Counts.{sizeW}
-use Rattle.pattern.proofs.Whole.{clear-zeros}
+use Rattle.pattern.proofs.Whole.{clear-zeros, rows-ready}
 use Rattle.pattern.proofs.Links.{inside}
 use Rattle.lists.specs.Lists.{shape, planOf}
 use Rattle.lists.proofs.Whole as all
@@ -20,6 +20,17 @@ pattern-requires c κs =
     let s = c .before .before .before .before .before .before .before .before .before in
     let a = s .args in
     (s .pre .0 .csr, inside (a .offsets .now) (a .columns .now) (a .m) (a .n) (s .pre .0), refl, λ i h. clear-zeros 1024 i)
+
+count-all-requires : tie.Need-count-all-requires
+count-all-requires c κs =
+    let s = c .before .before .before .before .before .before .before .before .before .before .before .before .before .before .before .before .before .before .before .before .before .before .before in
+    let a = s .args in
+    let t = c .before .before .before .before .before .before .before .before .before .before .before .before .before .pattern in (
+      s .pre .0,
+      rows-ready (a .offsets .now) (a .columns .now) (t .last .1 .1 .1 .0) (a .m) (s .pre .0 .csr) (s .pre .0 .offsets .few) (t .kept .1 .1 .1 .0) (t .ensures),
+      c .before .before .before .before .before .before .before .before .list-rows .ensures .0,
+      s .pre .1 .counts,
+    )
 
 returns : tie.Need-returns
 returns c =
@@ -44,12 +55,13 @@ put-plan-requires : tie.Need-put-plan-requires
 put-plan-requires c κs =
     let s = c .before .before .before .before .before .before .before .before .before .before .before .before .before .before .before .before .before .before .before .before .before .before .before .before .before .before .before .before .before .before .before .before .before .before .before .before .before in
     let a = s .args in
+    let t = c .before .before .before .before .before .before .before .before .before .before .before .before .before .before .before .before .before .before .before .before .before .before .before .before .before .before .before .pattern in
     let z = plan-size (a .offsets .now) (a .columns .now) (a .m) (a .n) (s .pre .0) in
     let w : c .before .before .before .before .before .before .before .before .words .result ≡ sizeW (a .offsets .now) (a .columns .now) (a .m) (a .n) = c .before .before .before .before .before .before .before .before .words .ensures ∙ fin.words-are (a .offsets .now) (a .columns .now) (a .m) (a .n) _ _ _ (c .before .before .before .before .before .before .before .before .before .before .before .before .before .count-all .ensures) in
     let l = c .before .before .before .before .before .before .before .before .before .before .before .before .before .count-all .kept .1 .1 .1 .1 .1 .1 .1 .0 in (
       s .pre .0,
-      record { csr = s .pre .0 .csr; short = s .pre .0 .offsets .few; words = c .before .before .before .before .before .before .before .before .before .before .before .before .before .before .before .before .before .before .before .before .before .before .before .before .before .before .before .pattern .kept .1 .1 .1 .0; rows = c .before .before .before .before .before .before .before .before .before .before .before .before .before .before .before .before .before .before .before .before .before .before .before .before .before .before .before .pattern .ensures },
-      c .before .before .before .before .before .before .before .before .before .before .before .before .before .before .before .before .before .before .before .before .before .before .list-rows .ensures,
+      rows-ready (a .offsets .now) (a .columns .now) (t .last .1 .1 .1 .0) (a .m) (s .pre .0 .csr) (s .pre .0 .offsets .few) (t .kept .1 .1 .1 .0) (t .ensures),
+      c .before .before .before .before .before .before .before .before .before .before .before .before .before .before .before .before .before .before .before .before .before .before .list-rows .ensures .0,
       omega (arith, z, w, c .before .before .before .before .before .before .before .if2 .left),
       s .pre .1 .marks,
       record { rows = omega (arith, s .pre .1 .counts .rows, l); columns = omega (arith, s .pre .1 .counts .columns, l) },
@@ -82,4 +94,4 @@ returns-3 c =
     }
 
 pub plan-in-spec : {M : Type 1} → statement M
-plan-in-spec = tie.close (tie.spec (λ c. search needs) pattern-requires (λ c. search needs) (λ c κs. search needs) (λ c. search needs) (λ c κs. search needs) (λ c. search needs) (λ c. search needs) (λ c. search needs) (λ c. search needs) returns words-requires (λ c. search needs) (λ c. search needs) (λ c. search needs) returns-2 (λ c. search needs) put-plan-requires same-length-7 same-length-8 same-length-9 (λ c. search needs) (λ c. search needs) (λ c. search needs) returns-3)
+plan-in-spec = tie.close (tie.spec (λ c. search needs) pattern-requires (λ c. search needs) (λ c κs. search needs) (λ c. search needs) count-all-requires (λ c. search needs) (λ c. search needs) (λ c. search needs) (λ c. search needs) returns words-requires (λ c. search needs) (λ c. search needs) (λ c. search needs) returns-2 (λ c. search needs) put-plan-requires same-length-7 same-length-8 same-length-9 (λ c. search needs) (λ c. search needs) (λ c. search needs) returns-3)

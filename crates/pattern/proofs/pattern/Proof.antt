@@ -3,11 +3,12 @@ use Prim.Native.Nat.{ℕ, _≤_, _<_, _-_}
 use mathlib.Core.Path.{_≡_, sym, _∙_}
 use native.Mathlib.Omega.{arith}
 use lib.ListN.{length}
+use Rattle.csr.specs.Pattern.{neighbours}
 use Rattle.csr.proofs.Rows.{row-of}
 use Rattle.pattern.specs.Word.{Done, Clear}
 use Rattle.pattern.specs.Links.{firstOf, links, Firsts}
 use Rattle.pattern.proofs.Rows.{done-other}
-use Rattle.pattern.proofs.Whole.{rows-more, clear-less}
+use Rattle.pattern.proofs.Whole.{rows-more, clear-less, rows-all}
 use Rattle.pattern.proofs.Linking.{firsts-start, firsts-long, done-links}
 use Rattle.pattern.proofs.pattern.Statement.{statement}
 use Rattle.pattern.proofs.pattern.Tie as tie
@@ -66,7 +67,9 @@ same-length c = c .before .loop .inv .0 ∙ sym (c .before .before .before .befo
 returns : tie.Need-returns Inv-loop μ-loop
 returns c =
     let s = c .before .before .before .before .before in
-    λ i l. done-links (s .args .off .now) (s .args .cols .now) (c .before .loop .p) i (c .before .loop .inv .2 i (omega arith))
+    let l = c .before .loop in
+    rows-all (neighbours (s .args .off .now) (s .args .cols .now)) (l .p) (s .args .m)
+    (λ i h. done-links (s .args .off .now) (s .args .cols .now) (l .p) i (l .inv .2 i (omega arith))) (λ i h. l .inv .3 i (omega arith))
 
 pub pattern-spec : {M : Type 1} → statement M
 pattern-spec = tie.close (tie.spec Inv-loop μ-loop loop-holds slice-aggregate-seed-row seed-row-requires fill-row-requires add-i loop-less loop-again same-length returns)

@@ -14,7 +14,7 @@ use Rattle.transpose.proofs.count_rows.Tie as tie
 
 abbrev Inv-loop : tie.InvT-loop
 Inv-loop side off cols₀ bytes m next₀ s₀ i₀ next s i =
-    (i ≤ m) × (length next ≡ length next₀) × ((x : ℕ) → getD next₀ x 0 ≡ 0 → getD next x 0 ≡ length (seen off (colsOf side cols₀ bytes) i x)) ×
+    (i ≤ m) × (length next ≡ length next₀) × ((x : ℕ) → getD next x 0 ≡ getD next₀ x 0 + length (seen off (colsOf side cols₀ bytes) i x)) ×
     (s ≡ sum i (λ a. sum (suc a) (λ b. common (row off (colsOf side cols₀ bytes) a) (row off (colsOf side cols₀ bytes) b)))) × (s ≤ 256 * getD off i 0)
 
 abbrev μ-loop : tie.MeasureT-loop
@@ -56,7 +56,7 @@ loop-again c =
     let h : l .i < a .m = c .before .before .before .before .loop-test .taken in (
       omega (arith, h),
       q .kept .1 .1 .1 .1 .1 .0 ∙ l .inv .1,
-      λ x g. q .ensures .counts x (l .inv .2 x g),
+      λ x. omega (arith, q .ensures .counts x, l .inv .2 x, law.seen-next (a .off .now) (colsOf (a .side) (a .cols .now) (a .bytes .now)) (l .i) x),
       ap₂ _+_ (l .inv .3) (q .ensures .pairs) ∙ sym (sum-next (l .i) (λ x. sum (suc x) (λ y. common (row (a .off .now) (colsOf (a .side) (a .cols .now) (a .bytes .now)) x) (row (a .off .now) (colsOf (a .side) (a .cols .now) (a .bytes .now)) y)))),
       omega (arith, l .inv .4, q .ensures .few, s .pre .grid .csr .order (l .i) h),
     )
@@ -71,7 +71,7 @@ returns c =
     let a = s .args in
     let l = c .before .loop in
     let e : l .i ≡ a .m = omega (arith, l .inv .0, c .loop-test .left) in (
-      λ x g. l .inv .2 x g ∙ ap (λ (y : ℕ). length (seen (a .off .now) (colsOf (a .side) (a .cols .now) (a .bytes .now)) y x)) e,
+      λ x. l .inv .2 x ∙ ap (λ (y : ℕ). getD (a .next .now) x 0 + length (seen (a .off .now) (colsOf (a .side) (a .cols .now) (a .bytes .now)) y x)) e,
       l .inv .3 ∙ ap (λ (x : ℕ). sum x (λ y. sum (suc y) (λ z. common (row (a .off .now) (colsOf (a .side) (a .cols .now) (a .bytes .now)) y) (row (a .off .now) (colsOf (a .side) (a .cols .now) (a .bytes .now)) z)))) e,
       omega (arith, l .inv .4, s .pre .grid .csr .ends (l .i) (l .inv .0), s .pre .grid .short),
     )

@@ -4,6 +4,7 @@ use native.Mathlib.Omega.{arith}
 use lib.ListN.{length}
 use Rattle.lists.specs.declared.What.the-variants.{Numbers}
 use Rattle.transpose.specs.Bins.{colsOf}
+use Rattle.base.proofs.Write.{cleared-at}
 use Rattle.transpose.proofs.Count as law
 use borrow.Author.Needs.{needs}
 use Rattle.transpose.proofs.transpose.Statement.{statement}
@@ -12,7 +13,7 @@ use Rattle.transpose.proofs.transpose.Tie as tie
 count-rows-requires : tie.Need-count-rows-requires
 count-rows-requires c κs =
     let s = c .before .before .before .before .before .before .before .before .before .before .before in
-    record { n = s .args .n; grid = s .pre .0; long = omega (arith, s .pre .2, c .before .before .before .clear .kept .0); clear = c .before .before .before .clear .ensures }
+    record { n = s .args .n; grid = s .pre .0; long = omega (arith, s .pre .2, c .before .before .before .clear .kept .0); clear = cleared-at (s .args .next .now) (c .before .before .before .clear .last .0) (s .args .n) (c .before .before .before .clear .ensures) }
 
 put-ends-requires : tie.Need-put-ends-requires
 put-ends-requires c κs =
@@ -20,7 +21,7 @@ put-ends-requires c κs =
     let a = s .args in
     let x = c .before .before .before .before .before .before .before .before .before .clear in
     let q = c .before .before .before .before .before .count-rows in
-    let y = law.tallied (a .off .now) (colsOf (a .side) (a .cols .now) (a .bytes .now)) (a .m) (a .n) (x .last .0) (q .last .1 .1 .1 .1 .1 .0) (x .ensures) (q .ensures .0) in
+    let y = law.tallied (a .off .now) (colsOf (a .side) (a .cols .now) (a .bytes .now)) (a .m) (a .n) (a .next .now) (x .last .0) (q .last .1 .1 .1 .1 .1 .0) (x .ensures) (q .ensures .0) in
     (omega (arith, s .pre .2, q .kept .1 .1 .1 .1 .1 .0, x .kept .0), s .pre .3, s .pre .0 .wide, (λ e h. omega (arith, y .count e h, law.column-long (a .off .now) (colsOf (a .side) (a .cols .now) (a .bytes .now)) Numbers (a .m) e, law.room-few (a .off .now) (colsOf (a .side) (a .cols .now) (a .bytes .now)) (a .m) e, s .pre .0 .csr .few)), law.ends-fit (a .off .now) (colsOf (a .side) (a .cols .now) (a .bytes .now)) (a .m) (a .n) (a .start) (length (a .index .now)) (s .pre .1))
 
 word-at-requires : tie.Need-word-at-requires
@@ -32,7 +33,7 @@ scatter-requires c κs =
     let a = s .args in
     let x = c .before .before .before .before .before .before .before .before .before .before .before .before .before .before .before .before .before .before .before .before .clear in
     let q = c .before .before .before .before .before .before .before .before .before .before .before .before .before .before .before .before .count-rows in
-    let y = law.tallied (a .off .now) (colsOf (a .side) (a .cols .now) (a .bytes .now)) (a .m) (a .n) (x .last .0) (q .last .1 .1 .1 .1 .1 .0) (x .ensures) (q .ensures .0) in
+    let y = law.tallied (a .off .now) (colsOf (a .side) (a .cols .now) (a .bytes .now)) (a .m) (a .n) (a .next .now) (x .last .0) (q .last .1 .1 .1 .1 .1 .0) (x .ensures) (q .ensures .0) in
     let p = c .before .before .before .before .before .before .before .before .before .before .put-ends in
     (a .n, law.row-bins (a .off .now) (colsOf (a .side) (a .cols .now) (a .bytes .now)) (a .m) (a .n) (s .pre .0) (q .last .1 .1 .1 .1 .1 .0) y (a .index .now) (p .last .1 .0) (a .start) (p .result) (s .pre .1) (p .ensures .0) (p .last .1 .1 .0) (p .kept .1 .0) (omega (arith, s .pre .2, x .kept .0, q .kept .1 .1 .1 .1 .1 .0, p .kept .1 .1 .0)) (p .ensures .1 .0))
 
@@ -42,7 +43,7 @@ add-scatter c =
     let a = s .args in
     let x = c .before .before .before .before .before .before .before .before .before .before .before .before .before .before .before .before .before .before .before .before .before .before .before .before .before .before .before .clear in
     let q = c .before .before .before .before .before .before .before .before .before .before .before .before .before .before .before .before .before .before .before .before .before .before .before .count-rows in
-    let y = law.tallied (a .off .now) (colsOf (a .side) (a .cols .now) (a .bytes .now)) (a .m) (a .n) (x .last .0) (q .last .1 .1 .1 .1 .1 .0) (x .ensures) (q .ensures .0) in
+    let y = law.tallied (a .off .now) (colsOf (a .side) (a .cols .now) (a .bytes .now)) (a .m) (a .n) (a .next .now) (x .last .0) (q .last .1 .1 .1 .1 .1 .0) (x .ensures) (q .ensures .0) in
     let p = c .before .before .before .before .before .before .before .before .before .before .before .before .before .before .before .before .before .put-ends in
     let t = c .before .before .before .before .before .before .before .before .before .word-at in
     omega (arith, law.places-fit (a .off .now) (colsOf (a .side) (a .cols .now) (a .bytes .now)) (a .m) (a .n) (s .pre .0) (q .last .1 .1 .1 .1 .1 .0) y (a .index .now) (p .last .1 .0) (a .start) (p .result) (s .pre .1) (p .ensures .0) (p .last .1 .1 .1 .0) (p .ensures .1 .1) (t .result) (t .ensures), s .good .1 .1 .1 .1 .1 .1 .1 .1 .0)
@@ -53,7 +54,7 @@ scatter-requires-2 c κs =
     let a = s .args in
     let x = c .before .before .before .before .before .before .before .before .before .before .before .before .before .before .before .before .before .before .before .before .before .before .before .before .before .before .before .clear in
     let q = c .before .before .before .before .before .before .before .before .before .before .before .before .before .before .before .before .before .before .before .before .before .before .before .count-rows in
-    let y = law.tallied (a .off .now) (colsOf (a .side) (a .cols .now) (a .bytes .now)) (a .m) (a .n) (x .last .0) (q .last .1 .1 .1 .1 .1 .0) (x .ensures) (q .ensures .0) in
+    let y = law.tallied (a .off .now) (colsOf (a .side) (a .cols .now) (a .bytes .now)) (a .m) (a .n) (a .next .now) (x .last .0) (q .last .1 .1 .1 .1 .1 .0) (x .ensures) (q .ensures .0) in
     let p = c .before .before .before .before .before .before .before .before .before .before .before .before .before .before .before .before .before .put-ends in
     let t = c .before .before .before .before .before .before .before .before .before .word-at in
     let k = c .before .before .before .before .before .before .scatter in
@@ -65,7 +66,7 @@ add-result c =
     let a = s .args in
     let x = c .before .before .before .before .before .before .before .before .before .before .before .before .before .before .before .before .before .before .before .before .before .before .before .before .before .before .before .before .before .before .before .before .clear in
     let q = c .before .before .before .before .before .before .before .before .before .before .before .before .before .before .before .before .before .before .before .before .before .before .before .before .before .before .before .before .count-rows in
-    let y = law.tallied (a .off .now) (colsOf (a .side) (a .cols .now) (a .bytes .now)) (a .m) (a .n) (x .last .0) (q .last .1 .1 .1 .1 .1 .0) (x .ensures) (q .ensures .0) in
+    let y = law.tallied (a .off .now) (colsOf (a .side) (a .cols .now) (a .bytes .now)) (a .m) (a .n) (a .next .now) (x .last .0) (q .last .1 .1 .1 .1 .1 .0) (x .ensures) (q .ensures .0) in
     let p = c .before .before .before .before .before .before .before .before .before .before .before .before .before .before .before .before .before .before .before .before .before .before .put-ends in
     let t = c .before .before .before .before .before .before .before .before .before .before .before .before .before .before .word-at in
     omega (arith, law.places-fit (a .off .now) (colsOf (a .side) (a .cols .now) (a .bytes .now)) (a .m) (a .n) (s .pre .0) (q .last .1 .1 .1 .1 .1 .0) y (a .index .now) (p .last .1 .0) (a .start) (p .result) (s .pre .1) (p .ensures .0) (p .last .1 .1 .1 .0) (p .ensures .1 .1) (t .result) (t .ensures), s .good .1 .1 .1 .1 .1 .1 .1 .1 .0)
@@ -76,7 +77,7 @@ add-result-2 c =
     let a = s .args in
     let x = c .before .before .before .before .before .before .before .before .before .before .before .before .before .before .before .before .before .before .before .before .before .before .before .before .before .before .before .before .before .before .before .before .clear in
     let q = c .before .before .before .before .before .before .before .before .before .before .before .before .before .before .before .before .before .before .before .before .before .before .before .before .before .before .before .before .count-rows in
-    let y = law.tallied (a .off .now) (colsOf (a .side) (a .cols .now) (a .bytes .now)) (a .m) (a .n) (x .last .0) (q .last .1 .1 .1 .1 .1 .0) (x .ensures) (q .ensures .0) in
+    let y = law.tallied (a .off .now) (colsOf (a .side) (a .cols .now) (a .bytes .now)) (a .m) (a .n) (a .next .now) (x .last .0) (q .last .1 .1 .1 .1 .1 .0) (x .ensures) (q .ensures .0) in
     let p = c .before .before .before .before .before .before .before .before .before .before .before .before .before .before .before .before .before .before .before .before .before .before .put-ends in
     let t = c .before .before .before .before .before .before .before .before .before .before .before .before .before .before .word-at in
     omega (arith, law.places-fit (a .off .now) (colsOf (a .side) (a .cols .now) (a .bytes .now)) (a .m) (a .n) (s .pre .0) (q .last .1 .1 .1 .1 .1 .0) y (a .index .now) (p .last .1 .0) (a .start) (p .result) (s .pre .1) (p .ensures .0) (p .last .1 .1 .1 .0) (p .ensures .1 .1) (t .result) (t .ensures), s .good .1 .1 .1 .1 .1 .1 .1 .1 .0)
@@ -90,7 +91,7 @@ returns c =
     let a = s .args in
     let x = c .before .before .before .before .before .before .before .before .before .before .before .before .before .before .before .before .before .before .before .before .before .before .before .before .before .before .before .before .before .before .before .before .clear in
     let q = c .before .before .before .before .before .before .before .before .before .before .before .before .before .before .before .before .before .before .before .before .before .before .before .before .before .before .before .before .count-rows in
-    let y = law.tallied (a .off .now) (colsOf (a .side) (a .cols .now) (a .bytes .now)) (a .m) (a .n) (x .last .0) (q .last .1 .1 .1 .1 .1 .0) (x .ensures) (q .ensures .0) in
+    let y = law.tallied (a .off .now) (colsOf (a .side) (a .cols .now) (a .bytes .now)) (a .m) (a .n) (a .next .now) (x .last .0) (q .last .1 .1 .1 .1 .1 .0) (x .ensures) (q .ensures .0) in
     let p = c .before .before .before .before .before .before .before .before .before .before .before .before .before .before .before .before .before .before .before .before .before .before .put-ends in
     let t = c .before .before .before .before .before .before .before .before .before .before .before .before .before .before .word-at in
     let k = c .before .before .before .before .before .before .before .before .before .before .before .scatter in
