@@ -2,4 +2,5 @@ pub mod Bools
 pub mod Numbers
 pub mod Sums
 pub mod Write
+pub mod Front
 pub mod Maps

@@ -6,8 +6,8 @@ use Prim.Native.Nat.{ℕ, zero, suc, _+_, _-_, _≤_, _<_}
 use native.Mathlib.Omega.{arith}
 use native.Mathlib.Numerals.{add-one}
 use native.Mathlib.Decide.{ℕ-discrete}
-use lib.ListN.{length, length-append, set, getD, drop, replicate, length-replicate, getD-replicate, replicate-append-replicate, List·getD-append}
-use lib.Seq.{sets, length-sets, drop-cons, set-at, append-snoc}
+use lib.ListN.{length, length-append, set}
+use lib.Seq.{sets, length-sets}
 use Rattle.base.specs.Sums.{sum, one}
 use Rattle.base.specs.Cat.{cat, pick, pairs, Wrote}
 
@@ -35,21 +35,6 @@ wrote-as a b at r vs ws e p = subst (λ (l : List ℕ). Wrote a b at l r) e p
 
 pub wrote-length : (a b : List ℕ) (at r : ℕ) (vs : List ℕ) → Wrote a b at vs r → length b ≡ length a
 wrote-length a b at r vs p = ap length (p .is) ∙ length-sets a at vs
-
--- ---- a list cleared from its front
-
-pub cleared-next : (l : List ℕ) (i : ℕ) → i < length l → set (replicate i 0 ++ drop i l) i 0 ≡ replicate (i + 1) 0 ++ drop (i + 1) l
-cleared-next l i h =
-    ap (λ (x : List ℕ). set (replicate i 0 ++ x) i 0) (drop-cons l i 0 h)
-    ∙ set-at (replicate i 0) (getD l i 0) (drop (suc i) l) 0 i (length-replicate i 0)
-    ∙ sym (append-snoc (replicate i 0) 0 (drop (suc i) l))
-    ∙ ap₂ (λ (x : List ℕ) (k : ℕ). x ++ drop k l) (replicate-append-replicate i 1 0) (sym (add-one i))
-
-pub cleared-at : (l x : List ℕ) (n : ℕ) → x ≡ replicate n 0 ++ drop n l → (c : ℕ) → c < n → getD x c 0 ≡ 0
-cleared-at l x n e c h =
-    ap (λ (y : List ℕ). getD y c 0) e
-    ∙ List·getD-append (replicate n 0) (drop n l) 0 c (omega (arith, length-replicate {A = ℕ} n 0))
-    ∙ getD-replicate n c 0 0 h
 
 -- ---- joined lists
 

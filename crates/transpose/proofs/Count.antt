@@ -18,7 +18,8 @@ use Rattle.lists.specs.Lists.{shape, holds, entry, column, columns, inColumn, c
 use Rattle.lists.specs.declared.What.{What}
 use Rattle.lists.specs.declared.What.the-variants.{Numbers, Places}
 use Rattle.lists.specs.declared.Side.the-variants.{Matrix}
-use Rattle.base.proofs.Write.{length-cat, cat-ext, cat-next, length-pick, wrote-join, wrote-as, singles-length, cleared-at}
+use Rattle.base.proofs.Write.{length-cat, cat-ext, cat-next, length-pick, wrote-join, wrote-as, singles-length}
+use Rattle.base.proofs.Front.{cleared-at}
 use Rattle.lists.proofs.Whole.{side-is, three, three-length}
 use Rattle.transpose.specs.Bins.{Bins, rowsOf, roomOf, Grid, EmptyBins, Uncounted, RowCounting, Scattering, Scattered, Starts, seen, endsFrom, sideIn}
 use Rattle.transpose.proofs.Fill.{one-more, absent-e, bins-whole}
@@ -119,7 +120,7 @@ pub record Tally (next : List ℕ) (n : ℕ) (held : ℕ → List ℕ) : Type 0 
   pub count : (c : ℕ) → c < n → getD next c 0 ≡ length (held c)
 
 pub tallied : (off cols : List ℕ) (m n : ℕ) (old clear next : List ℕ) → clear ≡ replicate n 0 ++ drop n old → ((c : ℕ) → getD next c 0 ≡ getD clear c 0 + length (seen off cols m c)) → Tally next n (seen off cols m)
-tallied off cols m n old clear next z t = record { count = λ c h. omega (arith, t c, cleared-at old clear n z c h) }
+tallied off cols m n old clear next z t = record { count = λ c h. omega (arith, t c, cleared-at old clear 0 0 n z c h) }
 
 -- ---- from counts to ends and starts
 module _ (f : ℕ → ℕ) where

@@ -1,10 +1,10 @@
 -- `base::clear` meets its contract. Assumes nothing.
-use Prim.Native.Nat.{ℕ, _-_, _≤_}
-use mathlib.Core.Path.{_≡_, refl, ap, _∙_}
-use mathlib.Core.List.{List, _++_}
+use Prim.Native.Nat.{_-_, _≤_}
+use mathlib.Core.Path.{_≡_, refl}
+use mathlib.Core.List.{_++_}
 use native.Mathlib.Omega.{arith}
-use lib.ListN.{length, set, drop, replicate, length-set}
-use Rattle.base.proofs.Write.{cleared-next}
+use lib.ListN.{length, drop, replicate, length-set}
+use Rattle.base.proofs.Front.{cleared-next, cleared-all}
 use Rattle.base.proofs.clear.Statement.{statement}
 use Rattle.base.proofs.clear.Tie as tie
 
@@ -32,15 +32,13 @@ loop-less c = omega arith
 loop-again : tie.Need-loop-again Inv-loop μ-loop
 loop-again c =
     let l = c .before .loop in
-    (omega arith, simp length-set (l .inv .1), ap (λ (x : List ℕ). set x (l .i) 0) (l .inv .2) ∙ cleared-next (c .before .before .args .s .now) (l .i) (omega arith))
+    (omega arith, simp length-set (l .inv .1), cleared-next (c .before .before .args .s .now) (l .s) 0 (l .i) (l .inv .2) (omega arith))
 
 same-length : tie.Need-same-length Inv-loop μ-loop
 same-length c = c .before .loop .inv .1
 
 returns : tie.Need-returns Inv-loop μ-loop
-returns c =
-    let e : c .before .loop .i ≡ c .before .before .args .n = omega arith in
-    c .before .loop .inv .2 ∙ ap (λ (k : ℕ). replicate k 0 ++ drop k (c .before .before .args .s .now)) e
+returns c = cleared-all (c .before .before .args .s .now) (c .before .loop .s) 0 (c .before .loop .i) (c .before .before .args .n) (c .before .loop .inv .2) (omega arith)
 
 pub clear-spec : {M : Type 1} → statement M
 clear-spec = tie.close (tie.spec Inv-loop μ-loop loop-holds mul-s slice-write-s add-i loop-less loop-again same-length returns)

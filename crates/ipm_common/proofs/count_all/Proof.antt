@@ -1,7 +1,7 @@
 -- `ipm_common::count_all` meets its contract. Assumes nothing.
 use mathlib.Core.Path.{_∙_}
 use native.Mathlib.Omega.{arith}
-use Rattle.base.proofs.Write.{cleared-at}
+use Rattle.base.proofs.Front.{cleared-at}
 use Rattle.pattern.specs.Word.{bit}
 use Rattle.pattern.proofs.Whole.{count-E}
 use Rattle.pair_lists.proofs.Lists.{rows-grid}
@@ -20,7 +20,7 @@ count-rows-requires : tie.Need-count-rows-requires
 count-rows-requires c κs =
     let s = c .before .before .before .before .before .before .before .before .before .before .before .before in
     let a = s .args in
-    record { n = a .n; grid = accepted-grid (a .offsets .now) (a .columns .now) (a .m) (a .n) (s .pre .0); long = omega (arith, s .pre .3 .columns, c .before .before .before .clear .kept .0); clear = cleared-at (a .next .now) (c .before .before .before .clear .last .0) (a .n) (c .before .before .before .clear .ensures) }
+    record { n = a .n; grid = accepted-grid (a .offsets .now) (a .columns .now) (a .m) (a .n) (s .pre .0); long = omega (arith, s .pre .3 .columns, c .before .before .before .clear .kept .0); clear = cleared-at (a .next .now) (c .before .before .before .clear .last .0) 0 0 (a .n) (c .before .before .before .clear .ensures) }
 
 clear-requires-2 : tie.Need-clear-requires-2
 clear-requires-2 c κs = omega (arith, c .before .before .before .before .before .before .before .before .before .before .before .before .before .before .before .before .pre .3 .rows, c .before .before .before .before .before .before .before .clear .kept .0, c .before .before .before .count-rows .kept .1 .1 .1 .1 .1 .0)
@@ -29,7 +29,7 @@ count-rows-requires-2 : tie.Need-count-rows-requires-2
 count-rows-requires-2 c κs =
     let s = c .before .before .before .before .before .before .before .before .before .before .before .before .before .before .before .before .before .before .before .before in
     let a = s .args in
-    record { n = a .m; grid = rows-grid (bit (a .p .now)) (a .lindptr .now) (a .lindices .now) (a .m) (s .pre .2); long = omega (arith, s .pre .3 .rows, c .before .before .before .before .before .before .before .before .before .before .before .clear .kept .0, c .before .before .before .before .before .before .before .count-rows .kept .1 .1 .1 .1 .1 .0, c .before .before .before .clear2 .kept .0); clear = cleared-at (c .before .before .before .before .before .before .before .count-rows .last .1 .1 .1 .1 .1 .0) (c .before .before .before .clear2 .last .0) (a .m) (c .before .before .before .clear2 .ensures) }
+    record { n = a .m; grid = rows-grid (bit (a .p .now)) (a .lindptr .now) (a .lindices .now) (a .m) (s .pre .2); long = omega (arith, s .pre .3 .rows, c .before .before .before .before .before .before .before .before .before .before .before .clear .kept .0, c .before .before .before .before .before .before .before .count-rows .kept .1 .1 .1 .1 .1 .0, c .before .before .before .clear2 .kept .0); clear = cleared-at (c .before .before .before .before .before .before .before .count-rows .last .1 .1 .1 .1 .1 .0) (c .before .before .before .clear2 .last .0) 0 0 (a .m) (c .before .before .before .clear2 .ensures) }
 
 cast-t22 : tie.Need-cast-t22
 cast-t22 c = omega (arith, c .before .before .count-rows2 .ensures .2)

@@ -6,7 +6,7 @@ use Prim.Native.Nat.{_-_, _≤_}
 use lib.ListN.{length, drop, replicate, length-set}
 use Rattle.lanes.specs.Arithmetic.{null}
 use Rattle.lanes.proofs.Consts.{null-bits}
-use Rattle.ipm_simd.proofs.Numbers.{cleared-next, cleared-all}
+use Rattle.base.proofs.Front.{cleared-next, cleared-all}
 use Rattle.ipm_simd.proofs.clear_front.Statement.{statement}
 use Rattle.ipm_simd.proofs.clear_front.Tie as tie
 

@@ -4,7 +4,7 @@ use mathlib.Core.Path.{_≡_, refl, _∙_, subst}
 use native.Mathlib.Omega.{arith}
 use lib.ListN.{length}
 use Rattle.base.specs.Cat.{Wrote}
-use Rattle.base.proofs.Write.{cleared-at}
+use Rattle.base.proofs.Front.{cleared-at}
 use Rattle.lists.proofs.Whole as all
 use Rattle.lists.specs.Lists.{shape, tenOf}
 use Rattle.pair_lists.proofs.put_ten.Statement.{statement}
@@ -33,7 +33,7 @@ fill-requires c κs =
     let s = c .before .before .before .before .before .before .before .before .before .before .before .before .before .before .before .before in
     let a = s .args in
     let l = c .before .before .before .before .before .before .before .before .loop in
-    (record { wide = a .wide; listing = s .pre .0; long = omega (arith, s .pre .2, l .inv .1, c .before .before .before .before .before .clear .kept .0); low = λ x h. omega (arith, cleared-at (l .mark) (c .before .before .before .before .before .clear .last .0) (a .wide) (c .before .before .before .before .before .clear .ensures) x h) }, all.ten-room (shape (a .off .now) (a .cols .now)) (a .m) 10 (a .start) (length (l .index)) (l .at) (l .k) (c .before .before .which-field .result) (c .before .before .which-field .ensures) (omega (arith, c .before .before .before .before .before .before .before .loop-test .taken)) (omega (arith, s .pre .1, l .inv .2)) (l .inv .3 .next))
+    (record { wide = a .wide; listing = s .pre .0; long = omega (arith, s .pre .2, l .inv .1, c .before .before .before .before .before .clear .kept .0); low = λ x h. omega (arith, cleared-at (l .mark) (c .before .before .before .before .before .clear .last .0) 0 0 (a .wide) (c .before .before .before .before .before .clear .ensures) x h) }, all.ten-room (shape (a .off .now) (a .cols .now)) (a .m) 10 (a .start) (length (l .index)) (l .at) (l .k) (c .before .before .which-field .result) (c .before .before .which-field .ensures) (omega (arith, c .before .before .before .before .before .before .before .loop-test .taken)) (omega (arith, s .pre .1, l .inv .2)) (l .inv .3 .next))
 
 add-k : tie.Need-add-k Inv-loop μ-loop
 add-k c = omega (arith, c .before .before .before .before .before .before .before .before .before .before .before .before .loop-test .taken)

@@ -4,7 +4,7 @@ use native.Mathlib.Omega.{arith}
 use lib.ListN.{length}
 use Rattle.lists.specs.declared.What.the-variants.{Numbers}
 use Rattle.transpose.specs.Bins.{colsOf}
-use Rattle.base.proofs.Write.{cleared-at}
+use Rattle.base.proofs.Front.{cleared-at}
 use Rattle.transpose.proofs.Count as law
 use borrow.Author.Needs.{needs}
 use Rattle.transpose.proofs.transpose.Statement.{statement}
@@ -13,7 +13,7 @@ use Rattle.transpose.proofs.transpose.Tie as tie
 count-rows-requires : tie.Need-count-rows-requires
 count-rows-requires c κs =
     let s = c .before .before .before .before .before .before .before .before .before .before .before in
-    record { n = s .args .n; grid = s .pre .0; long = omega (arith, s .pre .2, c .before .before .before .clear .kept .0); clear = cleared-at (s .args .next .now) (c .before .before .before .clear .last .0) (s .args .n) (c .before .before .before .clear .ensures) }
+    record { n = s .args .n; grid = s .pre .0; long = omega (arith, s .pre .2, c .before .before .before .clear .kept .0); clear = cleared-at (s .args .next .now) (c .before .before .before .clear .last .0) 0 0 (s .args .n) (c .before .before .before .clear .ensures) }
 
 put-ends-requires : tie.Need-put-ends-requires
 put-ends-requires c κs =
