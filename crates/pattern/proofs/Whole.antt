@@ -14,7 +14,7 @@ use Rattle.csr.specs.Questions.{maxEntries}
 use Rattle.csr.proofs.Rule.{stored-diag}
 use Rattle.base.specs.Sums.{sum, one}
 use Rattle.csr.specs.Counts.{isStored, countE, countD}
-use Rattle.pattern.specs.Word.{bit, digit, Done, Whole, OtherRows, rowOnes, Clear}
+use Rattle.pattern.specs.Word.{patternWords, bit, digit, Done, Whole, OtherRows, rowOnes, Clear}
 use Rattle.pattern.specs.Ready.{Ready}
 use Rattle.base.proofs.Sums.{sum-ext, sum-plus, sum-cut}
 use Rattle.pattern.proofs.Digits.{digit-zero}
@@ -42,7 +42,7 @@ rows-all nb p m d z i b h l = go (decLt i m)
     go (yes u) = d i u b l ∙ ap (λ (t : Bool). t && (leb b i && stored nb i b)) (sym (lt-ltb i m u))
     go (no u) = z i (omega arith) h b l ∙ ap (λ (t : Bool). t && (leb b i && stored nb i b)) (sym (le-ltb i m (omega arith)))
 
-pub rows-ready : (off cols p : List ℕ) (m : ℕ) → Csr off cols m → length cols ≤ maxEntries → length p ≡ 1024 → Whole (neighbours off cols) p m → Ready off cols m p
+pub rows-ready : (off cols p : List ℕ) (m : ℕ) → Csr off cols m → length cols ≤ maxEntries → length p ≡ patternWords → Whole (neighbours off cols) p m → Ready off cols m p
 rows-ready off cols p m g few long w = record {
   csr = g;
   short = few;

@@ -92,7 +92,7 @@ fn turn_after(statuses: [Status; 4], width: usize, limit: usize, k: usize) -> Tu
     Turn::Steps
 }
 
-// The tests up to the limit, with a step between one and the next. At every test made each lane has its machine's numbers: under the limit j, for each j up to the number of tests made under any other, they are in the memory at the end. What dx, dz, tmp, dy, rhs, dw and the factor hold there is open: a step writes them before it reads them.
+// The tests up to the limit, with a step between one and the next. At every test made each lane has its machine's numbers: under the limit j, for each j up to the number of tests made under any limit, they are in the memory at the end. What dx, dz, tmp, dy, rhs, dw and the factor hold there is open: a step writes them before it reads them.
 pub fn run(
     off: &[u32],
     cols: &[u32],
