@@ -11,7 +11,8 @@
  * Pointers: none is NULL, even where the length after it is 0; each is aligned to its element; the parts must not
  * overlap. A length counts elements, not bytes. Parts without `const` are written as said below, the others only read.
  *
- * Lanes: in b, c and output lane l of entry k is at 4 * k + l.
+ * Lanes: in b, c, output and prices lane l of entry k is at 4 * k + l. An entry of b or prices is a row, an entry of c
+ * or output is a column.
  */
 #ifndef IPM_H
 #define IPM_H
@@ -27,9 +28,10 @@ extern "C" {
 enum { IPM_LANES = 4, IPM_ROWS_MOST = 256, IPM_COLUMNS_MOST = 1024, IPM_ENTRIES_MOST = 16384, IPM_TESTS_MOST = 10000 };
 
 /*
- * An answer is question * 2^40 + place * 2^8 + lane. Question 0 is a yes; its place is W (ipm_plan) or the test at
- * which all lanes were done, counted from 1 (ipm_solve). Any other question is the first that had a no. Place and
- * lane are 0 where nothing is said of them.
+ * An answer is length * 2^48 + question * 2^40 + place * 2^8 + lane. Question 0 is a yes; its place is W (ipm_plan) or
+ * the test at which all lanes were done, counted from 1 (ipm_solve). Any other question is the first that had a no.
+ * Length is 4 m, the numbers written to `prices`, after a yes of ipm_solve. Length, place and lane are 0 where nothing
+ * is said of them.
  */
 enum {
     IPM_YES = 0,
@@ -40,14 +42,15 @@ enum {
     IPM_COLUMN_ORDER = 5, /* a row's columns do not rise strictly or reach n; place: the first such row */
     IPM_INDEX = 6,        /* the index memory has fewer than W words */
     IPM_SLACK_ROWS = 7,   /* s is above m */
-    IPM_LENGTHS = 8,      /* b, c, tolerances or output is not exactly as long as stated */
+    IPM_LENGTHS = 8,      /* b, c, tolerances, output or prices is not exactly as long as stated */
     IPM_WORK = 9,         /* the working memory has fewer than F numbers */
     IPM_LIMIT = 10,       /* the limit is not from 1 to 10,000 */
     IPM_SPOILT = 11,      /* a lane met a NaN; place: the test, lane: the lowest such lane */
     IPM_NOT_DONE = 12     /* not all lanes were done at any test up to the limit; place: the limit */
 };
 
-static inline unsigned ipm_question(uint64_t answer) { return (unsigned)(answer >> 40); }
+static inline size_t ipm_length(uint64_t answer) { return (size_t)(answer >> 48); }
+static inline unsigned ipm_question(uint64_t answer) { return (unsigned)(answer >> 40 & 0xff); }
 static inline uint32_t ipm_place(uint64_t answer) { return (uint32_t)(answer >> 8); }
 static inline unsigned ipm_lane(uint64_t answer) { return (unsigned)(answer & 0xff); }
 
@@ -67,7 +70,10 @@ uint64_t ipm_plan(
 /*
  * Solves the four lanes: asks questions 1 to 12 in order. A no at 1 to 10 changes nothing. After 11, 12 or a yes the
  * first W words of `index` hold the plan, the first F numbers of `work` are +0.0, and the rest of both is as before.
- * `output` changes only after a yes, when it holds x.
+ * After a yes `output` holds x and `prices` holds y. After any no, 11 and 12 too, both are as before.
+ *
+ * y of row i is the row's shadow price: how much more c.x the lane could have for one more unit of that row's b, while
+ * the same rows bind and to the tolerances. In the first s rows it is not negative at the optimum.
  */
 uint64_t ipm_solve(
     size_t m,                                    /* rows, 1 to 256 */
@@ -81,6 +87,7 @@ uint64_t ipm_solve(
     const double *tolerances, size_t tolerances_len, /* 12: four primal, four dual, four optimality */
     size_t limit,                                /* tests to make at most, 1 to 10,000 */
     double *output, size_t output_len,           /* 4 n: x, lane l of column e at 4 e + l */
+    double *prices, size_t prices_len,           /* 4 m: y, lane l of row i at 4 i + l */
     uint32_t *index, size_t index_len,           /* at least W words; see ipm_index_enough */
     double *work, size_t work_len);              /* at least F numbers; see ipm_work_enough */
 
@@ -127,7 +134,7 @@ static inline const char *ipm_text(uint64_t answer) {
         "a row's columns do not rise strictly or reach the number of columns",
         "the index memory is too small",
         "there are more slack rows than rows",
-        "b, c, tolerances or output has the wrong length",
+        "b, c, tolerances, output or prices has the wrong length",
         "the working memory is too small",
         "the limit is not from 1 to 10,000",
         "a lane met a NaN",

@@ -1,10 +1,10 @@
-//! Before anything is timed: the same lists, the same test and the same bits of x.
+//! Before anything is timed: the same lists, the same test and the same bits of x and y.
 
 use std::panic::{AssertUnwindSafe, catch_unwind};
 
 use crate::ours::Ours;
 use crate::problem::Problem;
-use crate::rust;
+use crate::rust::{self, Solved};
 
 /// Entries of the factor, words of the plan and the accepting test.
 #[derive(Clone, Copy)]
@@ -21,8 +21,8 @@ fn bits(numbers: &[f64]) -> Vec<u64> {
     numbers.iter().map(|number| number.to_bits()).collect()
 }
 
-/// The Rust's x, or none if it panics.
-fn rust_x(problem: &Problem, limit: usize) -> Option<Vec<f64>> {
+/// The Rust's x and y, or none if it panics.
+fn rust_solved(problem: &Problem, limit: usize) -> Option<Solved> {
     let problem = problem.with_limit(limit);
     catch_unwind(AssertUnwindSafe(|| rust::solve_with(&mut rust::solver(&problem), &problem))).ok()
 }
@@ -41,10 +41,14 @@ pub fn check(problem: &Problem) -> Result<(Ours, Counts), String> {
         return Err(format!("not accepted: {solved:?}"));
     }
     let tests = solved.place as usize;
-    if rust_x(problem, tests).map(|x| bits(&x)) != Some(bits(ours.x())) {
-        return Err(format!("x differs, or the Rust is not done at test {tests}"));
+    let theirs = rust_solved(problem, tests).ok_or_else(|| format!("the Rust is not done at test {tests}"))?;
+    if bits(&theirs.x) != bits(ours.x()) {
+        return Err(format!("x differs at test {tests}"));
     }
-    if tests > 1 && rust_x(problem, tests - 1).is_some() {
+    if bits(&theirs.y) != bits(ours.y()) {
+        return Err(format!("y differs at test {tests}"));
+    }
+    if tests > 1 && rust_solved(problem, tests - 1).is_some() {
         return Err(format!("the Rust is done before test {tests}"));
     }
     Ok((ours, Counts { stored, words: rust_words.len(), tests }))

@@ -139,7 +139,7 @@ fn run(seconds: f64, names: &[String]) -> Result<(), String> {
         println!("{}", row(&case, counts, &times));
     }
     println!();
-    println!("Plans, tests and bits of x agree in every case.");
+    println!("Plans, tests and bits of x and y agree in every case.");
     Ok(())
 }
 

@@ -8,6 +8,7 @@ pub struct Ours {
     matrix: library::Matrix,
     problem: Problem,
     output: Vec<f64>,
+    prices: Vec<f64>,
     index: Vec<u32>,
     work: Vec<f64>,
 }
@@ -28,6 +29,7 @@ impl Ours {
             },
             problem: problem.clone(),
             output: vec![0.0; LANES * matrix.n],
+            prices: vec![0.0; LANES * matrix.m],
             index: vec![0; words],
             work: vec![0.0; work],
         }
@@ -40,7 +42,8 @@ impl Ours {
     pub fn solve(&mut self, limit: usize) -> Answer {
         let Problem { b, c, tolerances, .. } = &self.problem;
         let sides = Sides { b, c, tolerances, limit };
-        let lent = Lent { output: &mut self.output, index: &mut self.index, work: &mut self.work };
+        let Ours { output, prices, index, work, .. } = self;
+        let lent = Lent { output, prices, index, work };
         library::solve(&self.matrix, sides, lent)
     }
 
@@ -50,5 +53,9 @@ impl Ours {
 
     pub fn x(&self) -> &[f64] {
         &self.output
+    }
+
+    pub fn y(&self) -> &[f64] {
+        &self.prices
     }
 }

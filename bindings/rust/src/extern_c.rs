@@ -31,6 +31,8 @@ unsafe extern "C" {
         limit: usize,
         output: *mut f64,
         output_len: usize,
+        prices: *mut f64,
+        prices_len: usize,
         index: *mut u32,
         index_len: usize,
         work: *mut f64,

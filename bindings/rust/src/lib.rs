@@ -1,7 +1,8 @@
 //! Four linear programs over one matrix, solved together by the proved solver in libipm_c.a.
 //!
 //! Lane l, from 0 to 3, asks to maximise c·x where A·x + w = b, x ≥ 0, and w ≥ 0 in the first rows (the inequalities)
-//! and absent in the others. The lanes share A; each has its own b, c and tolerances.
+//! and absent in the others. The lanes share A; each has its own b, c and tolerances. A [`Solution`] has each lane's x
+//! and the prices of its rows, y.
 //!
 //! [`Solver`] sizes and owns the memory that the library is lent. Every answer is the library's own, a refusal too:
 //! see [`Refusal`]. A caller with memory of its own calls [`library`].

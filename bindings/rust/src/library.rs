@@ -3,18 +3,21 @@
 
 use crate::extern_c;
 
-/// An answer taken apart. Question 0 is a yes, and its place is W or the test.
+/// An answer taken apart. Question 0 is a yes, and its place is W or the test. Length is that of y after an accepted
+/// solve, and 0 otherwise.
 #[derive(Clone, Copy, Debug, PartialEq, Eq)]
 pub struct Answer {
+    pub length: u16,
     pub question: u32,
     pub place: u32,
     pub lane: u8,
 }
 
 impl Answer {
-    /// question · 2^40 + place · 2^8 + lane.
+    /// length · 2^48 + question · 2^40 + place · 2^8 + lane.
     fn from_code(code: u64) -> Self {
-        Answer { question: (code >> 40) as u32, place: (code >> 8) as u32, lane: code as u8 }
+        let question = (code >> 40) as u8;
+        Answer { length: (code >> 48) as u16, question: question.into(), place: (code >> 8) as u32, lane: code as u8 }
     }
 }
 
@@ -38,9 +41,10 @@ pub struct Sides<'a> {
     pub limit: usize,
 }
 
-/// The memory that a solve writes.
+/// The memory that a solve writes: after a yes x is in `output` and y in `prices`.
 pub struct Lent<'a> {
     pub output: &'a mut [f64],
+    pub prices: &'a mut [f64],
     pub index: &'a mut [u32],
     pub work: &'a mut [f64],
 }
@@ -63,7 +67,7 @@ pub fn plan(matrix: &Matrix, index: &mut [u32]) -> Answer {
     })
 }
 
-/// Questions 1 to 12 and x.
+/// Questions 1 to 12, x and y.
 pub fn solve(matrix: &Matrix, sides: Sides<'_>, lent: Lent<'_>) -> Answer {
     // Safety: as for `plan`.
     Answer::from_code(unsafe {
@@ -86,6 +90,8 @@ pub fn solve(matrix: &Matrix, sides: Sides<'_>, lent: Lent<'_>) -> Answer {
             sides.limit,
             lent.output.as_mut_ptr(),
             lent.output.len(),
+            lent.prices.as_mut_ptr(),
+            lent.prices.len(),
             lent.index.as_mut_ptr(),
             lent.index.len(),
             lent.work.as_mut_ptr(),
@@ -106,8 +112,10 @@ mod tests {
     #[test]
     fn an_answer_is_taken_apart() {
         let code = (11 << 40) + (10_000 << 8) + 3;
-        assert_eq!(Answer::from_code(code), Answer { question: 11, place: 10_000, lane: 3 });
-        let widest = (12 << 40) + (u64::from(u32::MAX) << 8) + 255;
-        assert_eq!(Answer::from_code(widest), Answer { question: 12, place: u32::MAX, lane: 255 });
+        assert_eq!(Answer::from_code(code), Answer { length: 0, question: 11, place: 10_000, lane: 3 });
+        let accepted = (1024 << 48) + (14 << 8);
+        assert_eq!(Answer::from_code(accepted), Answer { length: 1024, question: 0, place: 14, lane: 0 });
+        let widest = Answer { length: u16::MAX, question: 255, place: u32::MAX, lane: 255 };
+        assert_eq!(Answer::from_code(u64::MAX), widest);
     }
 }

@@ -40,11 +40,14 @@ pub struct Lane<'a> {
     pub c: &'a [f64],
 }
 
-/// The four lanes' x.
+/// The four lanes' x and y.
 #[derive(Clone, Copy, Debug, PartialEq)]
 pub struct Solution<'a> {
     /// For each column the number of each lane.
     pub x: &'a [[f64; LANES]],
+    /// For each row its price in each lane: how much more c·x the lane could have for one more unit of the row's b,
+    /// while the same rows bind and to the tolerances. No inequality has a price below zero at the optimum.
+    pub y: &'a [[f64; LANES]],
     /// The test, counted from 1, at which all lanes were done.
     pub test: usize,
 }
@@ -54,6 +57,11 @@ impl<'a> Solution<'a> {
     pub fn lane(&self, lane: usize) -> impl Iterator<Item = f64> + 'a {
         self.x.iter().map(move |entry| entry[lane])
     }
+
+    /// One lane's y, row by row.
+    pub fn lane_prices(&self, lane: usize) -> impl Iterator<Item = f64> + 'a {
+        self.y.iter().map(move |entry| entry[lane])
+    }
 }
 
 /// A matrix with the memory that its solves need.
@@ -61,6 +69,7 @@ impl<'a> Solution<'a> {
 pub struct Solver {
     matrix: Matrix,
     output: Vec<[f64; LANES]>,
+    prices: Vec<[f64; LANES]>,
     index: Vec<u32>,
     work: Vec<f64>,
 }
@@ -89,8 +98,9 @@ impl Solver {
         let plan_words = Refusal::unless_yes(library::plan(&matrix, &mut index))?;
         index.truncate(plan_words);
         index.shrink_to_fit();
-        let (output, work) = (vec![[0.0; LANES]; matrix.n], vec![0.0; work_enough(&matrix)]);
-        Ok(Solver { matrix, output, index, work })
+        let (output, prices) = (vec![[0.0; LANES]; matrix.n], vec![[0.0; LANES]; matrix.m]);
+        let work = vec![0.0; work_enough(&matrix)];
+        Ok(Solver { matrix, output, prices, index, work })
     }
 
     /// Solves the four lanes. Entry k of `b` and `c` holds the four lanes of row or column k.
@@ -108,9 +118,14 @@ impl Solver {
             tolerances: listed.as_flattened(),
             limit: max_iterations.get(),
         };
-        let lent = Lent { output: self.output.as_flattened_mut(), index: &mut self.index, work: &mut self.work };
+        let lent = Lent {
+            output: self.output.as_flattened_mut(),
+            prices: self.prices.as_flattened_mut(),
+            index: &mut self.index,
+            work: &mut self.work,
+        };
         let test = Refusal::unless_yes(library::solve(&self.matrix, sides, lent))?;
-        Ok(Solution { x: &self.output, test })
+        Ok(Solution { x: &self.output, y: &self.prices, test })
     }
 
     /// Solves four problems given one by one.
@@ -142,7 +157,8 @@ fn together(lanes: [&[f64]; LANES], length: usize) -> Result<Vec<[f64; LANES]>, 
 /// Questions 1 to 7. A solve that is lent no b has a no at 8 once these have a yes, and changes nothing.
 fn ask_about(matrix: &Matrix, index: &mut [u32]) -> Result<(), Refusal> {
     let sides = Sides { b: &[], c: &[], tolerances: &[], limit: 1 };
-    let answer = library::solve(matrix, sides, Lent { output: &mut [], index, work: &mut [] });
+    let lent = Lent { output: &mut [], prices: &mut [], index, work: &mut [] };
+    let answer = library::solve(matrix, sides, lent);
     if answer.question == LENGTHS {
         return Ok(());
     }

@@ -2,6 +2,7 @@
 
 use std::num::NonZeroUsize;
 
+use ipm::library::{self, Answer, Lent, Matrix, Sides};
 use ipm::{LANES, Lane, Refusal, Solver, Tolerances};
 
 fn limit(tests: usize) -> NonZeroUsize {
@@ -25,9 +26,52 @@ fn three_rows() -> Solver {
 
 const SIDES: [[f64; 3]; LANES] = [[4.0, 3.0, 2.0], [5.0, 3.0, 2.0], [2.0, 3.0, 2.0], [10.0, 1.0, 1.0]];
 const BEST: [[f64; 2]; LANES] = [[3.0, 1.0], [3.0, 2.0], [2.0, 0.0], [1.0, 1.0]];
+const NEAR: f64 = 1e-6;
 
 fn lanes(sides: &[[f64; 3]; LANES]) -> [Lane<'_>; LANES] {
     sides.each_ref().map(|b| Lane { b, c: &[2.0, 1.0] })
+}
+
+/// x, then y.
+fn solved(solver: &mut Solver, sides: &[[f64; 3]; LANES]) -> Vec<[f64; LANES]> {
+    let solution = solver.solve_lanes(lanes(sides), &Tolerances::default(), limit(100)).expect("a yes");
+    [solution.x, solution.y].concat()
+}
+
+/// The matrix of `smallest`, to be lent.
+fn smallest_matrix() -> Matrix {
+    Matrix { m: 1, n: 1, s: 1, offsets: vec![0, 1], columns: vec![0], values: vec![1.0] }
+}
+
+/// The matrix of `three_rows`, to be lent.
+fn three_rows_matrix() -> Matrix {
+    Matrix { m: 3, n: 2, s: 3, offsets: vec![0, 2, 3, 4], columns: vec![0, 1, 0, 1], values: vec![1.0; 4] }
+}
+
+/// Memory lent to a solve of a small matrix. Before the solve every number is one that no solve gives.
+struct Memory {
+    output: Vec<f64>,
+    prices: Vec<f64>,
+    index: Vec<u32>,
+    work: Vec<f64>,
+}
+
+impl Memory {
+    const BEFORE: f64 = -7.25;
+
+    fn new(output: usize, prices: usize) -> Self {
+        let numbers = |count| vec![Self::BEFORE; count];
+        Memory { output: numbers(output), prices: numbers(prices), index: vec![0; 100], work: numbers(200) }
+    }
+
+    fn solve(&mut self, matrix: &Matrix, sides: Sides<'_>) -> Answer {
+        let Memory { output, prices, index, work } = self;
+        library::solve(matrix, sides, Lent { output, prices, index, work })
+    }
+
+    fn outputs_are_as_before(&self) -> bool {
+        self.output.iter().chain(&self.prices).all(|&number| number == Self::BEFORE)
+    }
 }
 
 #[test]
@@ -36,6 +80,49 @@ fn wide_tolerances_are_met_at_test_1() {
     let solution = solver.solve(&[[1.0; LANES]], &[[1.0; LANES]], &everywhere(1e9), limit(1)).expect("a yes");
     assert_eq!(solution.test, 1);
     assert_eq!(solution.x, [[1000.0; LANES]]);
+    assert_eq!(solution.y, [[1000.0; LANES]]);
+}
+
+#[test]
+fn an_accepted_solve_says_the_length_of_y() {
+    for (matrix, length) in [(smallest_matrix(), 4), (three_rows_matrix(), 12)] {
+        let (b, c) = (vec![1.0; LANES * matrix.m], vec![1.0; LANES * matrix.n]);
+        let mut memory = Memory::new(c.len(), b.len());
+        let sides = Sides { b: &b, c: &c, tolerances: &[1e9; 3 * LANES], limit: 1 };
+        assert_eq!(memory.solve(&matrix, sides), Answer { length, question: 0, place: 1, lane: 0 });
+        assert_eq!(memory.prices, vec![1000.0; b.len()]);
+    }
+}
+
+#[test]
+fn a_plan_has_no_length() {
+    let plan = |words| library::plan(&smallest_matrix(), &mut vec![0; words]);
+    assert_eq!(plan(19), Answer { length: 0, question: 0, place: 19, lane: 0 });
+    assert_eq!(plan(18), Answer { length: 0, question: 6, place: 0, lane: 0 });
+}
+
+#[test]
+fn a_refused_solve_leaves_both_outputs() {
+    let matrix = three_rows_matrix();
+    let b = [4.0, 5.0, 2.0, 10.0, 3.0, 3.0, 3.0, 1.0, 2.0, 2.0, 2.0, 1.0];
+    let mut nan_in_lane_2 = b;
+    nan_in_lane_2[LANES + 2] = f64::NAN;
+    let c = [2.0, 2.0, 2.0, 2.0, 1.0, 1.0, 1.0, 1.0];
+    let (x_len, y_len) = (LANES * matrix.n, LANES * matrix.m);
+    for (b, prices, limit, question, place, lane) in [
+        (b, 0, 100, 8, 0, 0),
+        (b, y_len - 1, 100, 8, 0, 0),
+        (b, y_len + 1, 100, 8, 0, 0),
+        (b, x_len, 100, 8, 0, 0),
+        (b, y_len, 0, 10, 0, 0),
+        (nan_in_lane_2, y_len, 100, 11, 2, 2),
+        (b, y_len, 3, 12, 3, 0),
+    ] {
+        let mut memory = Memory::new(x_len, prices);
+        let sides = Sides { b: &b, c: &c, tolerances: &[1e-8; 3 * LANES], limit };
+        assert_eq!(memory.solve(&matrix, sides), Answer { length: 0, question, place, lane });
+        assert!(memory.outputs_are_as_before(), "question {question}, {prices} prices");
+    }
 }
 
 #[test]
@@ -44,17 +131,32 @@ fn each_lane_has_its_own_best() {
     let solution = solver.solve_lanes(lanes(&SIDES), &Tolerances::default(), limit(100)).expect("a yes");
     for (lane, best) in BEST.iter().enumerate() {
         let x: Vec<f64> = solution.lane(lane).collect();
-        assert!(x.iter().zip(best).all(|(p, q)| (p - q).abs() < 1e-6), "lane {lane}: {x:?}");
+        assert!(x.iter().zip(best).all(|(p, q)| (p - q).abs() < NEAR), "lane {lane}: {x:?}");
+    }
+}
+
+/// Prices that are nowhere negative and cover c in every column bound c·x by b·y; they are right if the two meet.
+#[test]
+fn a_lane_gets_the_price_of_its_limits() {
+    let mut solver = three_rows();
+    let solution = solver.solve_lanes(lanes(&SIDES), &Tolerances::default(), limit(100)).expect("a yes");
+    for (lane, b) in SIDES.iter().enumerate() {
+        let x: Vec<f64> = solution.lane(lane).collect();
+        let y: Vec<f64> = solution.lane_prices(lane).collect();
+        let paid: f64 = b.iter().zip(&y).map(|(p, q)| p * q).sum();
+        assert!((paid - (2.0 * x[0] + x[1])).abs() < NEAR, "lane {lane}: {x:?} {y:?}");
+        assert!(y.len() == 3 && y.iter().all(|&price| price > -NEAR), "lane {lane}: {y:?}");
+        assert!(y[0] + y[1] > 2.0 - NEAR && y[0] + y[2] > 1.0 - NEAR, "lane {lane}: {y:?}");
     }
 }
 
 #[test]
 fn a_solver_is_used_again() {
     let mut solver = three_rows();
-    let first = solver.solve_lanes(lanes(&SIDES), &Tolerances::default(), limit(100)).expect("a yes").x.to_vec();
+    let first = solved(&mut solver, &SIDES);
     let mut turned = SIDES;
     turned.rotate_right(1);
-    let second = solver.solve_lanes(lanes(&turned), &Tolerances::default(), limit(100)).expect("a yes").x.to_vec();
+    let second = solved(&mut solver, &turned);
     for (p, q) in first.iter().zip(&second) {
         assert_eq!(p.map(f64::to_bits), [q[1], q[2], q[3], q[0]].map(f64::to_bits), "lanes do not meet");
     }
@@ -63,11 +165,11 @@ fn a_solver_is_used_again() {
 #[test]
 fn interleaved_and_one_by_one_agree() {
     let mut solver = three_rows();
-    let one_by_one = solver.solve_lanes(lanes(&SIDES), &Tolerances::default(), limit(100)).expect("a yes").x.to_vec();
+    let one_by_one = solved(&mut solver, &SIDES);
     let b: [[f64; LANES]; 3] = std::array::from_fn(|row| SIDES.map(|side| side[row]));
     let c = [[2.0; LANES], [1.0; LANES]];
     let together = solver.solve(&b, &c, &Tolerances::default(), limit(100)).expect("a yes");
-    assert_eq!(together.x, one_by_one);
+    assert_eq!([together.x, together.y].concat(), one_by_one);
 }
 
 #[test]

@@ -10,8 +10,8 @@ pub data Verdict : Type 0 where
   passed : Verdict
   -- plan's W words
   planned : ℕ → Verdict
-  -- the test at which solve accepts
-  accepted : ℕ → Verdict
+  -- the test at which solve accepts, and how many numbers y has
+  accepted : ℕ → ℕ → Verdict
   -- the question, the place and the lane
   refused : ℕ → ℕ → ℕ → Verdict
 
@@ -24,7 +24,7 @@ ask false next other = other
 abbrev pub andThen : Verdict → Verdict → Verdict
 andThen passed next = next
 andThen (planned w) next = planned w
-andThen (accepted k) next = accepted k
+andThen (accepted k y) next = accepted k y
 andThen (refused q p l) next = refused q p l
 
 abbrev pub refusal : Refusal → Verdict

@@ -1,4 +1,4 @@
--- Every answer fits one number: places are below 2 ^ 32, lanes below 2 ^ 8. Assumes nothing.
+-- Every answer fits one number: lengths are below 2 ^ 16, places below 2 ^ 32, lanes below 2 ^ 8. Assumes nothing.
 use mathlib.Core.Path.{_≡_, refl, _∙_, ap}
 use mathlib.Core.Bool.{Bool, true, false, not, cond, _&&_, _||_}
 use mathlib.Core.List.{List}
@@ -22,8 +22,9 @@ use Rattle.machine.specs.declared.Outcome.{Outcome}
 use Rattle.machine.specs.declared.Outcome.the-variants.{Accepted as acceptedAt, NoAt11 as noAt11, NoAt12 as noAt12}
 use Rattle.machine.specs.Outcome.{isSpoilt, lowestSpoilt, someSpoilt, allDone, outcome, laneStatus, solved}
 use Rattle.machine.specs.Demand3.{Buffers}
+use Rattle.ipm_simd.specs.declared.Lengths.{Lengths}
 use Rattle.ipm_simd.specs.declared.SolveAnswer.{SolveAnswer}
-use Rattle.ipm_simd.specs.Solve.{Given, call, toldSolve, Solved, outcomeVerdict, lengthsRight, sizesVerdict, memoryVerdict, begun, solveVerdict}
+use Rattle.ipm_simd.specs.Solve.{Given, call, priceCount, lengthsOf, toldSolve, Solved, outcomeVerdict, lengthsRight, sizesVerdict, memoryVerdict, begun, solveVerdict}
 use Rattle.ipm_simd.proofs.Questions.{sizes-of}
 use Rattle.ipm_c.specs.Packed.{packed, SolvedInOne}
 use Rattle.lists.proofs.Few.{few-stored, few-shared, few-products}
@@ -32,7 +33,7 @@ use Rattle.lists.proofs.Few.{few-stored, few-shared, few-products}
 abbrev pub Small : Verdict → Type 0
 Small passed = Unit {0}
 Small (planned w) = w < 2 ^ 32
-Small (accepted k) = k < 2 ^ 32
+Small (accepted k y) = (k < 2 ^ 32) × (y < 2 ^ 16)
 Small (refused q p l) = (q ≤ 12) × (p < 2 ^ 32) × (l < 2 ^ 8)
 
 small-ask : (t : Bool) (v w : Verdict) → (t ≡ true → Small v) → Small w → Small (ask t v w)
@@ -42,7 +43,7 @@ small-ask false v w h g = g
 small-then : (v w : Verdict) → Small v → (v ≡ passed → Small w) → Small (andThen v w)
 small-then passed w h g = g refl
 small-then (planned k) w h g = h
-small-then (accepted k) w h g = h
+small-then (accepted k y) w h g = h
 small-then (refused q p l) w h g = h
 
 -- W is below 2 ^ 32
@@ -93,32 +94,32 @@ small-plan m n off cols words =
 
 -- ---- the tests
 
-small-choice : (t : Bool) (o o′ : Outcome) → Small (outcomeVerdict o) → Small (outcomeVerdict o′) → Small (outcomeVerdict (cond t o o′))
-small-choice true o o′ h g = h
-small-choice false o o′ h g = g
+small-choice : (y : ℕ) (t : Bool) (o o′ : Outcome) → Small (outcomeVerdict y o) → Small (outcomeVerdict y o′) → Small (outcomeVerdict y (cond t o o′))
+small-choice y true o o′ h g = h
+small-choice y false o o′ h g = g
 
--- QUESTIONS 11 AND 12, of at most four lanes and under a limit that question 10 lets pass
-pub small-outcome : (K : ℕ) (says : ℕ → ℕ → Status) (N : ℕ) → K ≤ 4 → N ≤ 10000 → Small (outcomeVerdict (outcome K says N))
+-- QUESTIONS 11 AND 12, of at most four lanes, under a limit that question 10 lets pass, with y that is not too long
+pub small-outcome : (K : ℕ) (says : ℕ → ℕ → Status) (N y : ℕ) → K ≤ 4 → N ≤ 10000 → y < 2 ^ 16 → Small (outcomeVerdict y (outcome K says N))
 unfolding outcome lowestSpoilt
-small-outcome K says N few limit =
+small-outcome K says N y few limit short =
     let stops : ℕ → Bool = λ (i : ℕ). someSpoilt K says (i + 1) || allDone K says (i + 1) in
     let k = first N stops + 1 in
     let upTo = first-le stops N in
     let lane = first-le (λ (l : ℕ). isSpoilt (says l k)) K in
-    small-choice (eqb (first N stops) N) (noAt12 N) _ (omega arith, omega (arith, limit), omega arith)
-    (small-choice (someSpoilt K says k) (noAt11 k (lowestSpoilt K says k)) (acceptedAt k)
-    (omega arith, omega (arith, limit, upTo), omega (arith, few, lane)) (omega (arith, limit, upTo)))
+    small-choice y (eqb (first N stops) N) (noAt12 N) _ (omega arith, omega (arith, limit), omega arith)
+    (small-choice y (someSpoilt K says k) (noAt11 k (lowestSpoilt K says k)) (acceptedAt k)
+    (omega arith, omega (arith, limit, upTo), omega (arith, few, lane)) (omega (arith, limit, upTo), short))
 
 -- QUESTIONS 6 TO 10
 small-no : (q : ℕ) → q ≤ 12 → Small (refused q 0 0)
 small-no q h = (h, omega arith, omega arith)
 
-small-sizes : (W E m n s index b c tolerances output work N : ℕ) → Small (sizesVerdict W E m n s index b c tolerances output work N)
+small-sizes : (W E m n s : ℕ) (L : Lengths) (N : ℕ) → Small (sizesVerdict W E m n s L N)
 unfolding sizesVerdict
-small-sizes W E m n s index b c tolerances output work N =
+small-sizes W E m n s L N =
     let q7 = leb s m in
-    let q8 = lengthsRight m n b c tolerances output in
-    let q9 = leb (4 * (5 * n + 3 * m + 2 * s + E)) work in
+    let q8 = lengthsRight m n L in
+    let q9 = leb (4 * (5 * n + 3 * m + 2 * s + E)) (L .work) in
     let q10 = leb 1 N && leb N 10000 in
     let from10 = ask q10 passed (refused 10 0 0) in
     let from9 = ask q9 from10 (refused 9 0 0) in
@@ -128,14 +129,14 @@ small-sizes W E m n s index b c tolerances output work N =
     let s9 = small-ask q9 from10 (refused 9 0 0) (λ _. s10) (small-no 9 (omega arith)) in
     let s8 = small-ask q8 from9 (refused 8 0 0) (λ _. s9) (small-no 8 (omega arith)) in
     let s7 = small-ask q7 from8 (refused 7 0 0) (λ _. s8) (small-no 7 (omega arith)) in
-    small-ask (leb W index) from7 (refused 6 0 0) (λ _. s7) (small-no 6 (omega arith))
+    small-ask (leb W (L .index)) from7 (refused 6 0 0) (λ _. s7) (small-no 6 (omega arith))
 
--- a pass of two parts is a pass of the second
-pass-second : (v w : Verdict) → andThen v w ≡ passed → w ≡ passed
-pass-second passed w e = e
-pass-second (planned k) w e = let z : _≡_ {A = ℕ} 0 1 = cc in absurd (omega arith)
-pass-second (accepted k) w e = let z : _≡_ {A = ℕ} 0 1 = cc in absurd (omega arith)
-pass-second (refused q p l) w e = let z : _≡_ {A = ℕ} 0 1 = cc in absurd (omega arith)
+-- a pass of two parts is a pass of each
+passes : (v w : Verdict) → andThen v w ≡ passed → (v ≡ passed) × (w ≡ passed)
+passes passed w e = (refl, e)
+passes (planned k) w e = let z : _≡_ {A = ℕ} 0 1 = cc in absurd (omega arith)
+passes (accepted k y) w e = let z : _≡_ {A = ℕ} 0 1 = cc in absurd (omega arith)
+passes (refused q p l) w e = let z : _≡_ {A = ℕ} 0 1 = cc in absurd (omega arith)
 
 -- QUESTIONS 1 TO 12
 pub small-solve : (a : Given) (B : Buffers) → Small (solveVerdict a B)
@@ -145,10 +146,12 @@ small-solve a B =
     let E = countE (a .offsets) (a .columns) (a .m) in
     let first5 = firstNo (a .m) (a .n) (a .offsets) (a .columns) (length (a .values)) in
     small-then (andThen first5 (memoryVerdict a B)) _
-    (small-then first5 _ (small-first (a .m) (a .n) (a .offsets) (a .columns) (length (a .values))) (λ _. small-sizes W E (a .m) (a .n) (a .s) (length (B .index)) (length (a .b)) (length (a .c)) (length (a .tolerances)) (length (B .output)) (length (B .work)) (a .limit)))
+    (small-then first5 _ (small-first (a .m) (a .n) (a .offsets) (a .columns) (length (a .values))) (λ _. small-sizes W E (a .m) (a .n) (a .s) (lengthsOf a B) (a .limit)))
     (λ e.
-    let sizes = sizes-of W E (a .m) (a .n) (a .s) (length (B .index)) (length (a .b)) (length (a .c)) (length (a .tolerances)) (length (B .output)) (length (B .work)) (a .limit) (pass-second first5 (memoryVerdict a B) e) in
-    small-outcome 4 (laneStatus (call a)) (a .limit) (omega arith) (sizes .upTo))
+    let both = passes first5 (memoryVerdict a B) e in
+    let ok = accepted-of (a .m) (a .n) (a .offsets) (a .columns) (length (a .values)) (both .0) in
+    let sizes = sizes-of W E (a .m) (a .n) (a .s) (lengthsOf a B) (a .limit) (both .1) in
+    small-outcome 4 (laneStatus (call a)) (a .limit) (priceCount a) (omega arith) (sizes .upTo) (omega (arith, ok .csr .few)))
 
 -- what solve promises of its answer holds of the number
 pub in-one : {a : Given} {B B′ : Buffers} {r : SolveAnswer} {code : ℕ} → Solved a B B′ r → code ≡ packed (toldSolve r) → SolvedInOne a B B′ code

@@ -4,21 +4,21 @@ use Prim.Native.Nat.{ℕ, _+_, _*_, _^_}
 use Rattle.csr.specs.Verdict.{Verdict, passed, planned, accepted, refused}
 use Rattle.machine.specs.declared.Outcome.{Outcome}
 use Rattle.machine.specs.Demand3.{Buffers, Demand3}
-use Rattle.ipm_simd.specs.Solve.{Given, call, words, room, plannedHas, outcomeVerdict, begun, solveVerdict, solveBuffers}
+use Rattle.ipm_simd.specs.Solve.{Given, call, words, room, priceCount, plannedHas, outcomeVerdict, begun, solveVerdict, solveBuffers}
 
--- question · 2^40 + place · 2^8 + lane
-abbrev pub inOne : ℕ → ℕ → ℕ → ℕ
-inOne question place lane = question * 2 ^ 40 + place * 2 ^ 8 + lane
+-- length · 2^48 + question · 2^40 + place · 2^8 + lane
+abbrev pub inOne : ℕ → ℕ → ℕ → ℕ → ℕ
+inOne length question place lane = length * 2 ^ 48 + question * 2 ^ 40 + place * 2 ^ 8 + lane
 
--- question 0 is a yes, and its place is W, or the test
+-- question 0 is a yes, and its place is W, or the test with the number of y's numbers as its length
 abbrev pub packed : Verdict → ℕ
-packed passed = inOne 0 0 0
-packed (planned w) = inOne 0 w 0
-packed (accepted k) = inOne 0 k 0
-packed (refused q p l) = inOne q p l
+packed passed = inOne 0 0 0 0
+packed (planned w) = inOne 0 0 w 0
+packed (accepted k y) = inOne y 0 k 0
+packed (refused q p l) = inOne 0 q p l
 
 -- a solve with its answer in one number: the answer, the lent lists, and demand 3 whole once questions 1 to 10 got a yes
 pub record SolvedInOne (a : Given) (B B′ : Buffers) (r : ℕ) : Type 0 where
   pub answer : r ≡ packed (solveVerdict a B)
   pub buffers : B′ ≡ solveBuffers a B
-  pub demand3 : begun a B ≡ passed → (o : Outcome) × (r ≡ packed (outcomeVerdict o)) × Demand3 (call a) (words a) (room a) (plannedHas a) (a .limit) B B′ o
+  pub demand3 : begun a B ≡ passed → (o : Outcome) × (r ≡ packed (outcomeVerdict (priceCount a) o)) × Demand3 (call a) (words a) (room a) (plannedHas a) (a .limit) B B′ o

@@ -12,12 +12,13 @@ use ipm_simd::SolveAnswer;
 // The question of a yes.
 const YES: u32 = 0;
 
-// question · 2^40 + place · 2^8 + lane.
-fn pack(question: u32, place: usize, lane: u32) -> u64
-    requires { ⌜ (question ≤ 12) × (place < 2 ^ 32) × (lane < 2 ^ 8) ⌝ }
-    ensures { λ r. ⌜ r ≡ inOne question place lane ⌝ }
+// length · 2^48 + question · 2^40 + place · 2^8 + lane.
+fn pack(length: usize, question: u32, place: usize, lane: u32) -> u64
+    requires { ⌜ (length < 2 ^ 16) × (question ≤ 12) × (place < 2 ^ 32) × (lane < 2 ^ 8) ⌝ }
+    ensures { λ r. ⌜ r ≡ inOne length question place lane ⌝ }
 {
-    (question as u64) * 0x100_0000_0000 + (place as u64) * 0x100 + lane as u64
+    let front = (length as u64) * 0x1_0000_0000_0000 + (question as u64) * 0x100_0000_0000;
+    front + (place as u64) * 0x100 + lane as u64
 }
 
 // Questions 1 to 6, and after six yeses the plan.
@@ -33,12 +34,12 @@ pub extern "C" fn ipm_plan(
     ensures words { λ _. ⌜ now (index .exit) ≡ planIndex m n (now (offsets .entry)) (now (columns .entry)) (now (index .entry)) ⌝ }
 {
     match ipm_common::plan(m, n, offsets, columns, index) {
-        PlanAnswer::Planned(w) => pack(YES, w, 0),
-        PlanAnswer::Refused(r) => pack(r.question, r.place, r.lane),
+        PlanAnswer::Planned(w) => pack(0, YES, w, 0),
+        PlanAnswer::Refused(r) => pack(0, r.question, r.place, r.lane),
     }
 }
 
-// Questions 1 to 12, and after a yes x.
+// Questions 1 to 12, and after a yes x and y.
 #[no_mangle]
 pub extern "C" fn ipm_solve(
     m: usize,
@@ -52,10 +53,11 @@ pub extern "C" fn ipm_solve(
     tolerances: &[f64],
     limit: usize,
     output: &mut [f64],
+    prices: &mut [f64],
     index: &mut [u32],
     work: &mut [f64],
 ) -> u64
-    ensures { λ r. ⌜ SolvedInOne (given m n s (now (offsets .entry)) (now (columns .entry)) (now (values .entry)) (now (b .entry)) (now (c .entry)) (now (tolerances .entry)) limit) (lent (now (output .entry)) (now (index .entry)) (now (work .entry))) (lent (now (output .exit)) (now (index .exit)) (now (work .exit))) r ⌝ }
+    ensures { λ r. ⌜ SolvedInOne (given m n s (now (offsets .entry)) (now (columns .entry)) (now (values .entry)) (now (b .entry)) (now (c .entry)) (now (tolerances .entry)) limit) (lent (now (output .entry)) (now (prices .entry)) (now (index .entry)) (now (work .entry))) (lent (now (output .exit)) (now (prices .exit)) (now (index .exit)) (now (work .exit))) r ⌝ }
 {
     match ipm_simd::solve(
         m,
@@ -69,11 +71,12 @@ pub extern "C" fn ipm_solve(
         tolerances,
         limit,
         output,
+        prices,
         index,
         work,
     ) {
-        SolveAnswer::Accepted(k) => pack(YES, k, 0),
-        SolveAnswer::Refused(r) => pack(r.question, r.place, r.lane),
+        SolveAnswer::Accepted(k, y) => pack(y, YES, k, 0),
+        SolveAnswer::Refused(r) => pack(0, r.question, r.place, r.lane),
     }
 }
 

@@ -5,7 +5,7 @@ use Prim.Native.Nat.{ℕ, _+_, _-_, _*_, _<_}
 use native.Mathlib.Numerals.{add-one}
 use native.Mathlib.Omega.{arith}
 use lib.ListN.{length, set, take, drop, length-drop}
-use lib.Seq.{ext-getD, take-suc, length-take-le, drop-length, getD-drop}
+use lib.Seq.{ext-getD, take-suc, take-all, length-take-le, drop-length, getD-drop}
 use lib.Ieee.{Float, nan}
 use Rattle.base.proofs.Front.{put-next}
 use Rattle.lanes.specs.Lists.{at}
@@ -19,12 +19,13 @@ copied-next source old new i e h l =
     ∙ put-next (take i source) old i (at source i) (length-take-le i source (omega arith)) l
     ∙ ap (λ (x : List Float). x ++ drop (i + 1) old) (sym (take-suc source i nan h) ∙ ap (λ (k : ℕ). take k source) (sym (add-one i)))
 
-pub copied-all : (source old new : List Float) (i : ℕ) → new ≡ take i source ++ drop i old → i ≡ length old → new ≡ take (length old) source
-copied-all source old new i e h =
+pub copied-all : (source old new : List Float) (i : ℕ) → new ≡ take i source ++ drop i old → i ≡ length old → length old ≡ length source → new ≡ source
+copied-all source old new i e h s =
     e
-    ∙ ap (λ (k : ℕ). take k source ++ drop k old) h
-    ∙ ap (λ (x : List Float). take (length old) source ++ x) (drop-length old)
-    ∙ append-nil (take (length old) source)
+    ∙ ap (λ (k : ℕ). take i source ++ drop k old) h
+    ∙ ap (λ (x : List Float). take i source ++ x) (drop-length old)
+    ∙ append-nil (take i source)
+    ∙ take-all i source (omega arith)
 
 -- what lies behind the entries that were touched
 pub rest-same : (top k : ℕ) (old new : List Float) → Untouched 4 top old new → k ≡ 4 * top → drop k new ≡ drop k old

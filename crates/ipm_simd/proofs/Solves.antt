@@ -1,10 +1,11 @@
 -- From the parts of a solve to its contract. Assumes nothing.
-use mathlib.Core.Path.{_≡_, refl, sym, ap, _∙_}
+use mathlib.Core.Path.{_≡_, refl, sym, ap, ap₂, _∙_}
 use mathlib.Core.List.{List, _++_}
 use Prim.Native.Nat.{ℕ, suc, _+_, _-_, _*_, _≤_, _<_}
 use native.Mathlib.Omega.{arith}
-use lib.ListN.{length, take, drop, replicate}
+use lib.ListN.{length, drop, replicate}
 use lib.Ieee.{Float}
+use Rattle.base.specs.Numbers.{cut}
 use Rattle.csr.specs.Verdict.{Verdict, passed, andThen, refusal}
 use Rattle.csr.specs.declared.Refusal.{Refusal}
 use Rattle.csr.specs.Questions.{firstNo}
@@ -12,7 +13,9 @@ use Rattle.csr.specs.Csr.{Accepted}
 use Rattle.csr.specs.Counts.{countE, sizeW, sizeF}
 use Rattle.csr.specs.Pattern.{has, row, neighbours, stored}
 use Rattle.lanes.specs.Arithmetic.{null}
+use Rattle.lanes.specs.Lists.{at as elem}
 use Rattle.lanes.specs.Lanes.{room as roomIn}
+use Rattle.lanes.specs.Region.{reg}
 use Rattle.lanes.proofs.Regions.{room-fits}
 use Rattle.lists.specs.Lists.{shape, listOf}
 use Rattle.lists.specs.declared.Which.the-variants.{Lindptr, Lindices}
@@ -20,8 +23,8 @@ use Rattle.lists.proofs.Sizes.{plan-size}
 use Rattle.lists.proofs.Counts.{held-stored}
 use Rattle.machine.specs.declared.Outcome.{Outcome}
 use Rattle.machine.specs.declared.Outcome.the-variants.{Accepted as accepted, NoAt11 as noAt11, NoAt12 as noAt12}
-use Rattle.machine.specs.Machine.{standard}
-use Rattle.machine.specs.Outcome.{Call, solved}
+use Rattle.machine.specs.Machine.{State, standard}
+use Rattle.machine.specs.Outcome.{Call, solved, interleaved}
 use Rattle.machine.specs.Demand3.{Buffers, Memory, outputAfter, leaves}
 use Rattle.machine.specs.Work.{Ran}
 use Rattle.machine.proofs.Demand3.{solved-ends, demand3}
@@ -30,7 +33,7 @@ use Rattle.plan_laws.proofs.Low.{row-cut}
 use Rattle.plan_laws.proofs.Picked.{picked-has}
 use Rattle.layout.specs.declared.Block.{Block}
 use Rattle.layout.specs.declared.Plan.{Plan}
-use Rattle.layout.specs.Layout.{lAt, workingSize}
+use Rattle.layout.specs.Layout.{yAt, lAt, workingSize}
 use Rattle.memory.specs.Numbers.{Lent}
 use Rattle.layout.specs.Lists.{wordsAt}
 use Rattle.memory.specs.Planned.{Planned, Counted}
@@ -39,8 +42,8 @@ use Rattle.memory.proofs.Calls.{region-is, lanes-all}
 use Rattle.step.specs.Steps.{Untouched}
 use Rattle.ipm_simd.specs.declared.SolveAnswer.{SolveAnswer}
 use Rattle.ipm_simd.specs.declared.SolveAnswer.the-variants as answers
-use Rattle.ipm_simd.specs.Solve.{Given, lent, call, words, room, plannedHas, toldSolve, outcomeVerdict, sizesVerdict, memoryVerdict, begun, solveVerdict, ifPassed, solveBuffers, Solved}
-use Rattle.ipm_simd.specs.Parts.{Asked10, EntriesBelow, written, Finished, Continued}
+use Rattle.ipm_simd.specs.Solve.{Given, lent, call, words, room, priceCount, lengthsOf, plannedHas, toldSolve, outcomeVerdict, sizesVerdict, memoryVerdict, begun, solveVerdict, ifPassed, solveBuffers, Solved}
+use Rattle.ipm_simd.specs.Parts.{Asked10, EntriesBelow, outputFrom, Finished, Continued}
 use Rattle.ipm_common.specs.Plan.{written as indexed}
 use Rattle.ipm_common.proofs.Final.{written-yes, written-other}
 use Rattle.ipm_simd.proofs.Numbers.{rest-same}
@@ -77,7 +80,7 @@ abbrev four : Block
 four = record { total = 4; first = 0 }
 
 -- ---- before and after the tests
-module _ (a : Given) {output work : List Float} {index : List ℕ} {stored shared products : ℕ} (Q : Asked10 a (lent output index work) stored shared products) where
+module _ (a : Given) {output prices work : List Float} {index : List ℕ} {stored shared products : ℕ} (Q : Asked10 a (lent output prices index work) stored shared products) where
   pub lent-four : Lent four 4 (a .m) (a .n) (a .s) (a .b) (a .c) (a .tolerances)
   lent-four = record {
     rows = Q .ok .csr .few;
@@ -100,36 +103,46 @@ module _ (a : Given) {output work : List Float} {index : List ℕ} {stored share
       rw (lanes-all 4 (a .m) (a .b) (omega arith) (Q .b-long), lanes-all 4 (a .n) (a .c) (omega arith) (Q .c-long), lanes-all 4 3 (a .tolerances) (omega arith) (Q .tol-long))
       at R
 
-  output-is : (o : Outcome) (work1 : List Float) → length work1 ≡ length work → Ran (call a) (a .limit) (memoryIn (planOf a stored shared products) 4 work1) o
-      → written o (take (length output) work1) output ≡ outputAfter (call a) (λ q. q .x) (a .n) o output
-  output-is (accepted k) work1 s R =
-      let z : length output ≡ 4 * (0 + a .n) - 4 * 0 = omega (arith, Q .output) in
-      ap (λ (j : ℕ). take j work1) z
-      ∙ region-is 4 work1 0 (a .n) (omega arith) (omega (arith, s, Q .work))
-      ∙ ran-field (call a) R (λ q. q .x) (a .n) k refl (omega arith)
-  output-is (noAt11 k l) work1 s R = refl
-  output-is (noAt12 k) work1 s R = refl
+  -- an output that takes a region of the memory takes that list of each machine
+  module _ {N : ℕ} {M : Memory} {o : Outcome} (R : Ran (call a) N M o) (f : State → List Float) (at count : ℕ) (old work1 : List Float)
+      (is : (l : ℕ) → f (M l) ≡ reg 4 work1 at count l) (long : length old ≡ 4 * count) (fits : 4 * (at + count) ≤ length work1) where
+    pub output-is : outputFrom at o work1 old ≡ outputAfter (call a) f count o old
+    output-is = go o refl
+      where
+        go : (e : Outcome) → o ≡ e → outputFrom at e work1 old ≡ outputAfter (call a) f count e old
+        go (accepted k) q =
+            let z : 4 * at + length old ≡ 4 * (at + count) = omega (arith, long) in
+            ap (λ (j : ℕ). cut (4 * at) j work1) z
+            ∙ region-is 4 work1 at count (omega arith) fits
+            ∙ ap (interleaved 4 count) {x = λ l e. elem (reg 4 work1 at count l) e} {y = λ l e. elem (f (M l)) e} (λ i l e. elem (sym (is l) i) e)
+            ∙ ran-field (call a) R f count k q (omega arith)
+        go (noAt11 k l) q = refl
+        go (noAt12 k) q = refl
 
-  pub finished : {index1 : List ℕ} {work1 output1 work2 : List Float} {o : Outcome} {r : SolveAnswer}
+  pub finished : {index1 : List ℕ} {work1 output1 prices1 work2 : List Float} {o : Outcome} {r : SolveAnswer}
       → index1 ≡ words a ++ drop (sizeW (a .offsets) (a .columns) (a .m) (a .n)) index
       → Untouched 4 (lAt (a .n) (a .m) (a .s) + stored) work work1
       → Ran (call a) (a .limit) (memoryIn (planOf a stored shared products) 4 work1) o
-      → toldSolve r ≡ outcomeVerdict o
-      → output1 ≡ written o (take (length output) work1) output
+      → toldSolve r ≡ outcomeVerdict (length prices) o
+      → output1 ≡ outputFrom 0 o work1 output
+      → prices1 ≡ outputFrom (yAt (a .n)) o work1 prices
       → work2 ≡ replicate (workingSize 4 (a .m) (a .n) (a .s) stored) null ++ drop (workingSize 4 (a .m) (a .n) (a .s) stored) work1
-      → Finished a (lent output index work) (lent output1 index1 work2) r
-  finished {index1} {work1} {output1} {work2} {o} {r} ei U R er eo ew = record {
-    answer = er ∙ ap outcomeVerdict (R .answer);
+      → Finished a (lent output prices index work) (lent output1 prices1 index1 work2) r
+  finished {index1} {work1} {output1} {prices1} {work2} {o} {r} ei U R er eo ep ew = record {
+    answer = er ∙ ap₂ outcomeVerdict (Q .prices) (R .answer);
     buffers = all;
-    demand3 = demand3 (call a) (words a) (room a) (plannedHas a) (a .limit) (lent output index work) (lent output1 index1 work2) (solved (call a) (a .limit)) (memoryIn (planOf a stored shared products) 4 work1)
+    demand3 = demand3 (call a) (words a) (room a) (plannedHas a) (a .limit) (lent output prices index work) (lent output1 prices1 index1 work2) (solved (call a) (a .limit)) (memoryIn (planOf a stored shared products) 4 work1)
         (R .said) (R .tests) (λ i j l b. planned-stored (a .offsets) (a .columns) (a .m) i j b l) refl all;
   }
     where
       F : ℕ
       F = workingSize 4 (a .m) (a .n) (a .s) stored
 
-      out : output1 ≡ outputAfter (call a) (λ q. q .x) (a .n) (solved (call a) (a .limit)) output
-      out = eo ∙ output-is o work1 (U .size) R ∙ ap (λ (z : Outcome). outputAfter (call a) (λ q. q .x) (a .n) z output) (R .answer)
+      x-out : output1 ≡ outputAfter (call a) (λ q. q .x) (a .n) (solved (call a) (a .limit)) output
+      x-out = eo ∙ output-is R (λ q. q .x) 0 (a .n) output work1 (λ l. refl) (Q .output) (omega (arith, U .size, Q .work)) ∙ ap (λ (z : Outcome). outputAfter (call a) (λ q. q .x) (a .n) z output) (R .answer)
+
+      y-out : prices1 ≡ outputAfter (call a) (λ q. q .y) (a .m) (solved (call a) (a .limit)) prices
+      y-out = ep ∙ output-is R (λ q. q .y) (yAt (a .n)) (a .m) prices work1 (λ l. refl) (Q .prices) (omega (arith, U .size, Q .work)) ∙ ap (λ (z : Outcome). outputAfter (call a) (λ q. q .y) (a .m) z prices) (R .answer)
 
       plan : index1 ≡ words a ++ drop (length (words a)) index
       plan = ei ∙ ap (λ (k : ℕ). words a ++ drop k index) (sym (plan-size (a .offsets) (a .columns) (a .m) (a .n) (Q .ok)))
@@ -140,35 +153,35 @@ module _ (a : Given) {output work : List Float} {index : List ℕ} {stored share
           ∙ ap (λ (x : List Float). replicate F null ++ x) (rest-same (lAt (a .n) (a .m) (a .s) + stored) F work work1 U (omega arith))
           ∙ ap (λ (k : ℕ). replicate k null ++ drop k work) (room-of (a .offsets) (a .columns) (a .m) (a .n) (a .s) stored (Q .counts .stored))
 
-      all : lent output1 index1 work2 ≡ leaves (call a) (words a) (room a) (a .limit) (lent output index work)
-      all = λ i. record { output = out i; index = plan i; work = clear i }
+      all : lent output1 prices1 index1 work2 ≡ leaves (call a) (words a) (room a) (a .limit) (lent output prices index work)
+      all = λ i. record { output = x-out i; prices = y-out i; index = plan i; work = clear i }
 
 -- ---- questions 6 to 10
 module _ (a : Given) (B : Buffers) where
   -- the verdict of questions 6 to 10, of the counted E, S and D
   memory-is : (stored shared products : ℕ) → Counted (a .offsets) (a .columns) (a .m) stored shared products
-      → sizesVerdict (wordsAt (planOf a stored shared products)) stored (a .m) (a .n) (a .s) (length (B .index)) (length (a .b)) (length (a .c)) (length (a .tolerances)) (length (B .output)) (length (B .work)) (a .limit)
-      ≡ memoryVerdict a B
+      → sizesVerdict (wordsAt (planOf a stored shared products)) stored (a .m) (a .n) (a .s) (lengthsOf a B) (a .limit) ≡ memoryVerdict a B
   unfolding memoryVerdict
   memory-is stored shared products c = rw (words-of (a .offsets) (a .columns) (a .m) (a .n) (a .s) stored shared products c, c .stored)
 
   module _ (stored shared products : ℕ) (c : Counted (a .offsets) (a .columns) (a .m) stored shared products) where
     abbrev verdict : Verdict
-    verdict = sizesVerdict (wordsAt (planOf a stored shared products)) stored (a .m) (a .n) (a .s) (length (B .index)) (length (a .b)) (length (a .c)) (length (a .tolerances)) (length (B .output)) (length (B .work)) (a .limit)
+    verdict = sizesVerdict (wordsAt (planOf a stored shared products)) stored (a .m) (a .n) (a .s) (lengthsOf a B) (a .limit)
 
     pub asked-all : Accepted (a .offsets) (a .columns) (a .m) (a .n) → length (a .values) ≡ length (a .columns) → passed ≡ verdict → Asked10 a B stored shared products
     asked-all ok values v =
-        let q = sizes-of _ stored (a .m) (a .n) (a .s) (length (B .index)) (length (a .b)) (length (a .c)) (length (a .tolerances)) (length (B .output)) (length (B .work)) (a .limit) (sym v) in
+        let q = sizes-of _ stored (a .m) (a .n) (a .s) (lengthsOf a B) (a .limit) (sym v) in
         record {
           ok = ok;
           values = values;
           counts = c;
           index = omega (arith, words-of (a .offsets) (a .columns) (a .m) (a .n) (a .s) stored shared products c, q .index-long);
           slack = q .slack;
-          b-long = q .b-long;
-          c-long = q .c-long;
-          tol-long = q .tolerances-long;
-          output = q .output-long;
+          b-long = q .lengths .b-long;
+          c-long = q .lengths .c-long;
+          tol-long = q .lengths .tolerances-long;
+          output = q .lengths .output-long;
+          prices = q .lengths .prices-long;
           work = omega (arith, q .work-long);
           from = q .from;
           upTo = q .upTo;
@@ -178,7 +191,7 @@ module _ (a : Given) (B : Buffers) where
     go-on {B′} {r} v F =
         let z : memoryVerdict a B ≡ passed = sym (v ∙ memory-is stored shared products c) in
         record {
-          answer = F .answer ∙ ap (λ (x : Verdict). andThen x (outcomeVerdict (solved (call a) (a .limit)))) (sym z);
+          answer = F .answer ∙ ap (λ (x : Verdict). andThen x (outcomeVerdict (priceCount a) (solved (call a) (a .limit)))) (sym z);
           buffers = F .buffers ∙ ap (λ (x : Verdict). ifPassed a x (leaves (call a) (words a) (room a) (a .limit) B) B) (sym z);
           demand3 = λ _. F .demand3;
         }
@@ -187,22 +200,22 @@ module _ (a : Given) (B : Buffers) where
     refused-here r v =
         let z : memoryVerdict a B ≡ refusal r = sym (v ∙ memory-is stored shared products c) in
         record {
-          answer = ap (λ (x : Verdict). andThen x (outcomeVerdict (solved (call a) (a .limit)))) (sym z);
+          answer = ap (λ (x : Verdict). andThen x (outcomeVerdict (priceCount a) (solved (call a) (a .limit)))) (sym z);
           buffers = ap (λ (x : Verdict). ifPassed a x (leaves (call a) (words a) (room a) (a .limit) B) B) (sym z);
           demand3 = λ p. absurd (not-passed (r .question) (r .place) (r .lane) (sym z ∙ p));
         }
 
-    module _ (below : ℕ) (bound : EntriesBelow (a .m) (a .n) (a .s) (length (a .b)) (length (a .c)) (length (a .tolerances)) (length (B .output)) (length (B .work)) (a .limit) below) where
+    module _ (below : ℕ) (bound : EntriesBelow (a .m) (a .n) (a .s) (lengthsOf a B) (a .limit) below) where
       -- the index memory after ten yeses, and after a no
       pub index-planned : passed ≡ verdict → indexed below (a .m) (a .n) (a .offsets) (a .columns) (B .index) ≡ words a ++ drop (sizeW (a .offsets) (a .columns) (a .m) (a .n)) (B .index)
       index-planned v =
-          let q = sizes-of _ stored (a .m) (a .n) (a .s) (length (B .index)) (length (a .b)) (length (a .c)) (length (a .tolerances)) (length (B .output)) (length (B .work)) (a .limit) (sym v) in
-          written-yes (a .m) (a .n) (a .offsets) (a .columns) (B .index) below (omega (arith, c .stored, bound .under _ stored _ (sym v))) (omega (arith, words-of (a .offsets) (a .columns) (a .m) (a .n) (a .s) stored shared products c, q .index-long))
+          let q = sizes-of _ stored (a .m) (a .n) (a .s) (lengthsOf a B) (a .limit) (sym v) in
+          written-yes (a .m) (a .n) (a .offsets) (a .columns) (B .index) below (omega (arith, c .stored, bound .under _ stored (sym v))) (omega (arith, words-of (a .offsets) (a .columns) (a .m) (a .n) (a .s) stored shared products c, q .index-long))
 
       pub index-kept : (r : Refusal) → refusal r ≡ verdict → indexed below (a .m) (a .n) (a .offsets) (a .columns) (B .index) ≡ B .index
       index-kept r v =
           written-other (a .m) (a .n) (a .offsets) (a .columns) (B .index) below
-          (λ l w. not-passed (r .question) (r .place) (r .lane) (v ∙ bound .yes _ stored _ (omega (arith, words-of (a .offsets) (a .columns) (a .m) (a .n) (a .s) stored shared products c, w)) (omega (arith, c .stored, l))))
+          (λ l w. not-passed (r .question) (r .place) (r .lane) (v ∙ bound .yes _ stored (omega (arith, words-of (a .offsets) (a .columns) (a .m) (a .n) (a .s) stored shared products c, w)) (omega (arith, c .stored, l))))
 
       -- what the tests start from, where the index memory is as `plan_below` leaves it
       pub planned-here : (ok : Accepted (a .offsets) (a .columns) (a .m) (a .n)) → length (a .values) ≡ length (a .columns) → {index : List ℕ} → index ≡ indexed below (a .m) (a .n) (a .offsets) (a .columns) (B .index)
@@ -225,9 +238,9 @@ module _ (a : Given) (B : Buffers) where
   unfolding begun
   begun-is v e = ap (λ (x : Verdict). andThen x (memoryVerdict a B)) e
 
-  verdict-is : (v : Verdict) → begun a B ≡ v → solveVerdict a B ≡ andThen v (outcomeVerdict (solved (call a) (a .limit)))
+  verdict-is : (v : Verdict) → begun a B ≡ v → solveVerdict a B ≡ andThen v (outcomeVerdict (priceCount a) (solved (call a) (a .limit)))
   unfolding solveVerdict
-  verdict-is v e = ap (λ (x : Verdict). andThen x (outcomeVerdict (solved (call a) (a .limit)))) e
+  verdict-is v e = ap (λ (x : Verdict). andThen x (outcomeVerdict (priceCount a) (solved (call a) (a .limit)))) e
 
   buffers-are : (v : Verdict) → begun a B ≡ v → solveBuffers a B ≡ ifPassed a v (leaves (call a) (words a) (room a) (a .limit) B) B
   unfolding solveBuffers
@@ -241,7 +254,7 @@ module _ (a : Given) (B : Buffers) where
         buffers = K .buffers ∙ sym (buffers-are (memoryVerdict a B) z);
         demand3 = λ p.
             let q : memoryVerdict a B ≡ passed = sym z ∙ p in
-            (solved (call a) (a .limit), K .answer ∙ ap (λ (x : Verdict). andThen x (outcomeVerdict (solved (call a) (a .limit)))) q, K .demand3 q);
+            (solved (call a) (a .limit), K .answer ∙ ap (λ (x : Verdict). andThen x (outcomeVerdict (priceCount a) (solved (call a) (a .limit)))) q, K .demand3 q);
       }
 
   pub solved-not : (r : Refusal) → refusal r ≡ early → Solved a B B (answers.Refused r)

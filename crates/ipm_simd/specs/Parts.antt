@@ -4,6 +4,7 @@ use mathlib.Core.List.{List, _++_}
 use Prim.Native.Nat.{ℕ, _+_, _*_, _<_, _≤_}
 use lib.ListN.{length, drop}
 use lib.Ieee.{Float}
+use Rattle.base.specs.Numbers.{cut}
 use Rattle.layout.specs.Layout.{workingSize}
 use Rattle.csr.specs.Csr.{Accepted}
 use Rattle.csr.specs.Counts.{sizeW}
@@ -14,8 +15,9 @@ use Rattle.machine.specs.Demand3.{Buffers, leaves, Demand3}
 use Rattle.csr.specs.Verdict.{passed, andThen}
 use Rattle.layout.specs.declared.Plan.{Plan}
 use Rattle.memory.specs.Planned.{Counted}
+use Rattle.ipm_simd.specs.declared.Lengths.{Lengths}
 use Rattle.ipm_simd.specs.declared.SolveAnswer.{SolveAnswer}
-use Rattle.ipm_simd.specs.Solve.{Given, lent, call, words, room, plannedHas, toldSolve, outcomeVerdict, sizesVerdict, memoryVerdict, ifPassed}
+use Rattle.ipm_simd.specs.Solve.{Given, lent, call, words, room, priceCount, plannedHas, toldSolve, outcomeVerdict, sizesVerdict, memoryVerdict, ifPassed}
 
 -- questions 1 to 10 got a yes, and E, S and D are counted
 pub record Asked10 (a : Given) (B : Buffers) (stored shared products : ℕ) : Type 0 where
@@ -28,14 +30,15 @@ pub record Asked10 (a : Given) (B : Buffers) (stored shared products : ℕ) : Ty
   pub c-long : length (a .c) ≡ 4 * a .n
   pub tol-long : length (a .tolerances) ≡ 12
   pub output : length (B .output) ≡ 4 * a .n
+  pub prices : length (B .prices) ≡ 4 * a .m
   pub work : workingSize 4 (a .m) (a .n) (a .s) stored ≤ length (B .work)
   pub from : 1 ≤ a .limit
   pub upTo : a .limit ≤ largestLimit
 
 -- questions 7 to 10 get a yes just where E is below r
-pub record EntriesBelow (m n s b c tolerances output work N r : ℕ) : Type 0 where
-  pub yes : (W E index : ℕ) → W ≤ index → E < r → sizesVerdict W E m n s index b c tolerances output work N ≡ passed
-  pub under : (W E index : ℕ) → sizesVerdict W E m n s index b c tolerances output work N ≡ passed → E < r
+pub record EntriesBelow (m n s : ℕ) (L : Lengths) (N r : ℕ) : Type 0 where
+  pub yes : (W E : ℕ) → W ≤ L .index → E < r → sizesVerdict W E m n s L N ≡ passed
+  pub under : (W E : ℕ) → sizesVerdict W E m n s L N ≡ passed → E < r
 
 -- on acceptance the new list, else the old
 abbrev pub written : Outcome → List Float → List Float → List Float
@@ -43,22 +46,26 @@ written (accepted k) new old = new
 written (noAt11 k l) new old = old
 written (noAt12 k) new old = old
 
+-- on acceptance an output takes the working memory from entry o on, as much as it is long
+abbrev pub outputFrom : ℕ → Outcome → List Float → List Float → List Float
+outputFrom o e work output = written e (cut (4 * o) (4 * o + length output) work) output
+
 -- the tests were made: the answer, the lent lists and demand 3
 pub record Finished (a : Given) (B B′ : Buffers) (r : SolveAnswer) : Type 0 where
-  pub answer : toldSolve r ≡ outcomeVerdict (solved (call a) (a .limit))
+  pub answer : toldSolve r ≡ outcomeVerdict (priceCount a) (solved (call a) (a .limit))
   pub buffers : B′ ≡ leaves (call a) (words a) (room a) (a .limit) B
   pub demand3 : Demand3 (call a) (words a) (room a) (plannedHas a) (a .limit) B B′ (solved (call a) (a .limit))
 
 -- the same of any index memory that the plan was written over
-abbrev pub Ends : Given → Plan → List Float → List Float → Buffers → SolveAnswer → Type 0
-Ends a p output work B′ r =
+abbrev pub Ends : Given → Plan → List Float → List Float → List Float → Buffers → SolveAnswer → Type 0
+Ends a p output prices work B′ r =
     (old : List ℕ)
-    → Asked10 a (lent output old work) (p .stored) (p .shared) (p .products)
+    → Asked10 a (lent output prices old work) (p .stored) (p .shared) (p .products)
     → B′ .index ≡ words a ++ drop (sizeW (a .offsets) (a .columns) (a .m) (a .n)) old
-    → Finished a (lent output old work) B′ r
+    → Finished a (lent output prices old work) B′ r
 
 -- questions 6 to 10, and then the tests
 pub record Continued (a : Given) (B B′ : Buffers) (r : SolveAnswer) : Type 0 where
-  pub answer : toldSolve r ≡ andThen (memoryVerdict a B) (outcomeVerdict (solved (call a) (a .limit)))
+  pub answer : toldSolve r ≡ andThen (memoryVerdict a B) (outcomeVerdict (priceCount a) (solved (call a) (a .limit)))
   pub buffers : B′ ≡ ifPassed a (memoryVerdict a B) (leaves (call a) (words a) (room a) (a .limit) B) B
   pub demand3 : memoryVerdict a B ≡ passed → Demand3 (call a) (words a) (room a) (plannedHas a) (a .limit) B B′ (solved (call a) (a .limit))

@@ -19,6 +19,7 @@ use Rattle.machine.specs.declared.Outcome.the-variants.{Accepted as accepted, N
 use Rattle.machine.specs.Outcome.{largestLimit, Call, solved}
 use Rattle.machine.specs.Demand3.{Buffers, leaves, Demand3}
 use Rattle.machine.specs.Work.{problemOf}
+use Rattle.ipm_simd.specs.declared.Lengths.{Lengths}
 use Rattle.ipm_simd.specs.declared.SolveAnswer.{SolveAnswer}
 use Rattle.ipm_simd.specs.declared.SolveAnswer.the-variants.{Accepted, Refused}
 
@@ -39,31 +40,31 @@ abbrev pub given : ℕ → ℕ → ℕ → List ℕ → List ℕ → List Float 
 given m n s offsets columns values b c tolerances limit =
     record { m = m; n = n; s = s; offsets = offsets; columns = columns; values = values; b = b; c = c; tolerances = tolerances; limit = limit }
 
-abbrev pub lent : List Float → List ℕ → List Float → Buffers
-lent output index work = record { output = output; index = index; work = work }
+abbrev pub lent : List Float → List Float → List ℕ → List Float → Buffers
+lent output prices index work = record { output = output; prices = prices; index = index; work = work }
 
 -- each case of the answer, by document 01's number and values
 abbrev pub toldSolve : SolveAnswer → Verdict
-toldSolve (Accepted k) = acceptedAt k
+toldSolve (Accepted k y) = acceptedAt k y
 toldSolve (Refused r) = refusal r
 
--- how the tests end, as an answer: 'accepted and the test'; 11 with its test and its lane; 12 with N
-abbrev pub outcomeVerdict : Outcome → Verdict
-outcomeVerdict (accepted k) = acceptedAt k
-outcomeVerdict (noAt11 k l) = refused 11 k l
-outcomeVerdict (noAt12 k) = refused 12 k 0
+-- how the tests end, as an answer, where y has so many numbers: 'accepted and the test', and that length beside it; 11 with its test and its lane; 12 with N
+abbrev pub outcomeVerdict : ℕ → Outcome → Verdict
+outcomeVerdict y (accepted k) = acceptedAt k y
+outcomeVerdict y (noAt11 k l) = refused 11 k l
+outcomeVerdict y (noAt12 k) = refused 12 k 0
 
--- question 8: 'Are b, c, tolerances and output exactly as long as stated?'
-abbrev pub lengthsRight : ℕ → ℕ → ℕ → ℕ → ℕ → ℕ → Bool
-lengthsRight m n b c tolerances output = eqb b (4 * m) && eqb c (4 * n) && eqb tolerances 12 && eqb output (4 * n)
+-- question 8: 'Are b, c, tolerances and output exactly as long as stated?', and the prices
+abbrev pub lengthsRight : ℕ → ℕ → Lengths → Bool
+lengthsRight m n L = eqb (L .b) (4 * m) && eqb (L .c) (4 * n) && eqb (L .tolerances) 12 && eqb (L .output) (4 * n) && eqb (L .prices) (4 * m)
 
 -- questions 6 to 10, by W, E, the sizes, the lengths of the lists, and N
-unfoldable pub sizesVerdict : ℕ → ℕ → ℕ → ℕ → ℕ → ℕ → ℕ → ℕ → ℕ → ℕ → ℕ → ℕ → Verdict
-sizesVerdict W E m n s index b c tolerances output work N =
-    ask (leb W index)
+unfoldable pub sizesVerdict : ℕ → ℕ → ℕ → ℕ → ℕ → Lengths → ℕ → Verdict
+sizesVerdict W E m n s L N =
+    ask (leb W (L .index))
     (ask (leb s m)
-    (ask (lengthsRight m n b c tolerances output)
-    (ask (leb (workingSize 4 m n s E) work)
+    (ask (lengthsRight m n L)
+    (ask (leb (workingSize 4 m n s E) (L .work))
     (ask (leb 1 N && leb N largestLimit)
     passed
     (refused 10 0 0))
@@ -92,6 +93,23 @@ module _ (a : Given) where
   abbrev pub room : ℕ
   room = sizeF (a .offsets) (a .columns) (a .m) (a .n) (a .s)
 
+  -- how many numbers y has
+  abbrev pub priceCount : ℕ
+  priceCount = call .K * a .m
+
+  -- how long the lists are
+  abbrev pub lengthsOf : Buffers → Lengths
+  lengthsOf B =
+      record {
+        index = length (B .index);
+        b = length (a .b);
+        c = length (a .c);
+        tolerances = length (a .tolerances);
+        output = length (B .output);
+        prices = length (B .prices);
+        work = length (B .work);
+      }
+
   -- row i of the plan's lindptr and lindices has j
   abbrev pub plannedHas : ℕ → ℕ → Bool
   plannedHas i j = has (row (listOf (shape (a .offsets) (a .columns)) Lindptr (a .m)) (listOf (shape (a .offsets) (a .columns)) Lindices (a .m)) i) j
@@ -100,8 +118,7 @@ module _ (a : Given) where
   unfoldable pub memoryVerdict : Buffers → Verdict
   unfolding sizesVerdict sizeW countE
   memoryVerdict B =
-      sizesVerdict (sizeW (a .offsets) (a .columns) (a .m) (a .n)) (countE (a .offsets) (a .columns) (a .m)) (a .m) (a .n) (a .s)
-      (length (B .index)) (length (a .b)) (length (a .c)) (length (a .tolerances)) (length (B .output)) (length (B .work)) (a .limit)
+      sizesVerdict (sizeW (a .offsets) (a .columns) (a .m) (a .n)) (countE (a .offsets) (a .columns) (a .m)) (a .m) (a .n) (a .s) (lengthsOf B) (a .limit)
 
   -- questions 1 to 10
   unfoldable pub begun : Buffers → Verdict
@@ -111,13 +128,13 @@ module _ (a : Given) where
   -- 1 to 10, then 11 and 12 by the machines
   unfoldable pub solveVerdict : Buffers → Verdict
   unfolding begun solved
-  solveVerdict B = andThen (begun B) (outcomeVerdict (solved call (a .limit)))
+  solveVerdict B = andThen (begun B) (outcomeVerdict priceCount (solved call (a .limit)))
 
   -- 'A no at 1 to 10 changes no buffer.'
   abbrev pub ifPassed : Verdict → Buffers → Buffers → Buffers
   ifPassed passed new old = new
   ifPassed (planned w) new old = old
-  ifPassed (acceptedAt k) new old = old
+  ifPassed (acceptedAt k y) new old = old
   ifPassed (refused q p l) new old = old
 
   unfoldable pub solveBuffers : Buffers → Buffers
@@ -128,4 +145,4 @@ module _ (a : Given) where
   pub record Solved (B B′ : Buffers) (r : SolveAnswer) : Type 0 where
     pub answer : toldSolve r ≡ solveVerdict B
     pub buffers : B′ ≡ solveBuffers B
-    pub demand3 : begun B ≡ passed → (o : Outcome) × (toldSolve r ≡ outcomeVerdict o) × Demand3 call words room plannedHas (a .limit) B B′ o
+    pub demand3 : begun B ≡ passed → (o : Outcome) × (toldSolve r ≡ outcomeVerdict priceCount o) × Demand3 call words room plannedHas (a .limit) B B′ o

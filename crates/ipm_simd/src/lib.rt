@@ -2,17 +2,18 @@
 ghost use mathlib.Core.Path.{_≡_};
 ghost use mathlib.Core.Bool.{_&&_};
 ghost use mathlib.Core.List.{_++_};
-ghost use Prim.Native.Nat.{ℕ, _+_, _<_, _≤_};
+ghost use Prim.Native.Nat.{ℕ, _+_, _*_, _<_, _≤_};
 ghost use lib.Dec.{leb};
-ghost use lib.ListN.{length, take, drop, replicate};
+ghost use lib.ListN.{length, drop, replicate};
 ghost use Rattle.csr.specs.Csr.{Accepted, maxStored};
 ghost use Rattle.csr.specs.Verdict.{toldAsked};
 ghost use Rattle.lanes.specs.Arithmetic.{null};
+ghost use Rattle.layout.specs.Layout.{yAt, lIn, topWord};
 ghost use Rattle.machine.specs.declared.Outcome.the-variants.{NoAt11};
 ghost use Rattle.machine.specs.Outcome.{largestLimit};
 ghost use Rattle.memory.specs.Planned.{Planned};
 ghost use Rattle.ipm_simd.specs.Solve.{given, lent, toldSolve, outcomeVerdict, lengthsRight, sizesVerdict, Solved};
-ghost use Rattle.ipm_simd.specs.Parts.{Asked10, EntriesBelow, written, Ends, Continued};
+ghost use Rattle.ipm_simd.specs.Parts.{Asked10, EntriesBelow, outputFrom, Ends, Continued};
 ghost use Rattle.csr.specs.Questions.{maxRows, maxColumns};
 use csr::Asked;
 use csr::Refusal;
@@ -39,28 +40,29 @@ const LANES: usize = 4;
 // The tolerances of the lanes: primal, dual, optimality.
 const TOLERANCES: usize = 3 * LANES;
 
-// The answer of solve: the test at which all lanes were done, or the first no.
+// The answer of solve: the test at which all lanes were done and how many numbers y has, or the first no.
 pub enum SolveAnswer {
-    Accepted(usize),
+    Accepted(usize, usize),
     Refused(Refusal),
 }
 
 // How long the lent lists are.
-struct Lengths {
-    index: usize,
-    b: usize,
-    c: usize,
-    tolerances: usize,
-    output: usize,
-    work: usize,
+pub struct Lengths {
+    pub index: usize,
+    pub b: usize,
+    pub c: usize,
+    pub tolerances: usize,
+    pub output: usize,
+    pub prices: usize,
+    pub work: usize,
 }
 
 // Question 8.
 fn lengths_right(m: usize, n: usize, lengths: Lengths) -> bool
     requires { ⌜ (m ≤ maxRows) × (n ≤ maxColumns) ⌝ }
-    ensures { λ r. ⌜ r ≡ lengthsRight m n (lengths .b) (lengths .c) (lengths .tolerances) (lengths .output) ⌝ }
+    ensures { λ r. ⌜ r ≡ lengthsRight m n lengths ⌝ }
 {
-    let output = lengths.output;
+    let prices = lengths.prices;
     if lengths.b != LANES * m {
         return false;
     }
@@ -70,7 +72,10 @@ fn lengths_right(m: usize, n: usize, lengths: Lengths) -> bool
     if lengths.tolerances != TOLERANCES {
         return false;
     }
-    output == LANES * n
+    if lengths.output != LANES * n {
+        return false;
+    }
+    prices == LANES * m
 }
 
 // Question 10.
@@ -86,7 +91,7 @@ fn limit_right(limit: usize) -> bool
 // Questions 6 to 10, by W, the plan's sizes, the lengths of the lists and the limit.
 fn ask_sizes(words: usize, plan: Plan, lengths: Lengths, limit: usize) -> Asked
     requires { ⌜ (plan .m ≤ maxRows) × (plan .n ≤ maxColumns) × (plan .stored ≤ maxStored) ⌝ }
-    ensures { λ r. ⌜ toldAsked r ≡ sizesVerdict words (plan .stored) (plan .m) (plan .n) (plan .s) (lengths .index) (lengths .b) (lengths .c) (lengths .tolerances) (lengths .output) (lengths .work) limit ⌝ }
+    ensures { λ r. ⌜ toldAsked r ≡ sizesVerdict words (plan .stored) (plan .m) (plan .n) (plan .s) lengths limit ⌝ }
 {
     let m = plan.m;
     let n = plan.n;
@@ -109,14 +114,14 @@ fn ask_sizes(words: usize, plan: Plan, lengths: Lengths, limit: usize) -> Asked
     Asked::Good
 }
 
-// The first numbers of the memory, all that the output has room for.
-fn copy_front(output: &mut [f64], work: &[f64])
-    requires { ⌜ length (now output) ≤ length (now work) ⌝ }
-    ensures { λ _. ⌜ now (output .exit) ≡ take (length (now (output .entry))) (now (work .entry)) ⌝ }
+// One list takes another's numbers.
+fn copy(output: &mut [f64], numbers: &[f64])
+    requires { ⌜ length (now output) ≡ length (now numbers) ⌝ }
+    ensures { λ _. ⌜ now (output .exit) ≡ now (numbers .entry) ⌝ }
 {
     let mut i = 0;
     while i < output.len() {
-        output[i] = work[i];
+        output[i] = numbers[i];
         i += 1;
     }
 }
@@ -133,16 +138,36 @@ fn clear_front(work: &mut [f64], k: usize)
     }
 }
 
-// The answer, and on acceptance the output.
-fn report(outcome: Outcome, output: &mut [f64], work: &[f64]) -> SolveAnswer
-    requires { ⌜ (length (now output) ≤ length (now work)) × ((k l : ℕ) → outcome ≡ NoAt11 k l → l < 4) ⌝ }
-    ensures { λ r. ⌜ (toldSolve r ≡ outcomeVerdict outcome) × (now (output .exit) ≡ written outcome (take (length (now (output .entry))) (now (work .entry))) (now (output .entry))) ⌝ }
+// On acceptance the output takes the memory from entry `from` on, as much as it is long.
+fn write_output(outcome: Outcome, output: &mut [f64], work: &[f64], from: usize)
+    requires { ⌜ 4 * from + length (now output) ≤ length (now work) ⌝ }
+    ensures { λ _. ⌜ now (output .exit) ≡ outputFrom from outcome (now (work .entry)) (now (output .entry)) ⌝ }
 {
+    let start = LANES * from;
+    let end = start + output.len();
     match outcome {
-        Outcome::Accepted(k) => {
-            copy_front(output, work);
-            SolveAnswer::Accepted(k)
-        }
+        Outcome::Accepted(_) => copy(output, &work[start..end]),
+        Outcome::NoAt11(_, _) => {}
+        Outcome::NoAt12(_) => {}
+    }
+}
+
+// The answer, and on acceptance x in the output and y in the prices.
+fn report(
+    outcome: Outcome,
+    plan: Plan,
+    output: &mut [f64],
+    prices: &mut [f64],
+    work: &[f64],
+) -> SolveAnswer
+    requires { ⌜ (lIn plan ≤ topWord) × (length (now output) ≤ length (now work)) × (4 * yAt (plan .n) + length (now prices) ≤ length (now work)) × ((k l : ℕ) → outcome ≡ NoAt11 k l → l < 4) ⌝ }
+    ensures { λ r. ⌜ (toldSolve r ≡ outcomeVerdict (length (now (prices .entry))) outcome) × (now (output .exit) ≡ outputFrom 0 outcome (now (work .entry)) (now (output .entry))) × (now (prices .exit) ≡ outputFrom (yAt (plan .n)) outcome (now (work .entry)) (now (prices .entry))) ⌝ }
+{
+    let at = plan.regions();
+    write_output(outcome, output, work, at.x);
+    write_output(outcome, prices, work, at.y);
+    match outcome {
+        Outcome::Accepted(k) => SolveAnswer::Accepted(k, prices.len()),
         Outcome::NoAt11(k, l) => SolveAnswer::Refused(Refusal::new(SPOILT, k, l as u32)),
         Outcome::NoAt12(k) => SolveAnswer::Refused(Refusal::new(NOT_DONE, k, 0)),
     }
@@ -159,11 +184,12 @@ fn solve_planned(
     tolerances: &[f64],
     limit: usize,
     output: &mut [f64],
+    prices: &mut [f64],
     index: &[u32],
     work: &mut [f64],
 ) -> SolveAnswer
-    requires { ⌜ Planned (now offsets) (now columns) (now values) plan (now index) × Asked10 (given (plan .m) (plan .n) (plan .s) (now offsets) (now columns) (now values) (now b) (now c) (now tolerances) limit) (lent (now output) (now index) (now work)) (plan .stored) (plan .shared) (plan .products) ⌝ }
-    ensures { λ r. ⌜ Ends (given (plan .m) (plan .n) (plan .s) (now (offsets .entry)) (now (columns .entry)) (now (values .entry)) (now (b .entry)) (now (c .entry)) (now (tolerances .entry)) limit) plan (now (output .entry)) (now (work .entry)) (lent (now (output .exit)) (now (index .entry)) (now (work .exit))) r ⌝ }
+    requires { ⌜ Planned (now offsets) (now columns) (now values) plan (now index) × Asked10 (given (plan .m) (plan .n) (plan .s) (now offsets) (now columns) (now values) (now b) (now c) (now tolerances) limit) (lent (now output) (now prices) (now index) (now work)) (plan .stored) (plan .shared) (plan .products) ⌝ }
+    ensures { λ r. ⌜ Ends (given (plan .m) (plan .n) (plan .s) (now (offsets .entry)) (now (columns .entry)) (now (values .entry)) (now (b .entry)) (now (c .entry)) (now (tolerances .entry)) limit) plan (now (output .entry)) (now (prices .entry)) (now (work .entry)) (lent (now (output .exit)) (now (prices .exit)) (now (index .entry)) (now (work .exit))) r ⌝ }
 {
     let room = plan.numbers(LANES);
     let block = Block {
@@ -184,7 +210,7 @@ fn solve_planned(
         LANES,
         limit,
     );
-    let answer = report(outcome, output, work);
+    let answer = report(outcome, plan, output, prices, work);
     clear_front(work, room);
     answer
 }
@@ -192,7 +218,7 @@ fn solve_planned(
 // How many stored entries the working memory has no room for: questions 7 to 10 get a yes just where E is below this.
 fn entries_below(m: usize, n: usize, s: usize, lengths: Lengths, limit: usize) -> usize
     requires { ⌜ (m ≤ maxRows) × (n ≤ maxColumns) ⌝ }
-    ensures { λ r. ⌜ EntriesBelow m n s (lengths .b) (lengths .c) (lengths .tolerances) (lengths .output) (lengths .work) limit r ⌝ }
+    ensures { λ r. ⌜ EntriesBelow m n s lengths limit r ⌝ }
 {
     if m < s {
         return 0;
@@ -224,11 +250,12 @@ fn solve_accepted(
     tolerances: &[f64],
     limit: usize,
     output: &mut [f64],
+    prices: &mut [f64],
     index: &mut [u32],
     work: &mut [f64],
 ) -> SolveAnswer
     requires { ⌜ Accepted (now offsets) (now columns) m n × (length (now values) ≡ length (now columns)) ⌝ }
-    ensures { λ r. ⌜ Continued (given m n s (now (offsets .entry)) (now (columns .entry)) (now (values .entry)) (now (b .entry)) (now (c .entry)) (now (tolerances .entry)) limit) (lent (now (output .entry)) (now (index .entry)) (now (work .entry))) (lent (now (output .exit)) (now (index .exit)) (now (work .exit))) r ⌝ }
+    ensures { λ r. ⌜ Continued (given m n s (now (offsets .entry)) (now (columns .entry)) (now (values .entry)) (now (b .entry)) (now (c .entry)) (now (tolerances .entry)) limit) (lent (now (output .entry)) (now (prices .entry)) (now (index .entry)) (now (work .entry))) (lent (now (output .exit)) (now (prices .exit)) (now (index .exit)) (now (work .exit))) r ⌝ }
 {
     let lengths = Lengths {
         index: index.len(),
@@ -236,6 +263,7 @@ fn solve_accepted(
         c: c.len(),
         tolerances: tolerances.len(),
         output: output.len(),
+        prices: prices.len(),
         work: work.len(),
     };
     let below = entries_below(m, n, s, lengths, limit);
@@ -255,6 +283,7 @@ fn solve_accepted(
             tolerances,
             limit,
             output,
+            prices,
             index,
             work,
         ),
@@ -274,10 +303,11 @@ pub fn solve(
     tolerances: &[f64],
     limit: usize,
     output: &mut [f64],
+    prices: &mut [f64],
     index: &mut [u32],
     work: &mut [f64],
 ) -> SolveAnswer
-    ensures { λ r. ⌜ Solved (given m n s (now (offsets .entry)) (now (columns .entry)) (now (values .entry)) (now (b .entry)) (now (c .entry)) (now (tolerances .entry)) limit) (lent (now (output .entry)) (now (index .entry)) (now (work .entry))) (lent (now (output .exit)) (now (index .exit)) (now (work .exit))) r ⌝ }
+    ensures { λ r. ⌜ Solved (given m n s (now (offsets .entry)) (now (columns .entry)) (now (values .entry)) (now (b .entry)) (now (c .entry)) (now (tolerances .entry)) limit) (lent (now (output .entry)) (now (prices .entry)) (now (index .entry)) (now (work .entry))) (lent (now (output .exit)) (now (prices .exit)) (now (index .exit)) (now (work .exit))) r ⌝ }
 {
     match csr::ask(m, n, offsets, columns, values.len()) {
         Asked::Refused(r) => SolveAnswer::Refused(r),
@@ -293,6 +323,7 @@ pub fn solve(
             tolerances,
             limit,
             output,
+            prices,
             index,
             work,
         ),

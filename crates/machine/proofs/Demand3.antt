@@ -17,7 +17,7 @@ use Rattle.machine.specs.Outcome.{Outcome, noAt12, largestLimit, testsMa
 use Rattle.machine.specs.Ends.{Ends}
 use Rattle.machine.specs.Demand3.{Memory, Buffers, isLost, Started, Moved, AtTest, Made, once, again, outputAfter, leaves, Demand3}
 use Rattle.machine.specs.Work.{Says}
-use Rattle.machine.specs.Theorems.{in-x}
+use Rattle.machine.specs.Theorems.{in-x, in-y}
 use Rattle.machine.proofs.Ends.{ends, ends-once, larger}
 use Rattle.machine.proofs.Output.{output-of}
 use Rattle.machine.proofs.Machines.{others, fresh-has, moved-has, said-of, lane-next}
@@ -91,6 +91,7 @@ module _ (C : Call) where
     leaves-same N' e i =
         record {
           output = outputAfter C (λ q. q .x) (C .problem .n) (e i) (B .output);
+          prices = outputAfter C (λ q. q .y) (C .problem .m) (e i) (B .prices);
           index = plan ++ drop (length plan) (B .index);
           work = replicate F null ++ drop F (B .work);
         }
@@ -113,6 +114,7 @@ module _ (C : Call) where
           );
           ends = subst (Ends (C .K) (laneStatus C) N) (sym e) (solved-ends N);
           output = output-of C (λ q. q .x) (C .problem .n) (λ q i h z. in-x i h z) N o (B .output) (B' .output) e (ap (λ (Z : Buffers). Z .output) f);
+          prices = output-of C (λ q. q .y) (C .problem .m) (λ q i h z. in-y i h z) N o (B .prices) (B' .prices) e (ap (λ (Z : Buffers). Z .prices) f);
           buffers = f;
           larger = λ N' h u n.
               let z : solved C N' ≡ solved C N = solved-larger N N' h (λ a. n (e ∙ a)) in

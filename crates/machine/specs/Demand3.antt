@@ -18,9 +18,10 @@ use Rattle.machine.specs.Ends.{Ends}
 abbrev pub Memory : Type 0
 Memory = ℕ → State
 
--- the lent lists that a solve may change
+-- the lent lists that a solve may change: x goes to the output, y to the prices
 pub record Buffers : Type 0 where
   pub output : List Float
+  pub prices : List Float
   pub index : List ℕ
   pub work : List Float
 
@@ -57,15 +58,15 @@ module _ (C : Call) where
     again : {k : ℕ} {M M' : Memory} {said said' : List Status}
         → Made k M said → Moved M M' → AtTest (k + 1) M' said' → Made (k + 1) M' said'
 
-  -- 'The output changes only on acceptance, when it holds the four machines' x': an output of `count` entries that takes the list f of each machine
+  -- 'The output changes only on acceptance, when it holds the four machines' x', and the prices their y: a list of `count` entries that takes the list f of each machine
   abbrev pub outputAfter : (State → List Float) → ℕ → Outcome → List Float → List Float
   outputAfter f count (accepted k) v = fieldAt C f count k
   outputAfter f count (noAt11 k l) v = v
   outputAfter f count (noAt12 k) v = v
 
-  -- such an output was `old` and is `new`, and the answer is o
+  -- such a list was `old` and is `new`, and the answer is o
   pub record Output (f : State → List Float) (count : ℕ) (o : Outcome) (old new : List Float) : Type 0 where
-    -- 'the output is each machine's x there, bit for bit': no NaN, whose bits would be free, is among them
+    -- 'the output is each machine's x there, bit for bit', and the prices its y: no NaN, whose bits would be free, is among them
     pub holds : (k l e : ℕ) → o ≡ accepted k → l < C .K → e < count → at new (C .K * e + l) ≡ fieldOf f (laneMachine C l k) e
     pub bits : (k l e : ℕ) → o ≡ accepted k → l < C .K → e < count → at new (C .K * e + l) ≢ nan
     -- without acceptance it is as before
@@ -76,6 +77,7 @@ module _ (C : Call) where
   leaves plan F N B =
       record {
         output = outputAfter (λ q. q .x) (C .problem .n) (solved C N) (B .output);
+        prices = outputAfter (λ q. q .y) (C .problem .m) (solved C N) (B .prices);
         index = plan ++ drop (length plan) (B .index);
         work = replicate F null ++ drop F (B .work);
       }
@@ -102,7 +104,9 @@ module _ (C : Call) where
     pub ends : Ends (C .K) (laneStatus C) N o
     -- 'the output is each machine's x there', and without acceptance as before
     pub output : Output (λ q. q .x) (C .problem .n) o (B .output) (B' .output)
-    -- the three lent lists are as document 01 leaves them
+    -- 'What the user is told about x is now told about y too'
+    pub prices : Output (λ q. q .y) (C .problem .m) o (B .prices) (B' .prices)
+    -- the four lent lists are as document 01 leaves them, and the prices as the output
     pub buffers : B' ≡ leaves plan F N B
     -- 'Under every larger limit up to 10,000 an acceptance and a no at 11 stay the same, buffers too.'
     pub larger : (N' : ℕ) → N ≤ N' → N' ≤ largestLimit → o ≢ noAt12 N → (solved C N' ≡ o) × (leaves plan F N' B ≡ B')

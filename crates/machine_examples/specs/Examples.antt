@@ -6,24 +6,30 @@ use Prim.Native.Nat.{ℕ}
 use lib.Ieee.{Float, nan, binary64, toBits, ofBits, round}
 use lib.ListN.{replicate}
 use Rattle.lanes.specs.Arithmetic.{_⊘_, whole, one, null}
-use Rattle.machine.specs.Machine.{Problem, standard}
+use Rattle.machine.specs.Machine.{Problem, State, standard}
 use Rattle.machine.specs.declared.Outcome.{Outcome}
 use Rattle.machine.specs.declared.Outcome.the-variants.{Accepted as accepted, NoAt11 as noAt11, NoAt12 as noAt12}
 use Rattle.machine.specs.Outcome.{Call, solved}
 use Rattle.machine.specs.Demand3.{outputAfter}
 
--- a call, a limit, the answer, and the bits of the output where it is accepted
+-- a call, a limit, the answer, and the bits of x and of y where it is accepted
 pub record Row : Type 0 where
   pub call : Call
   pub limit : ℕ
   pub answer : Outcome
-  pub bits : List ℕ
+  pub output : List ℕ
+  pub prices : List ℕ
 
--- the answer to a row's call is the row's, and so is the output
+-- the bits of one of the two outputs: a list of each machine, of `count` entries
+abbrev pub bitsOf : Row → (State → List Float) → ℕ → List ℕ
+bitsOf r f count = map (toBits binary64) (outputAfter (r .call) f count (r .answer) [])
+
+-- the answer to a row's call is the row's, and so are the outputs
 abbrev pub Holds : Row → Type 0
 Holds r =
     (solved (r .call) (r .limit) ≡ r .answer)
-    × (map (toBits binary64) (outputAfter (r .call) (λ q. q .x) (r .call .problem .n) (r .answer) []) ≡ r .bits)
+    × (bitsOf r (λ q. q .x) (r .call .problem .n) ≡ r .output)
+    × (bitsOf r (λ q. q .y) (r .call .problem .m) ≡ r .prices)
 
 abbrev pub All : List Row → Type 0
 All [] = Unit {0}
@@ -115,47 +121,47 @@ star =
 
 -- 'Row {0} with value, b, c all 1, s 1, N 1, tolerances 1e9'
 abbrev pub paper-accepted : Row
-paper-accepted = record { call = single 4 (four one) one (four large) (four large) (four large); limit = 1; answer = accepted 1; bits = replicate 4 thousand }
+paper-accepted = record { call = single 4 (four one) one (four large) (four large) (four large); limit = 1; answer = accepted 1; output = replicate 4 thousand; prices = replicate 4 thousand }
 
 -- 'The same with c 0 and dual tolerances 0: refused 12 1 0, since 0 isn't below 0.'
 abbrev pub paper-strict : Row
-paper-strict = record { call = single 4 (four one) null (four large) (four null) (four large); limit = 1; answer = noAt12 1; bits = [] }
+paper-strict = record { call = single 4 (four one) null (four large) (four null) (four large); limit = 1; answer = noAt12 1; output = []; prices = [] }
 
 -- R is 1999/1001 and Q 1/1001; divided by max(‖b‖, 1) and max(‖c‖, 1) they would be 1999 and 1
 abbrev pub divisors : Row
-divisors = record { call = single 1 (one ∷ []) one (whole 2 ∷ []) (fraction 1 2 ∷ []) (large ∷ []); limit = 1; answer = accepted 1; bits = thousand ∷ [] }
+divisors = record { call = single 1 (one ∷ []) one (whole 2 ∷ []) (fraction 1 2 ∷ []) (large ∷ []); limit = 1; answer = accepted 1; output = thousand ∷ []; prices = thousand ∷ [] }
 
 -- R is 0 and not below lane 1's tolerance 0; so with G, which is 2000000/2001
 abbrev pub strict-R : Row
-strict-R = record { call = single 2 (two (whole 2000)) one (last null) (two large) (two large); limit = 1; answer = noAt12 1; bits = [] }
+strict-R = record { call = single 2 (two (whole 2000)) one (last null) (two large) (two large); limit = 1; answer = noAt12 1; output = []; prices = [] }
 
 abbrev pub strict-G : Row
-strict-G = record { call = single 2 (two one) one (two large) (two large) (last (whole 2000000 ⊘ whole 2001)); limit = 1; answer = noAt12 1; bits = [] }
+strict-G = record { call = single 2 (two one) one (two large) (two large) (last (whole 2000000 ⊘ whole 2001)); limit = 1; answer = noAt12 1; output = []; prices = [] }
 
 -- lane 0 has b 2000 and c 0, so that R and Q are 0, lane 1 has b 0 and c 5: lane l of entry k is at 2k + l
 abbrev pub layout : Row
-layout = record { call = twoRows; limit = 1; answer = accepted 1; bits = replicate 4 thousand }
+layout = record { call = twoRows; limit = 1; answer = accepted 1; output = replicate 4 thousand; prices = replicate 4 thousand }
 
 -- lane 0 is done, lane 1 has to step: with the limit 1 there is no test after that step
 abbrev pub spent : Row
-spent = record { call = single 2 (two one) one (two large) (two large) (last (whole 900)); limit = 1; answer = noAt12 1; bits = [] }
+spent = record { call = single 2 (two one) one (two large) (two large) (last (whole 900)); limit = 1; answer = noAt12 1; output = []; prices = [] }
 
 -- sizes of 0
 abbrev pub empty-done : Row
-empty-done = record { call = empty one; limit = 2; answer = accepted 1; bits = [] }
+empty-done = record { call = empty one; limit = 2; answer = accepted 1; output = []; prices = [] }
 
 abbrev pub empty-spent : Row
-empty-spent = record { call = empty null; limit = 2; answer = noAt12 2; bits = [] }
+empty-spent = record { call = empty null; limit = 2; answer = noAt12 2; output = []; prices = [] }
 
 -- ---- rows with steps
 
 -- 'The first with b NaN in lane 2 and N 2, tolerances 1e-8: refused 11 2 2.'
 abbrev pub paper-nan : Row
-paper-nan = record { call = single 4 (lanes one one nan one) one (four small) (four small) (four small); limit = 2; answer = noAt11 2 2; bits = [] }
+paper-nan = record { call = single 4 (lanes one one nan one) one (four small) (four small) (four small); limit = 2; answer = noAt11 2 2; output = []; prices = [] }
 
 -- two steps, the tolerances being the least floats above R, Q and G of test 3
 abbrev pub chained : Row
-chained = record { call = star; limit = 3; answer = accepted 3; bits = 0x40318bbcfab550d0 ∷ 0x403438ca154eeaf8 ∷ [] }
+chained = record { call = star; limit = 3; answer = accepted 3; output = 0x40318bbcfab550d0 ∷ 0x403438ca154eeaf8 ∷ []; prices = 0x408df28fcb5b703a ∷ 0x407ace718fb356c2 ∷ 0xc09768737e25f1ae ∷ [] }
 
 abbrev pub rows : List Row
 rows = paper-accepted ∷ paper-strict ∷ divisors ∷ strict-R ∷ strict-G ∷ layout ∷ spent ∷ empty-done ∷ empty-spent ∷ paper-nan ∷ chained ∷ []

@@ -43,7 +43,7 @@ module _ (s : List ℕ) where
   pub narrow : (z : RecordSizes) → headerOf s ≡ Matches z → nOf s ≤ mostColumns
   narrow z h = own-whole (matched z h .0) .columns
 
-  pub matched-text : (z : RecordSizes) → headerOf s ≡ Matches z → solveText (givenOf s) (lentFor (nOf s)) ≡ answerText s
+  pub matched-text : (z : RecordSizes) → headerOf s ≡ Matches z → solveText (givenOf s) (lentFor (mOf s) (nOf s)) ≡ answerText s
   unfolding answerText
   matched-text z h = rw (matched z h .0)
 
@@ -51,6 +51,6 @@ module _ (s : List ℕ) where
   unfolding answerText
   mismatch-text h = go (wellFormed s) refl h
     where
-      go : (t : Bool) → wellFormed s ≡ t → cond t (Matches (sizesOf s)) Mismatch ≡ Mismatch → inputText ≡ cond (wellFormed s) (solveText (givenOf s) (lentFor (nOf s))) inputText
+      go : (t : Bool) → wellFormed s ≡ t → cond t (Matches (sizesOf s)) Mismatch ≡ Mismatch → inputText ≡ cond (wellFormed s) (solveText (givenOf s) (lentFor (mOf s) (nOf s))) inputText
       go true e k = let q : _≡_ {A = ℕ} 0 1 = cc in absurd (omega arith)
       go false e k = rw e

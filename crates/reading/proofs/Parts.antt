@@ -13,7 +13,7 @@ use Rattle.ipm_simd.specs.Solve.{Given, given, lent}
 use Rattle.record.specs.declared.RecordSizes.{RecordSizes}
 use Rattle.record.specs.Little.{le2, le8, shorts, floats}
 use Rattle.record.specs.Record.{mOf, nOf, tOf, columnsAt, valuesAt, tolerancesAt, bAt, cAt, sizesOf}
-use Rattle.reading.specs.Parts.{Whole, mostShorts, mostFloats, mostOutput, partsOf}
+use Rattle.reading.specs.Parts.{Whole, mostShorts, mostFloats, mostOutput, mostPrices, partsOf}
 use Rattle.reading.specs.Answer.{givenOf, solveText, lentFor, zeros, blank, indexWords, workFloats}
 
 -- ---- an array whose first k elements were lent and became `new`
@@ -115,30 +115,35 @@ module _ {s : List ℕ} {z : RecordSizes} (W : Whole s z) where
   pub output-long : {arr : List Float} → arr ≡ blank mostOutput → length (take (4 * z .n) arr) ≡ 4 * z .n
   output-long {arr} e = length-take-le (4 * z .n) arr (omega (arith, ap length e, blank-long mostOutput, W .columns))
 
+  pub prices-long : {arr : List Float} → arr ≡ blank mostPrices → length (take (4 * z .m) arr) ≡ 4 * z .m
+  prices-long {arr} e = length-take-le (4 * z .m) arr (omega (arith, ap length e, blank-long mostPrices, W .rows))
+
 -- ---- the text of what was read is the text of the record's solve
 module _ (s : List ℕ) (z : RecordSizes) (W : Whole s z) where
-  lent-is : (o w : List Float) (i : List ℕ) → o ≡ blank mostOutput → i ≡ zeros indexWords → w ≡ blank workFloats → lent (take (4 * z .n) o) i w ≡ lentFor (nOf s)
-  lent-is o w i eo ei ew =
-      let n-is : z .n ≡ nOf s = ap (λ (y : RecordSizes). y .n) (W .sizes) in
+  lent-is : (o y w : List Float) (i : List ℕ) → o ≡ blank mostOutput → y ≡ blank mostPrices → i ≡ zeros indexWords → w ≡ blank workFloats
+      → lent (take (4 * z .n) o) (take (4 * z .m) y) i w ≡ lentFor (mOf s) (nOf s)
+  lent-is o y w i eo ey ei ew =
       let o-is : take (4 * z .n) o ≡ blank (4 * nOf s) =
-      ap (take (4 * z .n)) eo ∙ blank-take (4 * z .n) mostOutput (omega (arith, W .columns)) ∙ ap (λ (k : ℕ). blank (4 * k)) n-is in
+      ap (take (4 * z .n)) eo ∙ blank-take (4 * z .n) mostOutput (omega (arith, W .columns)) ∙ ap (λ (v : RecordSizes). blank (4 * v .n)) (W .sizes) in
+      let y-is : take (4 * z .m) y ≡ blank (4 * mOf s) =
+      ap (take (4 * z .m)) ey ∙ blank-take (4 * z .m) mostPrices (omega (arith, W .rows)) ∙ ap (λ (v : RecordSizes). blank (4 * v .m)) (W .sizes) in
       cc
 
-  pub read-text : (o w : List Float) (i : List ℕ) (arr S : List ℕ) (brr F : List Float)
-      → o ≡ blank mostOutput → i ≡ zeros indexWords → w ≡ blank workFloats
+  pub read-text : (o y w : List Float) (i : List ℕ) (arr S : List ℕ) (brr F : List Float)
+      → o ≡ blank mostOutput → y ≡ blank mostPrices → i ≡ zeros indexWords → w ≡ blank workFloats
       → arr ≡ zeros mostShorts → S ≡ shorts s 16 (length (take (shortCount z) arr))
       → brr ≡ blank mostFloats → F ≡ floats s (floatsFrom z) (length (take (floatCount z) brr))
       → length S ≡ length (take (shortCount z) arr) → length F ≡ length (take (floatCount z) brr)
-      → solveText (partsOf z (take (shortCount z) (S ++ drop (shortCount z) arr)) (take (floatCount z) (F ++ drop (floatCount z) brr))) (lent (take (4 * z .n) o) i w)
-      ≡ solveText (givenOf s) (lentFor (nOf s))
-  read-text o w i arr S brr F eo ei ew la eS lb eF kS kF =
+      → solveText (partsOf z (take (shortCount z) (S ++ drop (shortCount z) arr)) (take (floatCount z) (F ++ drop (floatCount z) brr))) (lent (take (4 * z .n) o) (take (4 * z .m) y) i w)
+      ≡ solveText (givenOf s) (lentFor (mOf s) (nOf s))
+  read-text o y w i arr S brr F eo ey ei ew la eS lb eF kS kF =
       let fa : shortCount z ≤ length arr = shorts-fit W la in
       let fb : floatCount z ≤ length brr = floats-fit W lb in
       let S-is : take (shortCount z) (S ++ drop (shortCount z) arr) ≡ shorts s 16 (shortCount z) =
       front-is arr S (shortCount z) fa kS ∙ eS ∙ ap (shorts s 16) (length-take-le (shortCount z) arr fa) in
       let F-is : take (floatCount z) (F ++ drop (floatCount z) brr) ≡ floats s (floatsFrom z) (floatCount z) =
       front-is brr F (floatCount z) fb kF ∙ eF ∙ ap (floats s (floatsFrom z)) (length-take-le (floatCount z) brr fb) in
-      ap₂ solveText (ap₂ (partsOf z) S-is F-is ∙ parts-given s z (W .sizes)) (lent-is o w i eo ei ew)
+      ap₂ solveText (ap₂ (partsOf z) S-is F-is ∙ parts-given s z (W .sizes)) (lent-is o y w i eo ey ei ew)
 
 -- ---- parts cut by their ends
 cut : (a b : ℕ) → a + b - a ≡ b

@@ -25,7 +25,8 @@ use Rattle.machine.specs.declared.Outcome.{Outcome}
 use Rattle.machine.specs.declared.Outcome.the-variants as outcomes
 use Rattle.machine.specs.Outcome.{largestLimit, solved}
 use Rattle.machine.specs.Demand3.{Buffers}
-use Rattle.ipm_simd.specs.Solve.{lengthsRight, outcomeVerdict, sizesVerdict, call, memoryVerdict, begun, solveVerdict}
+use Rattle.ipm_simd.specs.declared.Lengths.{Lengths}
+use Rattle.ipm_simd.specs.Solve.{lengthsRight, outcomeVerdict, sizesVerdict, call, priceCount, lengthsOf, memoryVerdict, begun, solveVerdict}
 use Rattle.ipm_simd.proofs.Questions.{lengths-last}
 use Rattle.record.specs.Little.{shorts, floats}
 use Rattle.record.specs.Record.{mOf, nOf, sOf, tOf, limitOf, offsetsOf, columnsOf, valuesOf, tolerancesOf, bOf, cOf, mostRows, mostColumns, mostEntries, wellFormed, columnsAt}
@@ -38,7 +39,7 @@ use Rattle.reading.proofs.Parts.{zeros-long, blank-long}
 fine : Verdict → Bool
 fine passed = true
 fine (planned w) = true
-fine (accepted k) = true
+fine (accepted k y) = true
 fine (refused q p l) = not (eqb q 6 || eqb q 8 || eqb q 9)
 
 fine-not : (q p l : ℕ) → fine (refused q p l) ≡ true → (q ≢ 6) × (q ≢ 8) × (q ≢ 9)
@@ -57,7 +58,7 @@ then-fine : (v w : Verdict) → fine v ≡ true → (v ≡ passed → fine w ≡
 unfolding fine
 then-fine passed w f g = g refl
 then-fine (planned k) w f g = refl
-then-fine (accepted k) w f g = refl
+then-fine (accepted k y) w f g = refl
 then-fine (refused q p l) w f g = f
 
 -- questions 1 to 5
@@ -74,23 +75,23 @@ early-fine m n off cols values =
     (λ _. refl)))))
 
 -- questions 6 to 10
-sizes-fine : (W E m n s index b c tolerances output work N : ℕ) → W ≤ index → lengthsRight m n b c tolerances output ≡ true → (s ≤ m → workingSize 4 m n s E ≤ work)
-    → fine (sizesVerdict W E m n s index b c tolerances output work N) ≡ true
+sizes-fine : (W E m n s : ℕ) (L : Lengths) (N : ℕ) → W ≤ L .index → lengthsRight m n L ≡ true → (s ≤ m → workingSize 4 m n s E ≤ L .work)
+    → fine (sizesVerdict W E m n s L N) ≡ true
 unfolding fine sizesVerdict
-sizes-fine W E m n s index b c tolerances output work N six eight nine =
-    sure (leb W index) _ _ (le-leb W index six)
+sizes-fine W E m n s L N six eight nine =
+    sure (leb W (L .index)) _ _ (le-leb W (L .index) six)
     (either (leb s m) _ 7 0 0 refl
-    (λ t. sure (lengthsRight m n b c tolerances output) _ _ eight
-    (sure (leb (workingSize 4 m n s E) work) _ _ (le-leb (workingSize 4 m n s E) work (nine (leb-true s m t)))
+    (λ t. sure (lengthsRight m n L) _ _ eight
+    (sure (leb (workingSize 4 m n s E) (L .work)) _ _ (le-leb (workingSize 4 m n s E) (L .work) (nine (leb-true s m t)))
     (either (leb 1 N && leb N largestLimit) passed 10 0 0 refl
     (λ _. refl)))))
 
 -- questions 11 and 12
-outcome-fine : (o : Outcome) → fine (outcomeVerdict o) ≡ true
+outcome-fine : (y : ℕ) (o : Outcome) → fine (outcomeVerdict y o) ≡ true
 unfolding fine
-outcome-fine (outcomes.Accepted k) = refl
-outcome-fine (outcomes.NoAt11 k l) = refl
-outcome-fine (outcomes.NoAt12 k) = refl
+outcome-fine y (outcomes.Accepted k) = refl
+outcome-fine y (outcomes.NoAt11 k l) = refl
+outcome-fine y (outcomes.NoAt12 k) = refl
 
 -- ---- how long the lists are
 shorts-long : (s : List ℕ) (at k : ℕ) → length (shorts s at k) ≡ k
@@ -122,17 +123,17 @@ module _ (off cols : List ℕ) (m n : ℕ) (ok : Csr off cols m) (rows : m ≤ m
 -- ---- the answer to a record
 module _ (s : List ℕ) (w : wellFormed s ≡ true) where
   abbrev memories : Buffers
-  memories = lentFor (nOf s)
+  memories = lentFor (mOf s) (nOf s)
 
   memory-fine : Accepted (offsetsOf s) (columnsOf s) (mOf s) (nOf s) → fine (memoryVerdict (givenOf s) memories) ≡ true
   unfolding memoryVerdict
   memory-fine ok =
       let W = own-whole s w in
       let short : length (columnsOf s) ≤ mostEntries = omega (arith, shorts-long s (columnsAt (mOf s)) (tOf s), W .entries) in
-      sizes-fine _ (countE (offsetsOf s) (columnsOf s) (mOf s)) (mOf s) (nOf s) (sOf s)
-      (length (memories .index)) (length (bOf s)) (length (cOf s)) (length (tolerancesOf s)) (length (memories .output)) (length (memories .work)) (limitOf s)
+      let L = lengthsOf (givenOf s) memories in
+      sizes-fine _ (countE (offsetsOf s) (columnsOf s) (mOf s)) (mOf s) (nOf s) (sOf s) L (limitOf s)
       (omega (arith, words-most (offsetsOf s) (columnsOf s) (mOf s) (nOf s) (ok .csr) (W .rows) (W .columns) short, zeros-long indexWords))
-      (sym (lengths-last (mOf s) (nOf s) _ _ _ _ (floats-long s _ _) (floats-long s _ _) (floats-long s _ _)) ∙ eq-eqb _ _ (blank-long (4 * nOf s)))
+      (sym (lengths-last (mOf s) (nOf s) L (floats-long s _ _) (floats-long s _ _) (floats-long s _ _) (blank-long (4 * nOf s))) ∙ eq-eqb _ _ (blank-long (4 * mOf s)))
       (λ slack. omega (arith, numbers-most (offsetsOf s) (columnsOf s) (mOf s) (nOf s) (ok .csr) (W .rows) (W .columns) (sOf s) slack, blank-long workFloats))
 
   begun-fine : fine (begun (givenOf s) memories) ≡ true
@@ -143,7 +144,7 @@ module _ (s : List ℕ) (w : wellFormed s ≡ true) where
 
   solve-fine : fine (solveVerdict (givenOf s) memories) ≡ true
   unfolding solveVerdict
-  solve-fine = then-fine _ _ begun-fine (λ _. outcome-fine (solved (call (givenOf s)) (limitOf s)))
+  solve-fine = then-fine _ _ begun-fine (λ _. outcome-fine (priceCount (givenOf s)) (solved (call (givenOf s)) (limitOf s)))
 
 pub memory-enough : theorems.Memory-enough
 memory-enough s w q p l e = fine-not q p l (sym (ap fine e) ∙ solve-fine s w)

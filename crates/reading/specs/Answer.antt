@@ -13,7 +13,7 @@ use Rattle.answer_text.specs.Text.{acceptedBytes, acceptedText, refusedText, in
 
 -- the text of what a solve of n columns tells; it tells nothing else
 abbrev pub verdictText : Verdict → List Float → ℕ → List ℕ
-verdictText (accepted test) x n = acceptedText test x n
+verdictText (accepted test y) x n = acceptedText test x n
 verdictText (refused question place lane) x n = refusedText question place lane
 verdictText passed x n = []
 verdictText (planned w) x n = []
@@ -57,11 +57,11 @@ indexWords = 5 * mostStored + 3 * mostShared + 2 * mostProducts + 3 * mostRows +
 abbrev pub workFloats : ℕ
 workFloats = workingSize 4 mostRows mostColumns mostRows mostStored
 
--- what is lent for n columns
-abbrev pub lentFor : ℕ → Buffers
-lentFor n = lent (blank (4 * n)) (zeros indexWords) (blank workFloats)
+-- what is lent for m rows and n columns
+abbrev pub lentFor : ℕ → ℕ → Buffers
+lentFor m n = lent (blank (4 * n)) (blank (4 * m)) (zeros indexWords) (blank workFloats)
 
 -- standard output for standard input
 unfoldable pub answerText : List ℕ → List ℕ
 unfolding wellFormed solveText inputText
-answerText s = cond (wellFormed s) (solveText (givenOf s) (lentFor (nOf s))) inputText
+answerText s = cond (wellFormed s) (solveText (givenOf s) (lentFor (mOf s) (nOf s))) inputText

@@ -17,7 +17,7 @@ pub record Whole (s : List ℕ) (z : RecordSizes) : Type 0 where
   pub entries : z .t ≤ mostEntries
   pub ends : length s ≡ endAt (z .m) (z .n) (z .t)
 
--- the most shorts, offsets and columns; the most floats, values, tolerances, b and c; the most that the output holds
+-- the most shorts, offsets and columns; the most floats, values, tolerances, b and c; the most that the output and the prices hold
 abbrev pub mostShorts : ℕ
 mostShorts = mostRows + 1 + mostEntries
 
@@ -26,6 +26,9 @@ mostFloats = mostEntries + 12 + 4 * mostRows + 4 * mostColumns
 
 abbrev pub mostOutput : ℕ
 mostOutput = 4 * mostColumns
+
+abbrev pub mostPrices : ℕ
+mostPrices = 4 * mostRows
 
 -- lists that hold the parts of a record with these sizes, and room for the longest text
 pub record Parts (shorts floats output out : ℕ) (z : RecordSizes) : Type 0 where

@@ -6,9 +6,9 @@ use mathlib.Core.List.{List}
 use Prim.Native.Nat.{ℕ}
 use Rattle.csr.specs.Verdict.{refused}
 use Rattle.ipm_simd.specs.Solve.{solveVerdict}
-use Rattle.record.specs.Record.{nOf, wellFormed}
+use Rattle.record.specs.Record.{mOf, nOf, wellFormed}
 use Rattle.reading.specs.Answer.{givenOf, lentFor}
 
 -- the program's own memory is enough: the answer to a well-formed record is never a no at 6, 8 or 9
 abbrev pub Memory-enough : Type 0
-Memory-enough = (s : List ℕ) → wellFormed s ≡ true → (q p l : ℕ) → solveVerdict (givenOf s) (lentFor (nOf s)) ≡ refused q p l → (q ≢ 6) × (q ≢ 8) × (q ≢ 9)
+Memory-enough = (s : List ℕ) → wellFormed s ≡ true → (q p l : ℕ) → solveVerdict (givenOf s) (lentFor (mOf s) (nOf s)) ≡ refused q p l → (q ≢ 6) × (q ≢ 8) × (q ≢ 9)

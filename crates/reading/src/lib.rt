@@ -7,7 +7,7 @@ ghost use lib.ListN.{length};
 ghost use Rattle.io.specs.Counts.{Counts};
 ghost use Rattle.base.specs.Cat.{Wrote};
 ghost use Rattle.ipm_simd.specs.Solve.{given, lent};
-ghost use Rattle.record.specs.Record.{nOf, mostColumns};
+ghost use Rattle.record.specs.Record.{mOf, nOf, mostColumns};
 ghost use Rattle.reading.specs.Parts.{Whole, Parts, partsOf};
 ghost use Rattle.reading.specs.Answer.{answerBytes, solveText, givenOf, lentFor, answerText};
 use ipm_simd::SolveAnswer;
@@ -31,12 +31,13 @@ fn solve_text(
     tolerances: &[f64],
     limit: usize,
     output: &mut [f64],
+    prices: &mut [f64],
     index: &mut [u32],
     work: &mut [f64],
     out: &mut [u8],
 ) -> usize
     requires { ⌜ (n ≤ mostColumns) × (length (now output) ≡ 4 * n) × (answerBytes ≤ length (now out)) ⌝ }
-    ensures { λ r. ⌜ Wrote (now (out .entry)) (now (out .exit)) 0 (solveText (given m n s (now (offsets .entry)) (now (columns .entry)) (now (values .entry)) (now (b .entry)) (now (c .entry)) (now (tolerances .entry)) limit) (lent (now (output .entry)) (now (index .entry)) (now (work .entry)))) r ⌝ }
+    ensures { λ r. ⌜ Wrote (now (out .entry)) (now (out .exit)) 0 (solveText (given m n s (now (offsets .entry)) (now (columns .entry)) (now (values .entry)) (now (b .entry)) (now (c .entry)) (now (tolerances .entry)) limit) (lent (now (output .entry)) (now (prices .entry)) (now (index .entry)) (now (work .entry)))) r ⌝ }
 {
     let answer = ipm_simd::solve(
         m,
@@ -50,11 +51,12 @@ fn solve_text(
         tolerances,
         limit,
         output,
+        prices,
         index,
         work,
     );
     match answer {
-        SolveAnswer::Accepted(test) => answer_text::put_accepted(out, test, output, n),
+        SolveAnswer::Accepted(test, _) => answer_text::put_accepted(out, test, output, n),
         SolveAnswer::Refused(r) => answer_text::put_refused(out, r.question, r.place, r.lane),
     }
 }
@@ -65,12 +67,13 @@ fn solve_parts(
     floats: &[f64],
     sizes: RecordSizes,
     output: &mut [f64],
+    prices: &mut [f64],
     index: &mut [u32],
     work: &mut [f64],
     out: &mut [u8],
 ) -> usize
     requires { ⌜ Parts (length (now shorts)) (length (now floats)) (length (now output)) (length (now out)) sizes ⌝ }
-    ensures { λ r. ⌜ Wrote (now (out .entry)) (now (out .exit)) 0 (solveText (partsOf sizes (now (shorts .entry)) (now (floats .entry))) (lent (now (output .entry)) (now (index .entry)) (now (work .entry)))) r ⌝ }
+    ensures { λ r. ⌜ Wrote (now (out .entry)) (now (out .exit)) 0 (solveText (partsOf sizes (now (shorts .entry)) (now (floats .entry))) (lent (now (output .entry)) (now (prices .entry)) (now (index .entry)) (now (work .entry)))) r ⌝ }
 {
     let m = sizes.m;
     let n = sizes.n;
@@ -92,6 +95,7 @@ fn solve_parts(
         &floats[t..b],
         sizes.limit,
         output,
+        prices,
         index,
         work,
         out,
@@ -101,7 +105,7 @@ fn solve_parts(
 // The answer to a record that matches.
 fn answer(bytes: &[u8], sizes: RecordSizes, out: &mut [u8]) -> usize
     requires { ⌜ Whole (now bytes) sizes × (answerBytes ≤ length (now out)) ⌝ }
-    ensures { λ r. ⌜ Wrote (now (out .entry)) (now (out .exit)) 0 (solveText (givenOf (now (bytes .entry))) (lentFor (nOf (now (bytes .entry))))) r ⌝ }
+    ensures { λ r. ⌜ Wrote (now (out .entry)) (now (out .exit)) 0 (solveText (givenOf (now (bytes .entry))) (lentFor (mOf (now (bytes .entry))) (nOf (now (bytes .entry))))) r ⌝ }
 {
     let m = sizes.m;
     let n = sizes.n;
@@ -109,9 +113,11 @@ fn answer(bytes: &[u8], sizes: RecordSizes, out: &mut [u8]) -> usize
     let short_count = m + 1 + t;
     let float_count = t + TOLERANCES + LANES * m + LANES * n;
     let output_count = LANES * n;
+    let price_count = LANES * m;
     let mut shorts = memory::shorts();
     let mut floats = memory::floats();
     let mut output = memory::output();
+    let mut prices = memory::prices();
     let mut index = memory::index();
     let mut work = memory::work();
     record::read_shorts(bytes, OFFSETS_AT, &mut shorts[..short_count]);
@@ -125,6 +131,7 @@ fn answer(bytes: &[u8], sizes: RecordSizes, out: &mut [u8]) -> usize
         &floats[..float_count],
         sizes,
         &mut output[..output_count],
+        &mut prices[..price_count],
         &mut index,
         &mut work,
         out,

@@ -1,7 +1,7 @@
 // Memory for a record within the limits.
 ghost use mathlib.Core.Path.{_≡_};
 ghost use Rattle.reading.specs.Answer.{zeros, blank, indexWords, workFloats};
-ghost use Rattle.reading.specs.Parts.{mostShorts, mostFloats, mostOutput};
+ghost use Rattle.reading.specs.Parts.{mostShorts, mostFloats, mostOutput, mostPrices};
 use record::LANES;
 use record::MOST_COLUMNS;
 use record::MOST_ENTRIES;
@@ -15,6 +15,8 @@ const MOST_SHORTS: usize = MOST_ROWS + 1 + MOST_ENTRIES;
 const MOST_FLOATS: usize = MOST_ENTRIES + TOLERANCES + LANES * MOST_ROWS + LANES * MOST_COLUMNS;
 
 const MOST_OUTPUT: usize = LANES * MOST_COLUMNS;
+
+const MOST_PRICES: usize = LANES * MOST_ROWS;
 
 // E at most: an entry for each pair of rows.
 const MOST_STORED: usize = MOST_ROWS * (MOST_ROWS + 1) / 2;
@@ -52,6 +54,12 @@ pub fn output() -> [f64; MOST_OUTPUT]
     ensures { λ r. ⌜ r ≡ blank mostOutput ⌝ }
 {
     [0.0; MOST_OUTPUT]
+}
+
+pub fn prices() -> [f64; MOST_PRICES]
+    ensures { λ r. ⌜ r ≡ blank mostPrices ⌝ }
+{
+    [0.0; MOST_PRICES]
 }
 
 // Room for the plan.

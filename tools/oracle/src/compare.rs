@@ -58,12 +58,13 @@ impl Comparison {
             let name = backend.name();
             let fault = match backend.solve(problem) {
                 Ok(None) => continue,
-                Ok(Some(told)) if told.answer != run.answer => format!("answers {:?}", told.answer),
+                Ok(Some(told)) if !told.answer.agrees(&run.answer) => format!("answers {:?}", told.answer),
                 Ok(Some(told)) if told.trace.as_ref().is_some_and(|trace| !trace.agrees(&run.trace)) => {
                     "went another way".into()
                 }
-                Ok(Some(_)) => {
+                Ok(Some(told)) => {
                     *self.counts.entry(format!("solves compared: {name}")).or_insert(0) += 1;
+                    *self.counts.entry(format!("y compared: {name}")).or_insert(0) += u64::from(told.answer.tells_y());
                     continue;
                 }
                 Err(fault) => fault,

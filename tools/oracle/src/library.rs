@@ -4,7 +4,7 @@
 use crate::backend::{Backend, Told};
 use crate::extern_c::{ipm_plan, ipm_solve};
 use crate::plan::{plan_words, work_numbers};
-use crate::problem::{Answer, LANES, Matrix, Planned, Problem, Refusal, settled_bits};
+use crate::problem::{Answer, LANES, Matrix, Planned, Problem, Refusal, all_settled_bits};
 use crate::questions::{Room, ask_plan};
 use crate::reference;
 
@@ -13,28 +13,45 @@ const WORD: u32 = 0xdead_beef;
 const NUMBER: f64 = -7.25;
 const SPARE: usize = 3;
 
-/// A u64 answer is question * 2^40 + place * 2^8 + lane. Question 0 is a yes: the place is the test, or W for a plan.
-fn told(code: u64) -> Refusal {
-    Refusal { question: (code >> 40) as usize, place: (code >> 8) as u32 as usize, lane: code as u8 as usize }
+/// The library's answer taken apart. Question 0 is a yes: the place is the test, or W for a plan.
+struct Code {
+    length: usize,
+    told: Refusal,
+}
+
+impl Code {
+    /// length * 2^48 + question * 2^40 + place * 2^8 + lane.
+    fn new(code: u64) -> Self {
+        let (question, place, lane) = ((code >> 40) as u8, (code >> 8) as u32, code as u8);
+        let told = Refusal { question: question.into(), place: place as usize, lane: lane.into() };
+        Code { length: (code >> 48) as usize, told }
+    }
 }
 
 /// The buffers lent to one solve.
 struct Lent {
     output: Vec<f64>,
+    prices: Vec<f64>,
     index: Vec<u32>,
     work: Vec<f64>,
 }
 
 impl Lent {
     fn new(room: Room) -> Self {
-        Lent { output: vec![NUMBER; room.output], index: vec![WORD; room.index], work: vec![NUMBER; room.work] }
+        let numbers = |count| vec![NUMBER; count];
+        Lent {
+            output: numbers(room.output),
+            prices: numbers(room.prices),
+            index: vec![WORD; room.index],
+            work: numbers(room.work),
+        }
     }
 }
 
-fn call_plan(matrix: &Matrix, index: &mut [u32]) -> Refusal {
+fn call_plan(matrix: &Matrix, index: &mut [u32]) -> Code {
     let (offsets, columns) = (&matrix.offsets, &matrix.columns);
     // Safety: every pointer comes with the length of its own slice, which outlives the call.
-    told(unsafe {
+    Code::new(unsafe {
         ipm_plan(
             matrix.m,
             matrix.n,
@@ -48,11 +65,11 @@ fn call_plan(matrix: &Matrix, index: &mut [u32]) -> Refusal {
     })
 }
 
-fn call_solve(problem: &Problem, lent: &mut Lent) -> Refusal {
+fn call_solve(problem: &Problem, lent: &mut Lent) -> Code {
     let (matrix, values) = (&problem.matrix, &problem.values);
     let (b, c, tolerances) = (&problem.b, &problem.c, &problem.tolerances);
     // Safety: every pointer comes with the length of its own slice, which outlives the call.
-    told(unsafe {
+    Code::new(unsafe {
         ipm_solve(
             matrix.m,
             matrix.n,
@@ -72,6 +89,8 @@ fn call_solve(problem: &Problem, lent: &mut Lent) -> Refusal {
             problem.limit,
             lent.output.as_mut_ptr(),
             lent.output.len(),
+            lent.prices.as_mut_ptr(),
+            lent.prices.len(),
             lent.index.as_mut_ptr(),
             lent.index.len(),
             lent.work.as_mut_ptr(),
@@ -80,17 +99,18 @@ fn call_solve(problem: &Problem, lent: &mut Lent) -> Refusal {
     })
 }
 
-fn bits(numbers: &[f64]) -> Vec<u64> {
-    numbers.iter().copied().map(settled_bits).collect()
-}
-
 fn check(yes: bool, fault: &str) -> Result<(), String> {
     if yes { Ok(()) } else { Err(fault.to_string()) }
 }
 
-/// The buffers after a no at 1 to 10.
-fn check_untouched(lent: &Lent) -> Result<(), String> {
+/// Both outputs after any no.
+fn check_outputs_untouched(lent: &Lent) -> Result<(), String> {
     check(lent.output.iter().all(|&p| p == NUMBER), "a refusal changed the output")?;
+    check(lent.prices.iter().all(|&p| p == NUMBER), "a refusal changed the prices")
+}
+
+/// Index and working memory after a no at 1 to 10.
+fn check_memory_untouched(lent: &Lent) -> Result<(), String> {
     check(lent.index.iter().all(|&word| word == WORD), "a refusal changed the index memory")?;
     check(lent.work.iter().all(|&p| p == NUMBER), "a refusal changed the working memory")
 }
@@ -111,45 +131,42 @@ fn check_left(problem: &Problem, lent: &Lent) -> Result<(), String> {
 /// The library's answer with this much lent, and a look at every buffer.
 pub fn solve_in(problem: &Problem, room: Room) -> Result<Answer, String> {
     let mut lent = Lent::new(room);
-    let code = call_solve(problem, &mut lent);
-    match code.question {
-        0 => {
-            check_left(problem, &lent)?;
-            Ok(Answer::Accepted { test: code.place, x: bits(&lent.output) })
-        }
-        11 | 12 => {
-            check_left(problem, &lent)?;
-            check(lent.output.iter().all(|&p| p == NUMBER), "a refusal changed the output")?;
-            Ok(Answer::Refused(code))
-        }
-        _ => check_untouched(&lent).map(|()| Answer::Refused(code)),
+    let Code { length, told } = call_solve(problem, &mut lent);
+    match told.question {
+        0 | 11 | 12 => check_left(problem, &lent)?,
+        _ => check_memory_untouched(&lent)?,
     }
+    if told.question != 0 {
+        check(length == 0, "a refusal has a length")?;
+        check_outputs_untouched(&lent)?;
+        return Ok(Answer::Refused(told));
+    }
+    check(length == LANES * problem.matrix.m, "the answer's length is not that of y")?;
+    let (x, y) = (all_settled_bits(&lent.output), all_settled_bits(&lent.prices));
+    Ok(Answer::Accepted { test: told.place, x, y: Some(y) })
 }
 
 /// What a problem needs, and a little more.
 pub fn enough(problem: &Problem) -> Room {
     let matrix = &problem.matrix;
-    let output = LANES * matrix.n;
-    match ask_plan(matrix, usize::MAX) {
-        Err(_) => Room { output, index: SPARE, work: SPARE },
-        Ok(counts) => Room {
-            output,
-            index: plan_words(matrix, counts) + SPARE,
-            work: work_numbers(matrix, problem.s, counts) + SPARE,
-        },
-    }
+    let (index, work) = match ask_plan(matrix, usize::MAX) {
+        Err(_) => (0, 0),
+        Ok(counts) => (plan_words(matrix, counts), work_numbers(matrix, problem.s, counts)),
+    };
+    Room { index: index + SPARE, work: work + SPARE, ..Room::ample(problem) }
 }
 
 pub fn plan_in(matrix: &Matrix, index: usize) -> Result<Planned, String> {
     let mut words = vec![WORD; index];
-    let code = call_plan(matrix, &mut words);
-    if code.question != 0 {
+    let Code { length, told } = call_plan(matrix, &mut words);
+    check(length == 0, "a plan has a length")?;
+    if told.question != 0 {
         check(words.iter().all(|&word| word == WORD), "a refusal changed the index memory")?;
-        return Ok(Err(code));
+        return Ok(Err(told));
     }
-    check(code.place <= index, "a plan longer than its memory")?;
-    check(words[code.place..].iter().all(|&word| word == WORD), "index words past W were changed")?;
-    words.truncate(code.place);
+    check(told.place <= index, "a plan longer than its memory")?;
+    check(words[told.place..].iter().all(|&word| word == WORD), "index words past W were changed")?;
+    words.truncate(told.place);
     Ok(Ok(words))
 }
 

@@ -90,7 +90,7 @@ pub struct Machine<'a> {
     tolerances: [f64; 3],
     pub x: Vec<f64>,
     z: Vec<f64>,
-    y: Vec<f64>,
+    pub y: Vec<f64>,
     w: Vec<f64>,
     spoilt: bool,
 }

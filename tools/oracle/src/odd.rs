@@ -26,7 +26,7 @@ fn outcome(problem: &Problem) -> String {
     let (end, trace) = solve_watched(problem);
     let tests = trace.tests;
     match end {
-        Ok(x) => format!("accepted {} x {:?}", tests.len(), crate::problem::lane(&x, 0)),
+        Ok(solved) => format!("accepted {} x {:?}", tests.len(), crate::problem::lane(&solved.x, 0)),
         Err(text) => format!("panic after {} tests: {text}", tests.len()),
     }
 }

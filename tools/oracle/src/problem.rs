@@ -87,11 +87,27 @@ impl Refusal {
     }
 }
 
-/// A solve's answer; x as bits, entry k lane l at 4k + l.
+/// A solve's answer; x and y as bits, entry k lane l at 4k + l. The reading program tells no y.
 #[derive(Clone, Debug, PartialEq, Eq)]
 pub enum Answer {
-    Accepted { test: usize, x: Vec<u64> },
+    Accepted { test: usize, x: Vec<u64>, y: Option<Vec<u64>> },
     Refused(Refusal),
+}
+
+impl Answer {
+    pub fn tells_y(&self) -> bool {
+        matches!(self, Answer::Accepted { y: Some(_), .. })
+    }
+
+    /// The same answer as one that is told whole; a y that is not told here is left out.
+    pub fn agrees(&self, whole: &Answer) -> bool {
+        match (self, whole) {
+            (Answer::Accepted { test, x, y: None }, Answer::Accepted { test: same_test, x: same_x, .. }) => {
+                test == same_test && x == same_x
+            }
+            _ => self == whole,
+        }
+    }
 }
 
 /// What a plan gives: its words, or a no.
@@ -104,12 +120,16 @@ pub fn settled_bits(number: f64) -> u64 {
     if number.is_nan() { NAN_BITS } else { number.to_bits() }
 }
 
+pub fn all_settled_bits(numbers: &[f64]) -> Vec<u64> {
+    numbers.iter().copied().map(settled_bits).collect()
+}
+
 impl std::fmt::Display for Answer {
     /// The text of document 01's reading program.
     fn fmt(&self, out: &mut std::fmt::Formatter<'_>) -> std::fmt::Result {
         match self {
             Answer::Refused(no) => writeln!(out, "refused {} {} {}", no.question, no.place, no.lane),
-            Answer::Accepted { test, x } => {
+            Answer::Accepted { test, x, .. } => {
                 writeln!(out, "accepted {test}")?;
                 for entry in x.chunks(LANES) {
                     let words: Vec<String> = entry.iter().map(|bits| format!("{bits:016x}")).collect();

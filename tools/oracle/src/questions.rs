@@ -7,14 +7,16 @@ use crate::problem::{LANES, MOST_COLUMNS, MOST_ENTRIES, MOST_ROWS, MOST_TESTS, M
 #[derive(Clone, Copy, Debug, PartialEq, Eq)]
 pub struct Room {
     pub output: usize,
+    pub prices: usize,
     pub index: usize,
     pub work: usize,
 }
 
 impl Room {
-    /// More than enough for any size, and the right output.
+    /// More than enough for any size, and the right outputs.
     pub fn ample(problem: &Problem) -> Self {
-        Room { output: LANES * problem.matrix.n, index: usize::MAX, work: usize::MAX }
+        let Matrix { m, n, .. } = problem.matrix;
+        Room { output: LANES * n, prices: LANES * m, index: usize::MAX, work: usize::MAX }
     }
 }
 
@@ -63,8 +65,9 @@ pub fn ask_solve(problem: &Problem, room: Room) -> Result<(), Refusal> {
     ask_matrix(matrix, Some(problem.values.len()))?;
     let counts = ask_plan(matrix, room.index)?;
     no_unless(problem.s <= matrix.m, 7)?;
-    let lengths = [problem.b.len(), problem.c.len(), problem.tolerances.len(), room.output];
-    no_unless(lengths == [LANES * matrix.m, LANES * matrix.n, 3 * LANES, LANES * matrix.n], 8)?;
+    let (of_rows, of_columns) = (LANES * matrix.m, LANES * matrix.n);
+    let lengths = [problem.b.len(), problem.c.len(), problem.tolerances.len(), room.output, room.prices];
+    no_unless(lengths == [of_rows, of_columns, 3 * LANES, of_columns, of_rows], 8)?;
     no_unless(room.work >= work_numbers(matrix, problem.s, counts), 9)?;
     no_unless((1..=MOST_TESTS).contains(&problem.limit), 10)
 }

@@ -24,7 +24,7 @@ fn answer_of_text(text: &str) -> Option<Answer> {
     } else {
         let test = first.strip_prefix("accepted ")?.parse().ok()?;
         let words: Option<Vec<u64>> = rest.split_whitespace().map(|word| u64::from_str_radix(word, 16).ok()).collect();
-        Answer::Accepted { test, x: words.filter(|x| x.len() % LANES == 0)? }
+        Answer::Accepted { test, x: words.filter(|x| x.len() % LANES == 0)?, y: None }
     };
     (answer.to_string() == text).then_some(answer)
 }

@@ -24,17 +24,22 @@ impl Run {
     }
 }
 
+/// The bits of a list of each lane, entry k lane l at 4k + l.
+fn together(lists: [&[f64]; LANES]) -> Vec<u64> {
+    (0..lists[0].len()).flat_map(|k| lists.map(|list| settled_bits(list[k]))).collect()
+}
+
 /// The answer once questions 1 to 10 have a yes, or the test goes on.
-fn stopped(verdicts: [Verdict; LANES], test: usize, machines: &[Machine]) -> Option<Answer> {
+fn stopped(verdicts: [Verdict; LANES], test: usize, machines: &[Machine; LANES]) -> Option<Answer> {
     if let Some(lane) = verdicts.iter().position(|&verdict| verdict == Verdict::Spoilt) {
         return Some(Answer::Refused(Refusal { question: 11, place: test, lane }));
     }
     if verdicts != [Verdict::Done; LANES] {
         return None;
     }
-    let columns = machines[0].x.len();
-    let numbers = (0..columns).flat_map(|e| machines.iter().map(move |machine| settled_bits(machine.x[e])));
-    Some(Answer::Accepted { test, x: numbers.collect() })
+    let x = together(machines.each_ref().map(|machine| &machine.x[..]));
+    let y = together(machines.each_ref().map(|machine| &machine.y[..]));
+    Some(Answer::Accepted { test, x, y: Some(y) })
 }
 
 /// The whole of document 01's solve.
@@ -43,7 +48,7 @@ pub fn run(problem: &Problem, room: Room) -> Run {
         return Run::refused(no);
     }
     let shape = Shape::new(problem);
-    let mut machines: Vec<Machine> = (0..LANES).map(|l| Machine::new(&shape, problem, l)).collect();
+    let mut machines: [Machine; LANES] = std::array::from_fn(|l| Machine::new(&shape, problem, l));
     let mut run = Run::refused(Refusal::at(12, problem.limit));
     for test in 1..=problem.limit {
         let verdicts: [Verdict; LANES] = std::array::from_fn(|l| machines[l].test());

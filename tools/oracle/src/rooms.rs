@@ -4,7 +4,7 @@ use crate::compare::Comparison;
 use crate::generate;
 use crate::library::{enough, plan_in, solve_in};
 use crate::plan::{plan_words, work_numbers};
-use crate::problem::Problem;
+use crate::problem::{LANES, Problem};
 use crate::questions::{Room, ask_plan};
 use crate::random::Random;
 use crate::reference;
@@ -17,6 +17,11 @@ fn near(random: &mut Random, length: usize) -> usize {
         2 => 0,
         _ => length,
     }
+}
+
+/// Near the length of the prices, or at times that of the output.
+fn near_prices(random: &mut Random, problem: &Problem) -> usize {
+    if random.once_in(6) { LANES * problem.matrix.n } else { near(random, LANES * problem.matrix.m) }
 }
 
 /// Exactly what the problem needs.
@@ -44,7 +49,12 @@ fn vary(random: &mut Random, problem: &mut Problem) -> Room {
         }
     }
     let room = exact(problem);
-    Room { output: near(random, room.output), index: near(random, room.index), work: near(random, room.work) }
+    Room {
+        output: near(random, room.output),
+        prices: near_prices(random, problem),
+        index: near(random, room.index),
+        work: near(random, room.work),
+    }
 }
 
 pub fn compare(comparison: &mut Comparison, random: &mut Random, count: usize) {

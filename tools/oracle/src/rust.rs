@@ -3,7 +3,7 @@
 use std::num::NonZeroUsize;
 
 use ipm_common::SparseNormalCholeskyIndices;
-use ipm_simd::{PathFollowingDirectSimdSolver, Tolerances};
+use ipm_simd::{PathFollowingDirectSimdSolver, Tolerances, inside};
 use nalgebra_sparse::CsrMatrix;
 use wide::f64x4;
 
@@ -47,9 +47,21 @@ pub fn sides(problem: &Problem) -> Sides {
     }
 }
 
-pub fn solve_with(solver: &mut PathFollowingDirectSimdSolver, problem: &Problem) -> Vec<f64> {
+/// What the Rust's `solve` gives, x, and what it keeps in `path_buffers`, y.
+pub struct Solved {
+    pub x: Vec<f64>,
+    pub y: Vec<f64>,
+}
+
+fn numbers(entries: &[f64x4]) -> Vec<f64> {
+    entries.iter().flat_map(|entry| entry.to_array()).collect()
+}
+
+pub fn solve_with(solver: &mut PathFollowingDirectSimdSolver, problem: &Problem) -> Solved {
     let Sides { b, c, tolerances, limit } = sides(problem);
-    solver.solve(&b, &c, &tolerances, limit).iter().flat_map(|entry| entry.to_array()).collect()
+    let x = numbers(solver.solve(&b, &c, &tolerances, limit));
+    let [_, _, y, _] = inside::numbers(solver);
+    Solved { x, y: numbers(y) }
 }
 
 /// The thirteen lists of the Rust, then the transpose: offsets, rows and the places of the entries.

@@ -8,9 +8,9 @@ use ipm_simd::{PathFollowingDirectSimdSolver, inside};
 use wide::watch;
 
 use crate::backend::{Backend, Numbers, Test, Told, Trace};
-use crate::problem::{Answer, Matrix, Planned, Problem, Refusal, settled_bits};
+use crate::problem::{Answer, Matrix, Planned, Problem, Refusal, all_settled_bits, settled_bits};
 use crate::questions::{Room, ask_matrix, ask_solve};
-use crate::rust::{lists, solve_with, solver};
+use crate::rust::{Solved, lists, solve_with, solver};
 
 const NAN_PANIC: &str = "NaN encountered during IPM solve!";
 const LIMIT_PANIC: &str = "Interior point method failed to converged all SIMD lanes.";
@@ -49,8 +49,8 @@ fn panic_text(payload: Box<dyn Any + Send>) -> String {
     }
 }
 
-/// The Rust's end, whatever it is given: x, or what its panic said; and how it came about.
-pub fn solve_watched(problem: &Problem) -> (Result<Vec<f64>, String>, Trace) {
+/// The Rust's end, whatever it is given: x and y, or what its panic said; and how it came about.
+pub fn solve_watched(problem: &Problem) -> (Result<Solved, String>, Trace) {
     let mut solver = match caught(|| solver(problem)) {
         Ok(solver) => solver,
         Err(text) => return (Err(text), Trace::default()),
@@ -62,10 +62,10 @@ pub fn solve_watched(problem: &Problem) -> (Result<Vec<f64>, String>, Trace) {
 }
 
 /// The Rust only panics. The test and the lanes come from the stand-in's notes of `is_nan`.
-fn answer_of(end: Result<Vec<f64>, String>, tests: &[Test]) -> Result<Answer, String> {
+fn answer_of(end: Result<Solved, String>, tests: &[Test]) -> Result<Answer, String> {
     let test = tests.len();
     match end {
-        Ok(x) => Ok(Answer::Accepted { test, x: x.into_iter().map(settled_bits).collect() }),
+        Ok(Solved { x, y }) => Ok(Answer::Accepted { test, x: all_settled_bits(&x), y: Some(all_settled_bits(&y)) }),
         Err(text) if text == LIMIT_PANIC => Ok(Answer::Refused(Refusal::at(12, test))),
         Err(text) if text == NAN_PANIC => {
             let spoilt = tests.last().and_then(|test| test.spoilt.iter().position(|&yes| yes));

@@ -1,36 +1,45 @@
-use borrow.Author.Needs.{needs}
 use native.Mathlib.Omega.{arith}
-use mathlib.Core.Path.{sym, ap, _∙_}
-use lib.ListN.{length, take}
-use Rattle.machine.specs.declared.Outcome.{Outcome}
+use mathlib.Core.Path.{_≡_, sym, ap, ap₂, _∙_}
+use lib.ListN.{length}
+use Rattle.layout.specs.declared.Regions.{Regions}
+use Rattle.layout.specs.Layout.{yAt}
 use Rattle.ipm_simd.specs.Solve.{outcomeVerdict}
-use Rattle.ipm_simd.specs.Parts.{written}
+use borrow.Author.Needs.{needs}
 use Rattle.ipm_simd.proofs.report.Statement.{statement}
 use Rattle.ipm_simd.proofs.report.Tie as tie
 
-copy-front-requires : tie.Need-copy-front-requires
-copy-front-requires c κs = c .before .before .before .before .before .before .pre .0
+regions-requires : tie.Need-regions-requires
+regions-requires c κs = c .before .before .before .pre .0
+
+write-output-requires : tie.Need-write-output-requires
+write-output-requires c κs = let e = ap (λ (z : Regions). z .x) (c .before .regions .ensures) in omega (arith, e, c .before .before .before .before .before .pre .1)
+
+write-output-requires-2 : tie.Need-write-output-requires-2
+write-output-requires-2 c κs = let e = ap (λ (z : Regions). z .y) (c .before .before .before .before .before .regions .ensures) in omega (arith, e, c .before .before .before .before .before .before .before .before .before .pre .2)
 
 cast-new : tie.Need-cast-new
-cast-new c = let e = c .before .before .before .before .before in omega (arith, e .pre .1 _ _ (c .before .outcome2 .given .1))
+cast-new c = let e = c .before .before .before .before .before .before .before .before .before .before .before .before .before .before .before in omega (arith, e .pre .3 _ _ (c .before .outcome2 .given .1))
 
 returns : tie.Need-returns
-returns c =
-    let e = c .before .before .before .before .before .before .before .before .before in
-    let q = c .before .before .before .before .before .outcome .given .1 in
-    (sym (ap outcomeVerdict q), c .before .before .copy-front .ensures ∙ sym (ap (λ (o : Outcome). written o (take (length (e .args .output .now)) (e .args .work .now)) (e .args .output .now)) q))
+returns c = (
+  ap₂ outcomeVerdict (c .before .before .before .before .before .write-output2 .kept .1 .0) (sym (c .before .outcome .given .1)),
+  rw (c .before .before .before .before .before .before .before .before .before .before .before .regions .ensures) at (c .before .before .before .before .before .before .before .before .before .write-output .ensures),
+  rw (c .before .before .before .before .before .before .before .before .before .before .before .regions .ensures) at (c .before .before .before .before .before .write-output2 .ensures),
+)
 
 returns-2 : tie.Need-returns-2
-returns-2 c =
-    let e = c .before .before .before .before .before .before in
-    let q = c .before .before .outcome2 .given .1 in
-    (c .new .ensures ∙ sym (ap outcomeVerdict q), sym (ap (λ (o : Outcome). written o (take (length (e .args .output .now)) (e .args .work .now)) (e .args .output .now)) q))
+returns-2 c = (
+  c .new .ensures ∙ sym (ap (outcomeVerdict (length (c .before .before .before .before .before .before .before .before .before .before .before .before .before .before .before .before .args .prices .now))) (c .before .before .outcome2 .given .1)),
+  rw (c .before .before .before .before .before .before .before .before .before .before .before .before .regions .ensures) at (c .before .before .before .before .before .before .before .before .before .before .write-output .ensures),
+  rw (c .before .before .before .before .before .before .before .before .before .before .before .before .regions .ensures) at (c .before .before .before .before .before .before .write-output2 .ensures),
+)
 
 returns-3 : tie.Need-returns-3
-returns-3 c =
-    let e = c .before .before .before .before .before .before in
-    let q = c .before .before .outcome3 .given .1 in
-    (c .new2 .ensures ∙ sym (ap outcomeVerdict q), sym (ap (λ (o : Outcome). written o (take (length (e .args .output .now)) (e .args .work .now)) (e .args .output .now)) q))
+returns-3 c = (
+  c .new2 .ensures ∙ sym (ap (outcomeVerdict (length (c .before .before .before .before .before .before .before .before .before .before .before .before .before .before .before .before .args .prices .now))) (c .before .before .outcome3 .given .1)),
+  rw (c .before .before .before .before .before .before .before .before .before .before .before .before .regions .ensures) at (c .before .before .before .before .before .before .before .before .before .before .write-output .ensures),
+  rw (c .before .before .before .before .before .before .before .before .before .before .before .before .regions .ensures) at (c .before .before .before .before .before .before .write-output2 .ensures),
+)
 
 pub report-spec : {M : Type 1} → statement M
-report-spec = tie.close (tie.spec (λ c. search needs) copy-front-requires (λ c. search needs) cast-new (λ c κs. search needs) (λ c. search needs) (λ c κs. search needs) (λ c. search needs) returns returns-2 returns-3)
+report-spec = tie.close (tie.spec regions-requires write-output-requires write-output-requires-2 (λ c. search needs) (λ c. search needs) cast-new (λ c κs. search needs) (λ c. search needs) (λ c κs. search needs) (λ c. search needs) (λ c. search needs) returns (λ c. search needs) (λ c. search needs) returns-2 (λ c. search needs) (λ c. search needs) returns-3)

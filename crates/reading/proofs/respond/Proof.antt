@@ -1,18 +1,15 @@
-use borrow.Author.Needs.{needs}
 use mathlib.Core.Path.{sym, _∙_}
 use Rattle.io.proofs.Counting.{counts}
 use native.Mathlib.Omega.{arith}
-use Rattle.record.specs.Record.{nOf}
+use Rattle.record.specs.Record.{mOf, nOf}
 use Rattle.reading.specs.Answer.{givenOf, lentFor}
 use Rattle.answer_text.proofs.Lengths.{input-length}
 use Rattle.reading.proofs.Lengths.{solve-length}
 use Rattle.reading.proofs.Headers.{whole, narrow, matched-text, mismatch-text}
 use Rattle.answer_text.proofs.Texts.{same-text}
+use borrow.Author.Needs.{needs}
 use Rattle.reading.proofs.respond.Statement.{statement}
 use Rattle.reading.proofs.respond.Tie as tie
-
-enum-told : tie.Need-enum-told
-enum-told c = search needs
 
 answer-requires : tie.Need-answer-requires
 answer-requires c κs =
@@ -31,8 +28,8 @@ returns-2 c =
     let put = c .before .before .answer in
     let s = c .before .before .before .before .before .before .before .before .before .before .args .bytes .now in (
       same-text (matched-text s _ told) (put .ensures),
-      counts _ _ (omega (arith, put .ensures .next, put .kept .1 .1 .0, solve-length (givenOf s) (lentFor (nOf s)) (narrow s _ told), c .before .before .before .before .before .before .before .before .before .before .pre)),
+      counts _ _ (omega (arith, put .ensures .next, put .kept .1 .1 .0, solve-length (givenOf s) (lentFor (mOf s) (nOf s)) (narrow s _ told), c .before .before .before .before .before .before .before .before .before .before .pre)),
     )
 
 pub respond-spec : {M : Type 1} → statement M
-respond-spec = tie.close (tie.spec (λ c κs. search needs) enum-told (λ c κs. search needs) (λ c. search needs) answer-requires (λ c. search needs) returns (λ c. search needs) returns-2)
+respond-spec = tie.close (tie.spec (λ c κs. search needs) (λ c. search needs) (λ c κs. search needs) (λ c. search needs) answer-requires (λ c. search needs) returns (λ c. search needs) returns-2)

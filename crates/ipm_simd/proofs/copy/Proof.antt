@@ -1,18 +1,18 @@
-use borrow.Author.Needs.{needs}
 use native.Mathlib.Omega.{arith}
 use mathlib.Core.Path.{_≡_, refl}
 use mathlib.Core.List.{_++_}
 use Prim.Native.Nat.{_-_, _≤_}
 use lib.ListN.{length, take, drop, length-set}
 use Rattle.ipm_simd.proofs.Numbers.{copied-next, copied-all}
-use Rattle.ipm_simd.proofs.copy_front.Statement.{statement}
-use Rattle.ipm_simd.proofs.copy_front.Tie as tie
+use borrow.Author.Needs.{needs}
+use Rattle.ipm_simd.proofs.copy.Statement.{statement}
+use Rattle.ipm_simd.proofs.copy.Tie as tie
 
 abbrev Inv-loop : tie.InvT-loop
-Inv-loop output₀ work i₀ output i = (i ≤ length output₀) × (length output ≡ length output₀) × (output ≡ take i work ++ drop i output₀)
+Inv-loop output₀ numbers i₀ output i = (i ≤ length output₀) × (length output ≡ length output₀) × (output ≡ take i numbers ++ drop i output₀)
 
 abbrev μ-loop : tie.MeasureT-loop
-μ-loop output₀ work i₀ output i = length output₀ - i
+μ-loop output₀ numbers i₀ output i = length output₀ - i
 
 loop-holds : tie.Need-loop-holds Inv-loop μ-loop
 loop-holds c = (omega arith, refl, refl)
@@ -35,7 +35,7 @@ loop-again c =
     let l = c .before .before .loop in (
       omega (arith, l .inv .1),
       rw length-set (l .inv .1),
-      copied-next (e .args .work .now) (e .args .output .now) (l .output) (l .i) (l .inv .2) (omega (arith, e .pre, l .inv .1)) (omega (arith, l .inv .1)),
+      copied-next (e .args .numbers .now) (e .args .output .now) (l .output) (l .i) (l .inv .2) (omega (arith, e .pre, l .inv .1)) (omega (arith, l .inv .1)),
     )
 
 same-length : tie.Need-same-length Inv-loop μ-loop
@@ -45,7 +45,7 @@ returns : tie.Need-returns Inv-loop μ-loop
 returns c =
     let e = c .before .before in
     let l = c .before .loop in
-    copied-all (e .args .work .now) (e .args .output .now) (l .output) (l .i) (l .inv .2) (omega (arith, l .inv .0, l .inv .1))
+    copied-all (e .args .numbers .now) (e .args .output .now) (l .output) (l .i) (l .inv .2) (omega (arith, l .inv .0, l .inv .1)) (e .pre)
 
-pub copy-front-spec : {M : Type 1} → statement M
-copy-front-spec = tie.close (tie.spec Inv-loop μ-loop loop-holds (λ c. search needs) shared-slice-read-output (λ c. search needs) slice-write-output add-i loop-less loop-again same-length returns)
+pub copy-spec : {M : Type 1} → statement M
+copy-spec = tie.close (tie.spec Inv-loop μ-loop loop-holds (λ c. search needs) shared-slice-read-output (λ c. search needs) slice-write-output add-i loop-less loop-again same-length returns)
