@@ -3,9 +3,9 @@ use mathlib.Core.Path.{_≡_, refl, sym, ap, ap₂, _∙_}
 use mathlib.Core.List.{List, _++_}
 use Prim.Native.Nat.{ℕ, suc, _+_, _-_, _*_, _≤_, _<_}
 use native.Mathlib.Omega.{arith}
-use lib.ListN.{length, drop, replicate}
-use lib.Ieee.{Float}
-use Rattle.base.specs.Numbers.{cut}
+use lib.ListN.{length, drop, replicate, length-drop}
+use lib.Seq.{ext-getD, getD-drop}
+use lib.Ieee.{Float, nan}
 use Rattle.csr.specs.Verdict.{Verdict, passed, andThen, refusal}
 use Rattle.csr.specs.declared.Refusal.{Refusal}
 use Rattle.csr.specs.Questions.{firstNo}
@@ -13,9 +13,7 @@ use Rattle.csr.specs.Csr.{Accepted}
 use Rattle.csr.specs.Counts.{countE, sizeW, sizeF}
 use Rattle.csr.specs.Pattern.{has, row, neighbours, stored}
 use Rattle.lanes.specs.Arithmetic.{null}
-use Rattle.lanes.specs.Lists.{at as elem}
 use Rattle.lanes.specs.Lanes.{room as roomIn}
-use Rattle.lanes.specs.Region.{reg}
 use Rattle.lanes.proofs.Regions.{room-fits}
 use Rattle.lists.specs.Lists.{shape, listOf}
 use Rattle.lists.specs.declared.Which.the-variants.{Lindptr, Lindices}
@@ -24,7 +22,7 @@ use Rattle.lists.proofs.Counts.{held-stored}
 use Rattle.machine.specs.declared.Outcome.{Outcome}
 use Rattle.machine.specs.declared.Outcome.the-variants.{Accepted as accepted, NoAt11 as noAt11, NoAt12 as noAt12}
 use Rattle.machine.specs.Machine.{State, standard}
-use Rattle.machine.specs.Outcome.{Call, solved, interleaved}
+use Rattle.machine.specs.Outcome.{Call, solved}
 use Rattle.machine.specs.Demand3.{Buffers, Memory, outputAfter, leaves}
 use Rattle.machine.specs.Work.{Ran}
 use Rattle.machine.proofs.Demand3.{solved-ends, demand3}
@@ -33,20 +31,20 @@ use Rattle.plan_laws.proofs.Low.{row-cut}
 use Rattle.plan_laws.proofs.Picked.{picked-has}
 use Rattle.layout.specs.declared.Block.{Block}
 use Rattle.layout.specs.declared.Plan.{Plan}
-use Rattle.layout.specs.Layout.{yAt, lAt, workingSize}
+use Rattle.layout.specs.Layout.{lAt, workingSize}
 use Rattle.memory.specs.Numbers.{Lent}
 use Rattle.layout.specs.Lists.{wordsAt}
 use Rattle.memory.specs.Planned.{Planned, Counted}
 use Rattle.memory.specs.Calls.{callIn, memoryIn}
-use Rattle.memory.proofs.Calls.{region-is, lanes-all}
+use Rattle.memory.proofs.Calls.{lanes-all}
+use Rattle.outputs.specs.Outputs.{outputOf}
 use Rattle.step.specs.Steps.{Untouched}
 use Rattle.ipm_simd.specs.declared.SolveAnswer.{SolveAnswer}
 use Rattle.ipm_simd.specs.declared.SolveAnswer.the-variants as answers
 use Rattle.ipm_simd.specs.Solve.{Given, lent, call, words, room, priceCount, lengthsOf, plannedHas, toldSolve, outcomeVerdict, sizesVerdict, memoryVerdict, begun, solveVerdict, ifPassed, solveBuffers, Solved}
-use Rattle.ipm_simd.specs.Parts.{Asked10, EntriesBelow, outputFrom, Finished, Continued}
+use Rattle.ipm_simd.specs.Parts.{Asked10, EntriesBelow, Finished, Continued}
 use Rattle.ipm_common.specs.Plan.{written as indexed}
 use Rattle.ipm_common.proofs.Final.{written-yes, written-other}
-use Rattle.ipm_simd.proofs.Numbers.{rest-same}
 use Rattle.ipm_simd.proofs.Questions.{sizes-of, not-passed}
 
 -- the plan by value, of E, S and D
@@ -63,6 +61,12 @@ words-of off cols m n s stored shared products c = omega (arith, c .stored, c .s
 room-of : (off cols : List ℕ) (m n s e : ℕ) → e ≡ countE off cols m → workingSize 4 m n s e ≡ sizeF off cols m n s
 unfolding sizeF
 room-of off cols m n s e q = omega (arith, q)
+
+-- what lies behind the entries that were touched
+rest-same : (top k : ℕ) (old new : List Float) → Untouched 4 top old new → k ≡ 4 * top → drop k new ≡ drop k old
+rest-same top k old new U e =
+    ext-getD nan (drop k new) (drop k old) (length-drop k new ∙ ap (λ (j : ℕ). j - k) (U .size) ∙ sym (length-drop k old))
+    (λ i h. getD-drop k new i nan ∙ U .beyond (k + i) (omega arith) ∙ sym (getD-drop k old i nan))
 
 -- ---- the lowest spoilt lane is one of four
 pub lane-under : (C : Call) (N : ℕ) (o : Outcome) → o ≡ solved C N → (k l : ℕ) → o ≡ noAt11 k l → l < C .K
@@ -103,29 +107,23 @@ module _ (a : Given) {output prices work : List Float} {index : List ℕ} {store
       rw (lanes-all 4 (a .m) (a .b) (omega arith) (Q .b-long), lanes-all 4 (a .n) (a .c) (omega arith) (Q .c-long), lanes-all 4 3 (a .tolerances) (omega arith) (Q .tol-long))
       at R
 
-  -- an output that takes a region of the memory takes that list of each machine
-  module _ {N : ℕ} {M : Memory} {o : Outcome} (R : Ran (call a) N M o) (f : State → List Float) (at count : ℕ) (old work1 : List Float)
-      (is : (l : ℕ) → f (M l) ≡ reg 4 work1 at count l) (long : length old ≡ 4 * count) (fits : 4 * (at + count) ≤ length work1) where
-    pub output-is : outputFrom at o work1 old ≡ outputAfter (call a) f count o old
-    output-is = go o refl
-      where
-        go : (e : Outcome) → o ≡ e → outputFrom at e work1 old ≡ outputAfter (call a) f count e old
-        go (accepted k) q =
-            let z : 4 * at + length old ≡ 4 * (at + count) = omega (arith, long) in
-            ap (λ (j : ℕ). cut (4 * at) j work1) z
-            ∙ region-is 4 work1 at count (omega arith) fits
-            ∙ ap (interleaved 4 count) {x = λ l e. elem (reg 4 work1 at count l) e} {y = λ l e. elem (f (M l)) e} (λ i l e. elem (sym (is l) i) e)
-            ∙ ran-field (call a) R f count k q (omega arith)
-        go (noAt11 k l) q = refl
-        go (noAt12 k) q = refl
+  -- an output that takes a list of each lane's numbers takes that list of each machine
+  output-is : {M : Memory} {o : Outcome} → Ran (call a) (a .limit) M o → (f : State → List Float) (count : ℕ) (old : List Float) {new : List Float}
+      → new ≡ outputOf 4 f count M o old → new ≡ outputAfter (call a) f count (solved (call a) (a .limit)) old
+  output-is {M} {o} R f count old {new} e = e ∙ go o refl ∙ ap (λ (z : Outcome). outputAfter (call a) f count z old) (R .answer)
+    where
+      go : (z : Outcome) → o ≡ z → outputOf 4 f count M z old ≡ outputAfter (call a) f count z old
+      go (accepted k) q = ran-field (call a) R f count k q (omega arith)
+      go (noAt11 k l) q = refl
+      go (noAt12 k) q = refl
 
   pub finished : {index1 : List ℕ} {work1 output1 prices1 work2 : List Float} {o : Outcome} {r : SolveAnswer}
       → index1 ≡ words a ++ drop (sizeW (a .offsets) (a .columns) (a .m) (a .n)) index
       → Untouched 4 (lAt (a .n) (a .m) (a .s) + stored) work work1
       → Ran (call a) (a .limit) (memoryIn (planOf a stored shared products) 4 work1) o
       → toldSolve r ≡ outcomeVerdict (length prices) o
-      → output1 ≡ outputFrom 0 o work1 output
-      → prices1 ≡ outputFrom (yAt (a .n)) o work1 prices
+      → output1 ≡ outputOf 4 (λ q. q .x) (a .n) (memoryIn (planOf a stored shared products) 4 work1) o output
+      → prices1 ≡ outputOf 4 (λ q. q .y) (a .m) (memoryIn (planOf a stored shared products) 4 work1) o prices
       → work2 ≡ replicate (workingSize 4 (a .m) (a .n) (a .s) stored) null ++ drop (workingSize 4 (a .m) (a .n) (a .s) stored) work1
       → Finished a (lent output prices index work) (lent output1 prices1 index1 work2) r
   finished {index1} {work1} {output1} {prices1} {work2} {o} {r} ei U R er eo ep ew = record {
@@ -139,10 +137,10 @@ module _ (a : Given) {output prices work : List Float} {index : List ℕ} {store
       F = workingSize 4 (a .m) (a .n) (a .s) stored
 
       x-out : output1 ≡ outputAfter (call a) (λ q. q .x) (a .n) (solved (call a) (a .limit)) output
-      x-out = eo ∙ output-is R (λ q. q .x) 0 (a .n) output work1 (λ l. refl) (Q .output) (omega (arith, U .size, Q .work)) ∙ ap (λ (z : Outcome). outputAfter (call a) (λ q. q .x) (a .n) z output) (R .answer)
+      x-out = output-is R (λ q. q .x) (a .n) output eo
 
       y-out : prices1 ≡ outputAfter (call a) (λ q. q .y) (a .m) (solved (call a) (a .limit)) prices
-      y-out = ep ∙ output-is R (λ q. q .y) (yAt (a .n)) (a .m) prices work1 (λ l. refl) (Q .prices) (omega (arith, U .size, Q .work)) ∙ ap (λ (z : Outcome). outputAfter (call a) (λ q. q .y) (a .m) z prices) (R .answer)
+      y-out = output-is R (λ q. q .y) (a .m) prices ep
 
       plan : index1 ≡ words a ++ drop (length (words a)) index
       plan = ei ∙ ap (λ (k : ℕ). words a ++ drop k index) (sym (plan-size (a .offsets) (a .columns) (a .m) (a .n) (Q .ok)))

@@ -1,15 +1,12 @@
 -- What the parts of a solve start from, and what they leave. Definitions only.
 use mathlib.Core.Path.{_≡_}
 use mathlib.Core.List.{List, _++_}
-use Prim.Native.Nat.{ℕ, _+_, _*_, _<_, _≤_}
+use Prim.Native.Nat.{ℕ, _*_, _<_, _≤_}
 use lib.ListN.{length, drop}
 use lib.Ieee.{Float}
-use Rattle.base.specs.Numbers.{cut}
 use Rattle.layout.specs.Layout.{workingSize}
 use Rattle.csr.specs.Csr.{Accepted}
 use Rattle.csr.specs.Counts.{sizeW}
-use Rattle.machine.specs.declared.Outcome.{Outcome}
-use Rattle.machine.specs.declared.Outcome.the-variants.{Accepted as accepted, NoAt11 as noAt11, NoAt12 as noAt12}
 use Rattle.machine.specs.Outcome.{largestLimit, solved}
 use Rattle.machine.specs.Demand3.{Buffers, leaves, Demand3}
 use Rattle.csr.specs.Verdict.{passed, andThen}
@@ -39,16 +36,6 @@ pub record Asked10 (a : Given) (B : Buffers) (stored shared products : ℕ) : Ty
 pub record EntriesBelow (m n s : ℕ) (L : Lengths) (N r : ℕ) : Type 0 where
   pub yes : (W E : ℕ) → W ≤ L .index → E < r → sizesVerdict W E m n s L N ≡ passed
   pub under : (W E : ℕ) → sizesVerdict W E m n s L N ≡ passed → E < r
-
--- on acceptance the new list, else the old
-abbrev pub written : Outcome → List Float → List Float → List Float
-written (accepted k) new old = new
-written (noAt11 k l) new old = old
-written (noAt12 k) new old = old
-
--- on acceptance an output takes the working memory from entry o on, as much as it is long
-abbrev pub outputFrom : ℕ → Outcome → List Float → List Float → List Float
-outputFrom o e work output = written e (cut (4 * o) (4 * o + length output) work) output
 
 -- the tests were made: the answer, the lent lists and demand 3
 pub record Finished (a : Given) (B B′ : Buffers) (r : SolveAnswer) : Type 0 where

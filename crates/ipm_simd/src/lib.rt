@@ -2,18 +2,17 @@
 ghost use mathlib.Core.Path.{_≡_};
 ghost use mathlib.Core.Bool.{_&&_};
 ghost use mathlib.Core.List.{_++_};
-ghost use Prim.Native.Nat.{ℕ, _+_, _*_, _<_, _≤_};
+ghost use Prim.Native.Nat.{ℕ, _+_, _<_, _≤_};
 ghost use lib.Dec.{leb};
 ghost use lib.ListN.{length, drop, replicate};
 ghost use Rattle.csr.specs.Csr.{Accepted, maxStored};
 ghost use Rattle.csr.specs.Verdict.{toldAsked};
 ghost use Rattle.lanes.specs.Arithmetic.{null};
-ghost use Rattle.layout.specs.Layout.{yAt, lIn, topWord};
 ghost use Rattle.machine.specs.declared.Outcome.the-variants.{NoAt11};
 ghost use Rattle.machine.specs.Outcome.{largestLimit};
 ghost use Rattle.memory.specs.Planned.{Planned};
 ghost use Rattle.ipm_simd.specs.Solve.{given, lent, toldSolve, outcomeVerdict, lengthsRight, sizesVerdict, Solved};
-ghost use Rattle.ipm_simd.specs.Parts.{Asked10, EntriesBelow, outputFrom, Ends, Continued};
+ghost use Rattle.ipm_simd.specs.Parts.{Asked10, EntriesBelow, Ends, Continued};
 ghost use Rattle.csr.specs.Questions.{maxRows, maxColumns};
 use csr::Asked;
 use csr::Refusal;
@@ -114,18 +113,6 @@ fn ask_sizes(words: usize, plan: Plan, lengths: Lengths, limit: usize) -> Asked
     Asked::Good
 }
 
-// One list takes another's numbers.
-fn copy(output: &mut [f64], numbers: &[f64])
-    requires { ⌜ length (now output) ≡ length (now numbers) ⌝ }
-    ensures { λ _. ⌜ now (output .exit) ≡ now (numbers .entry) ⌝ }
-{
-    let mut i = 0;
-    while i < output.len() {
-        output[i] = numbers[i];
-        i += 1;
-    }
-}
-
 // +0.0 in the first k numbers.
 fn clear_front(work: &mut [f64], k: usize)
     requires { ⌜ k ≤ length (now work) ⌝ }
@@ -138,42 +125,19 @@ fn clear_front(work: &mut [f64], k: usize)
     }
 }
 
-// On acceptance the output takes the memory from entry `from` on, as much as it is long.
-fn write_output(outcome: Outcome, output: &mut [f64], work: &[f64], from: usize)
-    requires { ⌜ 4 * from + length (now output) ≤ length (now work) ⌝ }
-    ensures { λ _. ⌜ now (output .exit) ≡ outputFrom from outcome (now (work .entry)) (now (output .entry)) ⌝ }
+// The answer, where y has so many numbers.
+fn answer(outcome: Outcome, length: usize) -> SolveAnswer
+    requires { ⌜ ((k l : ℕ) → outcome ≡ NoAt11 k l → l < 4) ⌝ }
+    ensures { λ r. ⌜ toldSolve r ≡ outcomeVerdict length outcome ⌝ }
 {
-    let start = LANES * from;
-    let end = start + output.len();
     match outcome {
-        Outcome::Accepted(_) => copy(output, &work[start..end]),
-        Outcome::NoAt11(_, _) => {}
-        Outcome::NoAt12(_) => {}
-    }
-}
-
-// The answer, and on acceptance x in the output and y in the prices.
-fn report(
-    outcome: Outcome,
-    plan: Plan,
-    output: &mut [f64],
-    prices: &mut [f64],
-    work: &[f64],
-) -> SolveAnswer
-    requires { ⌜ (lIn plan ≤ topWord) × (length (now output) ≤ length (now work)) × (4 * yAt (plan .n) + length (now prices) ≤ length (now work)) × ((k l : ℕ) → outcome ≡ NoAt11 k l → l < 4) ⌝ }
-    ensures { λ r. ⌜ (toldSolve r ≡ outcomeVerdict (length (now (prices .entry))) outcome) × (now (output .exit) ≡ outputFrom 0 outcome (now (work .entry)) (now (output .entry))) × (now (prices .exit) ≡ outputFrom (yAt (plan .n)) outcome (now (work .entry)) (now (prices .entry))) ⌝ }
-{
-    let at = plan.regions();
-    write_output(outcome, output, work, at.x);
-    write_output(outcome, prices, work, at.y);
-    match outcome {
-        Outcome::Accepted(k) => SolveAnswer::Accepted(k, prices.len()),
+        Outcome::Accepted(k) => SolveAnswer::Accepted(k, length),
         Outcome::NoAt11(k, l) => SolveAnswer::Refused(Refusal::new(SPOILT, k, l as u32)),
         Outcome::NoAt12(k) => SolveAnswer::Refused(Refusal::new(NOT_DONE, k, 0)),
     }
 }
 
-// The tests, the output and the clearing, after ten yeses and the plan.
+// The tests, the outputs and the clearing, after ten yeses and the plan.
 fn solve_planned(
     plan: Plan,
     offsets: &[u32],
@@ -210,9 +174,9 @@ fn solve_planned(
         LANES,
         limit,
     );
-    let answer = report(outcome, plan, output, prices, work);
+    outputs::write_outputs(outcome, plan, LANES, output, prices, work);
     clear_front(work, room);
-    answer
+    answer(outcome, prices.len())
 }
 
 // How many stored entries the working memory has no room for: questions 7 to 10 get a yes just where E is below this.

@@ -13,7 +13,7 @@ use Rattle.ipm_simd.specs.Solve.{Given, given, lent}
 use Rattle.record.specs.declared.RecordSizes.{RecordSizes}
 use Rattle.record.specs.Little.{le2, le8, shorts, floats}
 use Rattle.record.specs.Record.{mOf, nOf, tOf, columnsAt, valuesAt, tolerancesAt, bAt, cAt, sizesOf}
-use Rattle.reading.specs.Parts.{Whole, mostShorts, mostFloats, mostOutput, mostPrices, partsOf}
+use Rattle.reading.specs.Parts.{Whole, mostShorts, mostFloats, mostOutput, partsOf}
 use Rattle.reading.specs.Answer.{givenOf, solveText, lentFor, zeros, blank, indexWords, workFloats}
 
 -- ---- an array whose first k elements were lent and became `new`
@@ -100,9 +100,10 @@ pub blank-long : (k : ℕ) → length (blank k) ≡ k
 unfolding blank
 blank-long k = lib.ListN.length-replicate k (ofBits binary64 0)
 
-blank-take : (k n : ℕ) → k ≤ n → take k (blank n) ≡ blank k
+-- the front of a memory of +0.0
+pub blank-front : (k n : ℕ) (arr : List Float) → arr ≡ blank n → k ≤ n → take k arr ≡ blank k
 unfolding blank
-blank-take k n h = take-replicate k n (ofBits binary64 0) h
+blank-front k n arr e h = ap (take k) e ∙ take-replicate k n (ofBits binary64 0) h
 
 -- ---- the arrays are long enough
 module _ {s : List ℕ} {z : RecordSizes} (W : Whole s z) where
@@ -115,35 +116,31 @@ module _ {s : List ℕ} {z : RecordSizes} (W : Whole s z) where
   pub output-long : {arr : List Float} → arr ≡ blank mostOutput → length (take (4 * z .n) arr) ≡ 4 * z .n
   output-long {arr} e = length-take-le (4 * z .n) arr (omega (arith, ap length e, blank-long mostOutput, W .columns))
 
-  pub prices-long : {arr : List Float} → arr ≡ blank mostPrices → length (take (4 * z .m) arr) ≡ 4 * z .m
-  prices-long {arr} e = length-take-le (4 * z .m) arr (omega (arith, ap length e, blank-long mostPrices, W .rows))
-
 -- ---- the text of what was read is the text of the record's solve
 module _ (s : List ℕ) (z : RecordSizes) (W : Whole s z) where
-  lent-is : (o y w : List Float) (i : List ℕ) → o ≡ blank mostOutput → y ≡ blank mostPrices → i ≡ zeros indexWords → w ≡ blank workFloats
-      → lent (take (4 * z .n) o) (take (4 * z .m) y) i w ≡ lentFor (mOf s) (nOf s)
-  lent-is o y w i eo ey ei ew =
+  lent-is : (o w : List Float) (i : List ℕ) → o ≡ blank mostOutput → i ≡ zeros indexWords → w ≡ blank workFloats
+      → lent (take (4 * z .n) o) (blank (4 * z .m)) i w ≡ lentFor (mOf s) (nOf s)
+  lent-is o w i eo ei ew =
       let o-is : take (4 * z .n) o ≡ blank (4 * nOf s) =
-      ap (take (4 * z .n)) eo ∙ blank-take (4 * z .n) mostOutput (omega (arith, W .columns)) ∙ ap (λ (v : RecordSizes). blank (4 * v .n)) (W .sizes) in
-      let y-is : take (4 * z .m) y ≡ blank (4 * mOf s) =
-      ap (take (4 * z .m)) ey ∙ blank-take (4 * z .m) mostPrices (omega (arith, W .rows)) ∙ ap (λ (v : RecordSizes). blank (4 * v .m)) (W .sizes) in
+      blank-front (4 * z .n) mostOutput o eo (omega (arith, W .columns)) ∙ ap (λ (v : RecordSizes). blank (4 * v .n)) (W .sizes) in
+      let y-is : blank (4 * z .m) ≡ blank (4 * mOf s) = ap (λ (v : RecordSizes). blank (4 * v .m)) (W .sizes) in
       cc
 
-  pub read-text : (o y w : List Float) (i : List ℕ) (arr S : List ℕ) (brr F : List Float)
-      → o ≡ blank mostOutput → y ≡ blank mostPrices → i ≡ zeros indexWords → w ≡ blank workFloats
+  pub read-text : (o w : List Float) (i : List ℕ) (arr S : List ℕ) (brr F : List Float)
+      → o ≡ blank mostOutput → i ≡ zeros indexWords → w ≡ blank workFloats
       → arr ≡ zeros mostShorts → S ≡ shorts s 16 (length (take (shortCount z) arr))
       → brr ≡ blank mostFloats → F ≡ floats s (floatsFrom z) (length (take (floatCount z) brr))
       → length S ≡ length (take (shortCount z) arr) → length F ≡ length (take (floatCount z) brr)
-      → solveText (partsOf z (take (shortCount z) (S ++ drop (shortCount z) arr)) (take (floatCount z) (F ++ drop (floatCount z) brr))) (lent (take (4 * z .n) o) (take (4 * z .m) y) i w)
+      → solveText (partsOf z (take (shortCount z) (S ++ drop (shortCount z) arr)) (take (floatCount z) (F ++ drop (floatCount z) brr))) (lent (take (4 * z .n) o) (blank (4 * z .m)) i w)
       ≡ solveText (givenOf s) (lentFor (mOf s) (nOf s))
-  read-text o y w i arr S brr F eo ey ei ew la eS lb eF kS kF =
+  read-text o w i arr S brr F eo ei ew la eS lb eF kS kF =
       let fa : shortCount z ≤ length arr = shorts-fit W la in
       let fb : floatCount z ≤ length brr = floats-fit W lb in
       let S-is : take (shortCount z) (S ++ drop (shortCount z) arr) ≡ shorts s 16 (shortCount z) =
       front-is arr S (shortCount z) fa kS ∙ eS ∙ ap (shorts s 16) (length-take-le (shortCount z) arr fa) in
       let F-is : take (floatCount z) (F ++ drop (floatCount z) brr) ≡ floats s (floatsFrom z) (floatCount z) =
       front-is brr F (floatCount z) fb kF ∙ eF ∙ ap (floats s (floatsFrom z)) (length-take-le (floatCount z) brr fb) in
-      ap₂ solveText (ap₂ (partsOf z) S-is F-is ∙ parts-given s z (W .sizes)) (lent-is o y w i eo ey ei ew)
+      ap₂ solveText (ap₂ (partsOf z) S-is F-is ∙ parts-given s z (W .sizes)) (lent-is o w i eo ei ew)
 
 -- ---- parts cut by their ends
 cut : (a b : ℕ) → a + b - a ≡ b

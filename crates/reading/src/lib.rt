@@ -7,9 +7,9 @@ ghost use lib.ListN.{length};
 ghost use Rattle.io.specs.Counts.{Counts};
 ghost use Rattle.base.specs.Cat.{Wrote};
 ghost use Rattle.ipm_simd.specs.Solve.{given, lent};
-ghost use Rattle.record.specs.Record.{mOf, nOf, mostColumns};
+ghost use Rattle.record.specs.Record.{mOf, nOf, mostRows, mostColumns};
 ghost use Rattle.reading.specs.Parts.{Whole, Parts, partsOf};
-ghost use Rattle.reading.specs.Answer.{answerBytes, solveText, givenOf, lentFor, answerText};
+ghost use Rattle.reading.specs.Answer.{answerBytes, solveText, blank, givenOf, lentFor, answerText};
 use ipm_simd::SolveAnswer;
 use record::Header;
 use record::LANES;
@@ -18,7 +18,7 @@ use record::RecordSizes;
 use record::SHORT_BYTES;
 use record::TOLERANCES;
 
-// Solves, and puts the text of the answer at the start of out.
+// Solves, and puts the text of the answer at the start of out. The text has no y, so its memory is made here.
 fn solve_text(
     m: usize,
     n: usize,
@@ -31,14 +31,15 @@ fn solve_text(
     tolerances: &[f64],
     limit: usize,
     output: &mut [f64],
-    prices: &mut [f64],
     index: &mut [u32],
     work: &mut [f64],
     out: &mut [u8],
 ) -> usize
-    requires { ⌜ (n ≤ mostColumns) × (length (now output) ≡ 4 * n) × (answerBytes ≤ length (now out)) ⌝ }
-    ensures { λ r. ⌜ Wrote (now (out .entry)) (now (out .exit)) 0 (solveText (given m n s (now (offsets .entry)) (now (columns .entry)) (now (values .entry)) (now (b .entry)) (now (c .entry)) (now (tolerances .entry)) limit) (lent (now (output .entry)) (now (prices .entry)) (now (index .entry)) (now (work .entry)))) r ⌝ }
+    requires { ⌜ (m ≤ mostRows) × (n ≤ mostColumns) × (length (now output) ≡ 4 * n) × (answerBytes ≤ length (now out)) ⌝ }
+    ensures { λ r. ⌜ Wrote (now (out .entry)) (now (out .exit)) 0 (solveText (given m n s (now (offsets .entry)) (now (columns .entry)) (now (values .entry)) (now (b .entry)) (now (c .entry)) (now (tolerances .entry)) limit) (lent (now (output .entry)) (blank (4 * m)) (now (index .entry)) (now (work .entry)))) r ⌝ }
 {
+    let mut prices = memory::prices();
+    let price_count = LANES * m;
     let answer = ipm_simd::solve(
         m,
         n,
@@ -51,7 +52,7 @@ fn solve_text(
         tolerances,
         limit,
         output,
-        prices,
+        &mut prices[..price_count],
         index,
         work,
     );
@@ -67,13 +68,12 @@ fn solve_parts(
     floats: &[f64],
     sizes: RecordSizes,
     output: &mut [f64],
-    prices: &mut [f64],
     index: &mut [u32],
     work: &mut [f64],
     out: &mut [u8],
 ) -> usize
     requires { ⌜ Parts (length (now shorts)) (length (now floats)) (length (now output)) (length (now out)) sizes ⌝ }
-    ensures { λ r. ⌜ Wrote (now (out .entry)) (now (out .exit)) 0 (solveText (partsOf sizes (now (shorts .entry)) (now (floats .entry))) (lent (now (output .entry)) (now (prices .entry)) (now (index .entry)) (now (work .entry)))) r ⌝ }
+    ensures { λ r. ⌜ Wrote (now (out .entry)) (now (out .exit)) 0 (solveText (partsOf sizes (now (shorts .entry)) (now (floats .entry))) (lent (now (output .entry)) (blank (4 * sizes .m)) (now (index .entry)) (now (work .entry)))) r ⌝ }
 {
     let m = sizes.m;
     let n = sizes.n;
@@ -95,7 +95,6 @@ fn solve_parts(
         &floats[t..b],
         sizes.limit,
         output,
-        prices,
         index,
         work,
         out,
@@ -113,11 +112,9 @@ fn answer(bytes: &[u8], sizes: RecordSizes, out: &mut [u8]) -> usize
     let short_count = m + 1 + t;
     let float_count = t + TOLERANCES + LANES * m + LANES * n;
     let output_count = LANES * n;
-    let price_count = LANES * m;
     let mut shorts = memory::shorts();
     let mut floats = memory::floats();
     let mut output = memory::output();
-    let mut prices = memory::prices();
     let mut index = memory::index();
     let mut work = memory::work();
     record::read_shorts(bytes, OFFSETS_AT, &mut shorts[..short_count]);
@@ -131,7 +128,6 @@ fn answer(bytes: &[u8], sizes: RecordSizes, out: &mut [u8]) -> usize
         &floats[..float_count],
         sizes,
         &mut output[..output_count],
-        &mut prices[..price_count],
         &mut index,
         &mut work,
         out,

@@ -13,7 +13,7 @@ pack-requires c κs =
     let a = c .before .before .before .before .before .before .before .before .before .before .before .before .before .before .before .before .before .before .before .before .before .before .before .before .before .before .args in
     let said = sym (c .before .before .before .before .before .before .before .before .before .before .before .solve .ensures .answer) ∙ ap toldSolve (c .before .k .given .1) in
     let small = subst Small said (small-solve (given (a .m) (a .n) (a .s) (a .offsets .now) (a .columns .now) (a .values .now) (a .b .now) (a .c .now) (a .tolerances .now) (a .limit)) (lent (a .output .now) (a .prices .now) (a .index .now) (a .work .now))) in
-    (small .1, omega arith, small .0, omega arith)
+    (omega (arith, small .1), omega arith, small .0, omega arith)
 
 pack-requires-2 : tie.Need-pack-requires-2
 pack-requires-2 c κs =

@@ -1,20 +1,30 @@
+use mathlib.Core.Path.{sym, ap}
+use native.Mathlib.Omega.{arith}
+use Prim.Native.Nat.{_*_}
+use lib.ListN.{length}
+use lib.Seq.{length-take-le}
+use Rattle.reading.specs.Parts.{mostPrices}
 use Rattle.reading.proofs.Answers.{accepted-text, refused-text}
+use Rattle.reading.proofs.Parts.{blank-long, blank-front}
 use Rattle.answer_text.proofs.Texts.{same-text}
 use borrow.Author.Needs.{needs}
 use Rattle.reading.proofs.solve_text.Statement.{statement}
 use Rattle.reading.proofs.solve_text.Tie as tie
 
+slice-aggregate-solve : tie.Need-slice-aggregate-solve
+slice-aggregate-solve c = sym (length-take-le _ _ (omega (arith, ap length (c .before .before .prices .ensures), blank-long mostPrices, c .before .before .before .before .before .before .before .before .before .before .before .before .before .pre .0)))
+
 returns : tie.Need-returns
 returns c =
-    let solve = c .before .before .before .before .before .before .before .before .before .before .before .before .before .before .before .before .solve .ensures in
-    let told = c .before .before .before .before .before .before .answer .given .1 in
-    same-text (accepted-text solve _ _ told) (c .before .before .put-accepted .ensures)
+    let s = c .before .before .before .before .before .before .before .before .before .before .before .before .before .before .before .before .before .before .before .before .before .before .before .before .before .before .before .before .before .before .before in
+    let lent = blank-front (4 * s .args .m) mostPrices (c .before .before .before .before .before .before .before .before .before .before .before .before .before .before .before .before .before .before .before .before .prices .result) (c .before .before .before .before .before .before .before .before .before .before .before .before .before .before .before .before .before .before .before .before .prices .ensures) (omega (arith, s .pre .0)) in
+    same-text (rw lent at (accepted-text (c .before .before .before .before .before .before .before .before .before .before .before .before .before .before .before .solve .ensures) _ _ (c .before .before .before .before .before .before .answer .given .1))) (c .before .before .put-accepted .ensures)
 
 returns-2 : tie.Need-returns-2
 returns-2 c =
-    let solve = c .before .before .before .before .before .before .before .before .before .before .before .before .before .before .before .solve .ensures in
-    let told = c .before .before .before .before .before .answer2 .given .1 in
-    same-text (refused-text solve _ told) (c .before .before .put-refused .ensures)
+    let s = c .before .before .before .before .before .before .before .before .before .before .before .before .before .before .before .before .before .before .before .before .before .before .before .before .before .before .before .before .before .before in
+    let lent = blank-front (4 * s .args .m) mostPrices (c .before .before .before .before .before .before .before .before .before .before .before .before .before .before .before .before .before .before .before .prices .result) (c .before .before .before .before .before .before .before .before .before .before .before .before .before .before .before .before .before .before .before .prices .ensures) (omega (arith, s .pre .0)) in
+    same-text (rw lent at (refused-text (c .before .before .before .before .before .before .before .before .before .before .before .before .before .before .solve .ensures) _ (c .before .before .before .before .before .answer2 .given .1))) (c .before .before .put-refused .ensures)
 
 pub solve-text-spec : {M : Type 1} → statement M
-solve-text-spec = tie.close (tie.spec (λ c κs. search needs) (λ c. search needs) (λ c κs. search needs) (λ c. search needs) (λ c κs. search needs) (λ c. search needs) (λ c. search needs) (λ c. search needs) (λ c. search needs) (λ c. search needs) returns (λ c. search needs) (λ c. search needs) (λ c. search needs) (λ c. search needs) (λ c. search needs) returns-2)
+solve-text-spec = tie.close (tie.spec (λ c κs. search needs) (λ c. search needs) (λ c. search needs) slice-aggregate-solve (λ c κs. search needs) (λ c. search needs) (λ c κs. search needs) (λ c. search needs) (λ c κs. search needs) (λ c. search needs) (λ c. search needs) (λ c. search needs) (λ c. search needs) returns (λ c. search needs) (λ c. search needs) (λ c. search needs) (λ c. search needs) returns-2)

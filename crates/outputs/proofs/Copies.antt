@@ -1,15 +1,14 @@
--- Lists of numbers written from the front. Assumes nothing.
+-- A list that takes another's numbers from the front. Assumes nothing.
 use mathlib.Core.Path.{_≡_, sym, ap, _∙_}
 use mathlib.Core.List.{List, _++_, append-nil}
-use Prim.Native.Nat.{ℕ, _+_, _-_, _*_, _<_}
+use Prim.Native.Nat.{ℕ, _+_, _<_}
 use native.Mathlib.Numerals.{add-one}
 use native.Mathlib.Omega.{arith}
-use lib.ListN.{length, set, take, drop, length-drop}
-use lib.Seq.{ext-getD, take-suc, take-all, length-take-le, drop-length, getD-drop}
+use lib.ListN.{length, set, take, drop}
+use lib.Seq.{take-suc, take-all, length-take-le, drop-length}
 use lib.Ieee.{Float, nan}
 use Rattle.base.proofs.Front.{put-next}
 use Rattle.lanes.specs.Lists.{at}
-use Rattle.step.specs.Steps.{Untouched}
 
 -- the first i numbers of `new` are those of a source
 pub copied-next : (source old new : List Float) (i : ℕ) → new ≡ take i source ++ drop i old → i < length source → i < length old
@@ -26,9 +25,3 @@ copied-all source old new i e h s =
     ∙ ap (λ (x : List Float). take i source ++ x) (drop-length old)
     ∙ append-nil (take i source)
     ∙ take-all i source (omega arith)
-
--- what lies behind the entries that were touched
-pub rest-same : (top k : ℕ) (old new : List Float) → Untouched 4 top old new → k ≡ 4 * top → drop k new ≡ drop k old
-rest-same top k old new U e =
-    ext-getD nan (drop k new) (drop k old) (length-drop k new ∙ ap (λ (j : ℕ). j - k) (U .size) ∙ sym (length-drop k old))
-    (λ i h. getD-drop k new i nan ∙ U .beyond (k + i) (omega arith) ∙ sym (getD-drop k old i nan))

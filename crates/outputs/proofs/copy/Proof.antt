@@ -3,10 +3,10 @@ use mathlib.Core.Path.{_≡_, refl}
 use mathlib.Core.List.{_++_}
 use Prim.Native.Nat.{_-_, _≤_}
 use lib.ListN.{length, take, drop, length-set}
-use Rattle.ipm_simd.proofs.Numbers.{copied-next, copied-all}
+use Rattle.outputs.proofs.Copies.{copied-next, copied-all}
 use borrow.Author.Needs.{needs}
-use Rattle.ipm_simd.proofs.copy.Statement.{statement}
-use Rattle.ipm_simd.proofs.copy.Tie as tie
+use Rattle.outputs.proofs.copy.Statement.{statement}
+use Rattle.outputs.proofs.copy.Tie as tie
 
 abbrev Inv-loop : tie.InvT-loop
 Inv-loop output₀ numbers i₀ output i = (i ≤ length output₀) × (length output ≡ length output₀) × (output ≡ take i numbers ++ drop i output₀)
