@@ -24,7 +24,7 @@ ask false next other = other
 abbrev pub andThen : Verdict → Verdict → Verdict
 andThen passed next = next
 andThen (planned w) next = planned w
-andThen (accepted k y) next = accepted k y
+andThen (accepted k count) next = accepted k count
 andThen (refused q p l) next = refused q p l
 
 abbrev pub refusal : Refusal → Verdict

@@ -33,7 +33,7 @@ use Rattle.lists.proofs.Few.{few-stored, few-shared, few-products}
 abbrev pub Small : Verdict → Type 0
 Small passed = Unit {0}
 Small (planned w) = w < 2 ^ 32
-Small (accepted k y) = (k < 2 ^ 32) × (y < 2 ^ 16)
+Small (accepted k count) = (k < 2 ^ 32) × (count < 2 ^ 16)
 Small (refused q p l) = (q ≤ 12) × (p < 2 ^ 32) × (l < 2 ^ 8)
 
 small-ask : (t : Bool) (v w : Verdict) → (t ≡ true → Small v) → Small w → Small (ask t v w)
@@ -43,7 +43,7 @@ small-ask false v w h g = g
 small-then : (v w : Verdict) → Small v → (v ≡ passed → Small w) → Small (andThen v w)
 small-then passed w h g = g refl
 small-then (planned k) w h g = h
-small-then (accepted k y) w h g = h
+small-then (accepted k count) w h g = h
 small-then (refused q p l) w h g = h
 
 -- W is below 2 ^ 32
@@ -94,20 +94,20 @@ small-plan m n off cols words =
 
 -- ---- the tests
 
-small-choice : (y : ℕ) (t : Bool) (o o′ : Outcome) → Small (outcomeVerdict y o) → Small (outcomeVerdict y o′) → Small (outcomeVerdict y (cond t o o′))
-small-choice y true o o′ h g = h
-small-choice y false o o′ h g = g
+small-choice : (count : ℕ) (t : Bool) (o o′ : Outcome) → Small (outcomeVerdict count o) → Small (outcomeVerdict count o′) → Small (outcomeVerdict count (cond t o o′))
+small-choice count true o o′ h g = h
+small-choice count false o o′ h g = g
 
 -- QUESTIONS 11 AND 12, of at most four lanes, under a limit that question 10 lets pass, with y that is not too long
-pub small-outcome : (K : ℕ) (says : ℕ → ℕ → Status) (N y : ℕ) → K ≤ 4 → N ≤ 10000 → y < 2 ^ 16 → Small (outcomeVerdict y (outcome K says N))
+pub small-outcome : (K : ℕ) (says : ℕ → ℕ → Status) (N count : ℕ) → K ≤ 4 → N ≤ 10000 → count < 2 ^ 16 → Small (outcomeVerdict count (outcome K says N))
 unfolding outcome lowestSpoilt
-small-outcome K says N y few limit short =
+small-outcome K says N count few limit short =
     let stops : ℕ → Bool = λ (i : ℕ). someSpoilt K says (i + 1) || allDone K says (i + 1) in
     let k = first N stops + 1 in
     let upTo = first-le stops N in
     let lane = first-le (λ (l : ℕ). isSpoilt (says l k)) K in
-    small-choice y (eqb (first N stops) N) (noAt12 N) _ (omega arith, omega (arith, limit), omega arith)
-    (small-choice y (someSpoilt K says k) (noAt11 k (lowestSpoilt K says k)) (acceptedAt k)
+    small-choice count (eqb (first N stops) N) (noAt12 N) _ (omega arith, omega (arith, limit), omega arith)
+    (small-choice count (someSpoilt K says k) (noAt11 k (lowestSpoilt K says k)) (acceptedAt k)
     (omega arith, omega (arith, limit, upTo), omega (arith, few, lane)) (omega (arith, limit, upTo), short))
 
 -- QUESTIONS 6 TO 10
@@ -135,7 +135,7 @@ small-sizes W E m n s L N =
 passes : (v w : Verdict) → andThen v w ≡ passed → (v ≡ passed) × (w ≡ passed)
 passes passed w e = (refl, e)
 passes (planned k) w e = let z : _≡_ {A = ℕ} 0 1 = cc in absurd (omega arith)
-passes (accepted k y) w e = let z : _≡_ {A = ℕ} 0 1 = cc in absurd (omega arith)
+passes (accepted k count) w e = let z : _≡_ {A = ℕ} 0 1 = cc in absurd (omega arith)
 passes (refused q p l) w e = let z : _≡_ {A = ℕ} 0 1 = cc in absurd (omega arith)
 
 -- QUESTIONS 1 TO 12

@@ -14,7 +14,7 @@ inOne length question place lane = length * 2 ^ 48 + question * 2 ^ 40 + place *
 abbrev pub packed : Verdict → ℕ
 packed passed = inOne 0 0 0 0
 packed (planned w) = inOne 0 0 w 0
-packed (accepted k y) = inOne y 0 k 0
+packed (accepted k count) = inOne count 0 k 0
 packed (refused q p l) = inOne 0 q p l
 
 -- a solve with its answer in one number: the answer, the lent lists, and demand 3 whole once questions 1 to 10 got a yes

@@ -75,7 +75,7 @@ pub extern "C" fn ipm_solve(
         index,
         work,
     ) {
-        SolveAnswer::Accepted(k, y) => pack(y, YES, k, 0),
+        SolveAnswer::Accepted(k, length) => pack(length, YES, k, 0),
         SolveAnswer::Refused(r) => pack(0, r.question, r.place, r.lane),
     }
 }

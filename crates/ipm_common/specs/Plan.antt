@@ -33,7 +33,7 @@ planVerdict m n offsets columns words = andThen (firstNo m n offsets columns (le
 abbrev pub left : Verdict → List ℕ → List ℕ → List ℕ
 left passed new old = old
 left (planned w) new old = new
-left (accepted k y) new old = old
+left (accepted k count) new old = old
 left (refused q p l) new old = old
 
 -- the index memory after plan: the W words and the old rest, or as before

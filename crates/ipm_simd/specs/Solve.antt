@@ -45,16 +45,16 @@ lent output prices index work = record { output = output; prices = prices; index
 
 -- each case of the answer, by document 01's number and values
 abbrev pub toldSolve : SolveAnswer → Verdict
-toldSolve (Accepted k y) = acceptedAt k y
+toldSolve (Accepted k count) = acceptedAt k count
 toldSolve (Refused r) = refusal r
 
--- how the tests end, as an answer, where y has so many numbers: 'accepted and the test', and that length beside it; 11 with its test and its lane; 12 with N
+-- how the tests end, as an answer, where y has so many numbers: 'accepted and the test', with 'its length beside the test'; 11 with its test and its lane; 12 with N
 abbrev pub outcomeVerdict : ℕ → Outcome → Verdict
-outcomeVerdict y (accepted k) = acceptedAt k y
-outcomeVerdict y (noAt11 k l) = refused 11 k l
-outcomeVerdict y (noAt12 k) = refused 12 k 0
+outcomeVerdict count (accepted k) = acceptedAt k count
+outcomeVerdict count (noAt11 k l) = refused 11 k l
+outcomeVerdict count (noAt12 k) = refused 12 k 0
 
--- question 8: 'Are b, c, tolerances and output exactly as long as stated?', and the prices
+-- question 8: 'Are b, c, tolerances and output exactly as long as stated?', and the prices: 'Question 8 now covers that output's length.'
 abbrev pub lengthsRight : ℕ → ℕ → Lengths → Bool
 lengthsRight m n L = eqb (L .b) (4 * m) && eqb (L .c) (4 * n) && eqb (L .tolerances) 12 && eqb (L .output) (4 * n) && eqb (L .prices) (4 * m)
 
@@ -93,7 +93,7 @@ module _ (a : Given) where
   abbrev pub room : ℕ
   room = sizeF (a .offsets) (a .columns) (a .m) (a .n) (a .s)
 
-  -- how many numbers y has
+  -- 'y, 4m numbers'
   abbrev pub priceCount : ℕ
   priceCount = call .K * a .m
 
@@ -134,7 +134,7 @@ module _ (a : Given) where
   abbrev pub ifPassed : Verdict → Buffers → Buffers → Buffers
   ifPassed passed new old = new
   ifPassed (planned w) new old = old
-  ifPassed (acceptedAt k y) new old = old
+  ifPassed (acceptedAt k count) new old = old
   ifPassed (refused q p l) new old = old
 
   unfoldable pub solveBuffers : Buffers → Buffers

@@ -104,7 +104,7 @@ module _ (C : Call) where
     pub ends : Ends (C .K) (laneStatus C) N o
     -- 'the output is each machine's x there', and without acceptance as before
     pub output : Output (λ q. q .x) (C .problem .n) o (B .output) (B' .output)
-    -- 'What the user is told about x is now told about y too'
+    -- 'What the user is told about x is now told about y too: in each lane it is the lane machine's y when done'
     pub prices : Output (λ q. q .y) (C .problem .m) o (B .prices) (B' .prices)
     -- the four lent lists are as document 01 leaves them, and the prices as the output
     pub buffers : B' ≡ leaves plan F N B

@@ -15,8 +15,8 @@ module _ {a : Given} {B B′ : Buffers} {r : SolveAnswer} (w : Solved a B B′ r
   unfolding solveText
   solved-text = ap₂ (λ (v : Verdict) (b : Buffers). verdictText v (b .output) (a .n)) (w .answer) (w .buffers)
 
-  pub accepted-text : (test y : ℕ) → r ≡ Accepted test y → acceptedText test (B′ .output) (a .n) ≡ solveText a B
-  accepted-text test y e = sym (ap (λ (q : SolveAnswer). verdictText (toldSolve q) (B′ .output) (a .n)) e) ∙ solved-text
+  pub accepted-text : (test count : ℕ) → r ≡ Accepted test count → acceptedText test (B′ .output) (a .n) ≡ solveText a B
+  accepted-text test count e = sym (ap (λ (q : SolveAnswer). verdictText (toldSolve q) (B′ .output) (a .n)) e) ∙ solved-text
 
   pub refused-text : (u : Refusal) → r ≡ Refused u → refusedText (u .question) (u .place) (u .lane) ≡ solveText a B
   refused-text u e = sym (ap (λ (q : SolveAnswer). verdictText (toldSolve q) (B′ .output) (a .n)) e) ∙ solved-text

@@ -14,7 +14,7 @@ use Rattle.reading.specs.Answer.{answerBytes, verdictText, solveText}
 verdict-length : (v : Verdict) (x : List Float) (n : ℕ) → n ≤ mostColumns → length (verdictText v x n) ≤ answerBytes
 verdict-length passed x n h = omega arith
 verdict-length (planned w) x n h = omega arith
-verdict-length (accepted k y) x n h = omega (arith, accepted-length k n x, h)
+verdict-length (accepted k count) x n h = omega (arith, accepted-length k n x, h)
 verdict-length (refused q p l) x n h = omega (arith, refused-length q p l)
 
 pub solve-length : (a : Given) (B : Buffers) → a .n ≤ mostColumns → length (solveText a B) ≤ answerBytes

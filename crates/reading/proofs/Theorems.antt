@@ -39,7 +39,7 @@ use Rattle.reading.proofs.Parts.{zeros-long, blank-long}
 fine : Verdict → Bool
 fine passed = true
 fine (planned w) = true
-fine (accepted k y) = true
+fine (accepted k count) = true
 fine (refused q p l) = not (eqb q 6 || eqb q 8 || eqb q 9)
 
 fine-not : (q p l : ℕ) → fine (refused q p l) ≡ true → (q ≢ 6) × (q ≢ 8) × (q ≢ 9)
@@ -58,7 +58,7 @@ then-fine : (v w : Verdict) → fine v ≡ true → (v ≡ passed → fine w ≡
 unfolding fine
 then-fine passed w f g = g refl
 then-fine (planned k) w f g = refl
-then-fine (accepted k y) w f g = refl
+then-fine (accepted k count) w f g = refl
 then-fine (refused q p l) w f g = f
 
 -- questions 1 to 5
@@ -87,11 +87,11 @@ sizes-fine W E m n s L N six eight nine =
     (λ _. refl)))))
 
 -- questions 11 and 12
-outcome-fine : (y : ℕ) (o : Outcome) → fine (outcomeVerdict y o) ≡ true
+outcome-fine : (count : ℕ) (o : Outcome) → fine (outcomeVerdict count o) ≡ true
 unfolding fine
-outcome-fine y (outcomes.Accepted k) = refl
-outcome-fine y (outcomes.NoAt11 k l) = refl
-outcome-fine y (outcomes.NoAt12 k) = refl
+outcome-fine count (outcomes.Accepted k) = refl
+outcome-fine count (outcomes.NoAt11 k l) = refl
+outcome-fine count (outcomes.NoAt12 k) = refl
 
 -- ---- how long the lists are
 shorts-long : (s : List ℕ) (at k : ℕ) → length (shorts s at k) ≡ k

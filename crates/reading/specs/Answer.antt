@@ -13,7 +13,7 @@ use Rattle.answer_text.specs.Text.{acceptedBytes, acceptedText, refusedText, in
 
 -- the text of what a solve of n columns tells; it tells nothing else
 abbrev pub verdictText : Verdict → List Float → ℕ → List ℕ
-verdictText (accepted test y) x n = acceptedText test x n
+verdictText (accepted test count) x n = acceptedText test x n
 verdictText (refused question place lane) x n = refusedText question place lane
 verdictText passed x n = []
 verdictText (planned w) x n = []
