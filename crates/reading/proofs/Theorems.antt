@@ -29,7 +29,7 @@ use Rattle.ipm_simd.specs.declared.Lengths.{Lengths}
 use Rattle.ipm_simd.specs.Solve.{lengthsRight, outcomeVerdict, sizesVerdict, call, priceCount, lengthsOf, memoryVerdict, begun, solveVerdict}
 use Rattle.ipm_simd.proofs.Questions.{lengths-last}
 use Rattle.record.specs.Little.{shorts, floats}
-use Rattle.record.specs.Record.{mOf, nOf, sOf, tOf, limitOf, offsetsOf, columnsOf, valuesOf, tolerancesOf, bOf, cOf, mostRows, mostColumns, mostEntries, wellFormed, columnsAt}
+use Rattle.record.specs.Record.{mOf, nOf, sOf, tOf, limitOf, offsetsOf, columnsOf, valuesOf, mostRows, mostColumns, mostEntries, wellFormed, columnsAt}
 use Rattle.reading.specs.Answer.{mostStored, mostShared, mostProducts, indexWords, workFloats, givenOf, lentFor}
 use Rattle.reading.specs.Theorems as theorems
 use Rattle.reading.proofs.Headers.{own-whole}

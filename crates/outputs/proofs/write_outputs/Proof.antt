@@ -1,6 +1,5 @@
 use native.Mathlib.Omega.{arith}
 use mathlib.Core.Path.{_∙_}
-use lib.ListN.{length}
 use Rattle.layout.specs.Layout.{yAt, lIn}
 use Rattle.outputs.proofs.Regions.{output-fits, region-out}
 use borrow.Author.Needs.{needs}
