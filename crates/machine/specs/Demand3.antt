@@ -106,7 +106,7 @@ module _ (C : Call) where
     pub output : Output (λ q. q .x) (C .problem .n) o (B .output) (B' .output)
     -- 'What the user is told about x is now told about y too: in each lane it is the lane machine's y when done'
     pub prices : Output (λ q. q .y) (C .problem .m) o (B .prices) (B' .prices)
-    -- the four lent lists are as document 01 leaves them, and the prices as the output
+    -- the lent lists are as document 01 leaves them, the prices by the output's rule
     pub buffers : B' ≡ leaves plan F N B
     -- 'Under every larger limit up to 10,000 an acceptance and a no at 11 stay the same, buffers too.'
     pub larger : (N' : ℕ) → N ≤ N' → N' ≤ largestLimit → o ≢ noAt12 N → (solved C N' ≡ o) × (leaves plan F N' B ≡ B')
