@@ -27,6 +27,10 @@ extern "C" {
 /* The limits of one call. */
 enum { IPM_LANES = 4, IPM_ROWS_MOST = 256, IPM_COLUMNS_MOST = 1024, IPM_ENTRIES_MOST = 16384, IPM_TESTS_MOST = 10000 };
 
+/* The centring and damping of ipm-simd, the Rust that this follows: with these a solve has its bits. */
+#define IPM_CENTRING 0.1
+#define IPM_DAMPING 0.9995
+
 /*
  * An answer is length * 2^48 + question * 2^40 + place * 2^8 + lane. Question 0 is a yes; its place is W (ipm_plan) or
  * the test at which all lanes were done, counted from 1 (ipm_solve). Any other question is the first that had a no.
@@ -46,7 +50,8 @@ enum {
     IPM_WORK = 9,         /* the working memory has fewer than F numbers */
     IPM_LIMIT = 10,       /* the limit is not from 1 to 10,000 */
     IPM_SPOILT = 11,      /* a lane met a NaN; place: the test, lane: the lowest such lane */
-    IPM_NOT_DONE = 12     /* not all lanes were done at any test up to the limit; place: the limit */
+    IPM_NOT_DONE = 12,    /* not all lanes were done at any test up to the limit; place: the limit */
+    IPM_FRACTIONS = 13    /* centring or damping is not above 0 and below 1; asked after 10 */
 };
 
 static inline size_t ipm_length(uint64_t answer) { return (size_t)(answer >> 48); }
@@ -68,9 +73,14 @@ uint64_t ipm_plan(
     uint32_t *index, size_t index_len);          /* at least W words; see ipm_index_enough */
 
 /*
- * Solves the four lanes: asks questions 1 to 12 in order. A no at 1 to 10 changes nothing. After 11, 12 or a yes the
- * first W words of `index` hold the plan, the first F numbers of `work` are +0.0, and the rest of both is as before.
- * After a yes `output` holds x and `prices` holds y. After any no, 11 and 12 too, both are as before.
+ * Solves the four lanes: asks questions 1 to 10 in order, then 13, then 11 and 12 test by test. A no at 1 to 10 or 13
+ * changes nothing. After 11, 12 or a yes the first W words of `index` hold the plan, the first F numbers of `work` are
+ * +0.0, and the rest of both is as before. After a yes `output` holds x and `prices` holds y. After any no, 11 and 12
+ * too, both are as before.
+ *
+ * A step aims at one product, mu, of each x with its reduced cost and of each w with its y. mu is centring times the
+ * mean of these products: near 1 a step stays central, near 0 it goes straight for the optimum. Damping is the part of
+ * the way to the nearest bound that a step goes; it never goes beyond its full length.
  *
  * y of row i is the row's shadow price: how much more c.x the lane could have for one more unit of that row's b, while
  * the same rows bind and to the tolerances. In the first s rows it is not negative at the optimum.
@@ -86,6 +96,8 @@ uint64_t ipm_solve(
     const double *c, size_t c_len,               /* 4 n: objective, lane l of column e at 4 e + l */
     const double *tolerances, size_t tolerances_len, /* 12: four primal, four dual, four optimality */
     size_t limit,                                /* tests to make at most, 1 to 10,000 */
+    double centring,                             /* above 0 and below 1, for all lanes; IPM_CENTRING */
+    double damping,                              /* above 0 and below 1, for all lanes; IPM_DAMPING */
     double *output, size_t output_len,           /* 4 n: x, lane l of column e at 4 e + l */
     double *prices, size_t prices_len,           /* 4 m: y, lane l of row i at 4 i + l */
     uint32_t *index, size_t index_len,           /* at least W words; see ipm_index_enough */
@@ -139,9 +151,10 @@ static inline const char *ipm_text(uint64_t answer) {
         "the limit is not from 1 to 10,000",
         "a lane met a NaN",
         "not all lanes were done within the limit",
+        "centring or damping is not above 0 and below 1",
     };
     unsigned question = ipm_question(answer);
-    return question <= IPM_NOT_DONE ? texts[question] : "no such answer";
+    return question <= IPM_FRACTIONS ? texts[question] : "no such answer";
 }
 
 #ifdef __cplusplus

@@ -3,8 +3,9 @@
  *
  *     maximise 2 x0 + x1   where   x0 + x1 <= b0,  x0 <= b1,  x1 <= b2
  *
- * with right sides of its own in each lane; y0 to y2 are the prices of the rows. Ends with status 0 if every x is the
- * known best one and b.y is c.x: what a lane gets is the price of its limits.
+ * with right sides of its own in each lane; y0 to y2 are the prices of the rows. Then calls with a centring that is not
+ * a number, which are refused. Ends with status 0 if every x is the known best one and b.y is c.x (what a lane gets is
+ * the price of its limits), and if each refusal names its question.
  */
 #include <math.h>
 #include <stdio.h>
@@ -23,13 +24,50 @@ static const double b[IPM_LANES * M] = {
     2.0, 2.0, 2.0, 1.0,  /* x1 */
 };
 static const double c[IPM_LANES * N] = {2.0, 2.0, 2.0, 2.0, 1.0, 1.0, 1.0, 1.0};
+static const double tolerances[3 * IPM_LANES] = {
+    1e-8, 1e-8, 1e-8, 1e-8, /* primal, lanes 0 to 3 */
+    1e-8, 1e-8, 1e-8, 1e-8, /* dual */
+    1e-8, 1e-8, 1e-8, 1e-8, /* optimality */
+};
 static const double best[IPM_LANES * N] = {3.0, 3.0, 2.0, 1.0, 1.0, 2.0, 0.0, 1.0};
 static const double near = 1e-6;
 
-static int failed(uint64_t answer) {
-    fprintf(stderr, "question %u, place %u, lane %u: %s\n", ipm_question(answer), (unsigned)ipm_place(answer),
+/* The memory lent to every solve. */
+struct memory {
+    double x[IPM_LANES * N], prices[IPM_LANES * M];
+    uint32_t *index;
+    size_t index_len;
+    double *work;
+    size_t work_len;
+};
+
+static uint64_t solve(size_t b_len, size_t limit, double centring, struct memory *lent) {
+    return ipm_solve(M, N, S, offsets, M + 1, columns, T, values, T, b, b_len, c, IPM_LANES * N, tolerances,
+                     3 * IPM_LANES, limit, centring, IPM_DAMPING, lent->x, IPM_LANES * N, lent->prices, IPM_LANES * M,
+                     lent->index, lent->index_len, lent->work, lent->work_len);
+}
+
+static void print_no(FILE *out, uint64_t answer) {
+    fprintf(out, "question %u, place %u, lane %u: %s\n", ipm_question(answer), (unsigned)ipm_place(answer),
             ipm_lane(answer), ipm_text(answer));
+}
+
+static int failed(uint64_t answer) {
+    print_no(stderr, answer);
     return EXIT_FAILURE;
+}
+
+static int is_refused_at(unsigned question, uint64_t answer) {
+    print_no(stdout, answer);
+    return ipm_question(answer) == question;
+}
+
+/* Whether a centring that is not a number is refused, and at an earlier question if that has a no too. */
+static int refuses(struct memory *lent) {
+    size_t b_len = IPM_LANES * M;
+    int right = is_refused_at(IPM_FRACTIONS, solve(b_len, LIMIT, NAN, lent));
+    right = is_refused_at(IPM_LIMIT, solve(b_len, 0, NAN, lent)) && right;
+    return is_refused_at(IPM_LENGTHS, solve(b_len - 1, LIMIT, NAN, lent)) && right;
 }
 
 /* The lane's sum of p times q. */
@@ -51,37 +89,33 @@ static void print_lane(const char *name, const double *p, size_t entries, size_t
     for (size_t k = 0; k < entries; k++) printf("  %s%zu = %.6f", name, k, p[IPM_LANES * k + lane]);
 }
 
-static int show(uint64_t answer, const double *x, const double *y) {
+static int show(uint64_t answer, const struct memory *lent) {
     printf("done at test %u, %zu prices\n", (unsigned)ipm_place(answer), ipm_length(answer));
     int right = ipm_length(answer) == IPM_LANES * M;
     for (size_t lane = 0; lane < IPM_LANES; lane++) {
         printf("lane %zu:", lane);
-        print_lane("x", x, N, lane);
-        print_lane("y", y, M, lane);
+        print_lane("x", lent->x, N, lane);
+        print_lane("y", lent->prices, M, lane);
         printf("\n");
-        right = right && is_right(x, y, lane);
+        right = right && is_right(lent->x, lent->prices, lane);
     }
     return right ? EXIT_SUCCESS : EXIT_FAILURE;
 }
 
 int main(void) {
-    double tolerances[3 * IPM_LANES];
-    for (size_t k = 0; k < 3 * IPM_LANES; k++) tolerances[k] = 1e-8;
+    struct memory lent = {.index_len = ipm_index_enough(M, N, T), .work_len = ipm_work_enough(M, N, S)};
+    lent.index = malloc(lent.index_len * sizeof *lent.index);
+    lent.work = malloc(lent.work_len * sizeof *lent.work);
+    if (!lent.index || !lent.work) return EXIT_FAILURE;
 
-    size_t index_len = ipm_index_enough(M, N, T), work_len = ipm_work_enough(M, N, S);
-    uint32_t *index = malloc(index_len * sizeof *index);
-    double *work = malloc(work_len * sizeof *work);
-    double x[IPM_LANES * N], prices[IPM_LANES * M];
-    if (!index || !work) return EXIT_FAILURE;
-
-    uint64_t answer = ipm_plan(M, N, offsets, M + 1, columns, T, index, index_len);
+    uint64_t answer = ipm_plan(M, N, offsets, M + 1, columns, T, lent.index, lent.index_len);
     if (ipm_question(answer) != IPM_YES) return failed(answer);
-    printf("the plan takes %u words of %zu lent\n", (unsigned)ipm_place(answer), index_len);
+    printf("the plan takes %u words of %zu lent\n", (unsigned)ipm_place(answer), lent.index_len);
 
-    answer = ipm_solve(M, N, S, offsets, M + 1, columns, T, values, T, b, IPM_LANES * M, c, IPM_LANES * N, tolerances,
-                       3 * IPM_LANES, LIMIT, x, IPM_LANES * N, prices, IPM_LANES * M, index, index_len, work, work_len);
-    int status = ipm_question(answer) == IPM_YES ? show(answer, x, prices) : failed(answer);
-    free(index);
-    free(work);
+    answer = solve(IPM_LANES * M, LIMIT, IPM_CENTRING, &lent);
+    int status = ipm_question(answer) == IPM_YES ? show(answer, &lent) : failed(answer);
+    if (!refuses(&lent)) status = EXIT_FAILURE;
+    free(lent.index);
+    free(lent.work);
     return status;
 }

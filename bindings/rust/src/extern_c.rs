@@ -29,6 +29,8 @@ unsafe extern "C" {
         tolerances: *const f64,
         tolerances_len: usize,
         limit: usize,
+        centring: f64,
+        damping: f64,
         output: *mut f64,
         output_len: usize,
         prices: *mut f64,

@@ -18,6 +18,15 @@ pub use solver::{Lane, Solution, Solver, Tolerances};
 /// The lanes of one solve.
 pub const LANES: usize = 4;
 
+/// The centring of a solve that is given none, that of the Rust. A step aims at one product, mu, of each x with its
+/// reduced cost and of each w with its y. mu is centring times the mean of these products: near 1 a step stays central,
+/// near 0 it goes straight for the optimum.
+pub const CENTRING: f64 = 0.1;
+
+/// The damping of a solve that is given none, that of the Rust: the part of the way to the nearest bound that a step
+/// goes.
+pub const DAMPING: f64 = 0.9995;
+
 /// The bits of the IEEE 754 square root of the number with these bits. NaN and anything below zero give
 /// 7FF8000000000000.
 pub fn root_bits(bits: u64) -> u64 {

@@ -1,7 +1,7 @@
 //! The static library's functions over memory that the caller lends, with slices for pointers and lengths. `ipm.h` says
 //! what each part has to hold. This is the only unsafe code of the crate.
 
-use crate::extern_c;
+use crate::{CENTRING, DAMPING, extern_c};
 
 /// An answer taken apart. Question 0 is a yes, and its place is W or the test. Length is that of y after an accepted
 /// solve, and 0 otherwise.
@@ -67,8 +67,13 @@ pub fn plan(matrix: &Matrix, index: &mut [u32]) -> Answer {
     })
 }
 
-/// Questions 1 to 12, x and y.
+/// [`solve_with`] at [`CENTRING`] and [`DAMPING`].
 pub fn solve(matrix: &Matrix, sides: Sides<'_>, lent: Lent<'_>) -> Answer {
+    solve_with(matrix, sides, lent, CENTRING, DAMPING)
+}
+
+/// Questions 1 to 10, then 13, then 11 and 12 test by test; x and y.
+pub fn solve_with(matrix: &Matrix, sides: Sides<'_>, lent: Lent<'_>, centring: f64, damping: f64) -> Answer {
     // Safety: as for `plan`.
     Answer::from_code(unsafe {
         extern_c::ipm_solve(
@@ -88,6 +93,8 @@ pub fn solve(matrix: &Matrix, sides: Sides<'_>, lent: Lent<'_>) -> Answer {
             sides.tolerances.as_ptr(),
             sides.tolerances.len(),
             sides.limit,
+            centring,
+            damping,
             lent.output.as_mut_ptr(),
             lent.output.len(),
             lent.prices.as_mut_ptr(),

@@ -27,6 +27,8 @@ pub enum Refusal {
     WorkingMemory,
     /// 10: the limit is not from 1 to 10,000.
     Limit,
+    /// 13: centring or damping is not above 0 and below 1.
+    Fractions,
     /// 11: the test, counted from 1, at which a lane met a NaN, and the lowest such lane.
     Spoilt { test: usize, lane: usize },
     /// 12: not all lanes were done at any test up to the limit.
@@ -36,7 +38,7 @@ pub enum Refusal {
 }
 
 impl Refusal {
-    /// The question's number, 1 to 12.
+    /// The question's number, 1 to 13.
     pub fn question(&self) -> u32 {
         match *self {
             Refusal::Rows => 1,
@@ -49,6 +51,7 @@ impl Refusal {
             Refusal::Lengths => 8,
             Refusal::WorkingMemory => 9,
             Refusal::Limit => 10,
+            Refusal::Fractions => 13,
             Refusal::Spoilt { .. } => 11,
             Refusal::NotDone { .. } => 12,
             Refusal::Unknown { question } => question,
@@ -72,6 +75,7 @@ impl Refusal {
             10 => Refusal::Limit,
             11 => Refusal::Spoilt { test: place, lane: answer.lane.into() },
             12 => Refusal::NotDone { limit: place },
+            13 => Refusal::Fractions,
             question => Refusal::Unknown { question },
         })
     }
@@ -97,6 +101,7 @@ impl fmt::Display for Refusal {
             Refusal::Lengths => write!(out, "b or c has the wrong length"),
             Refusal::WorkingMemory => write!(out, "the working memory is too small"),
             Refusal::Limit => write!(out, "the limit is not from 1 to 10,000 tests"),
+            Refusal::Fractions => write!(out, "centring or damping is not above 0 and below 1"),
             Refusal::Spoilt { test, lane } => write!(out, "lane {lane} met a NaN at test {test}"),
             Refusal::NotDone { limit } => write!(out, "not all lanes were done within {limit} tests"),
             Refusal::Unknown { question } => write!(out, "libipm_c.a answered with an unknown question {question}"),

@@ -3,7 +3,7 @@
 use std::num::NonZeroUsize;
 
 use crate::library::{self, Lent, Matrix, Sides};
-use crate::{LANES, Refusal};
+use crate::{CENTRING, DAMPING, LANES, Refusal};
 
 const MOST_ROWS: usize = 256;
 const MOST_COLUMNS: usize = 1024;
@@ -103,13 +103,27 @@ impl Solver {
         Ok(Solver { matrix, output, prices, index, work })
     }
 
-    /// Solves the four lanes. Entry k of `b` and `c` holds the four lanes of row or column k.
+    /// Solves the four lanes, with [`CENTRING`] and [`DAMPING`]. Entry k of `b` and `c` holds the four lanes of row or
+    /// column k.
     pub fn solve(
         &mut self,
         b: &[[f64; LANES]],
         c: &[[f64; LANES]],
         tolerances: &Tolerances,
         max_iterations: NonZeroUsize,
+    ) -> Result<Solution<'_>, Refusal> {
+        self.solve_with(b, c, tolerances, max_iterations, CENTRING, DAMPING)
+    }
+
+    /// As `solve`, with a centring and a damping of the caller's, each above 0 and below 1.
+    pub fn solve_with(
+        &mut self,
+        b: &[[f64; LANES]],
+        c: &[[f64; LANES]],
+        tolerances: &Tolerances,
+        max_iterations: NonZeroUsize,
+        centring: f64,
+        damping: f64,
     ) -> Result<Solution<'_>, Refusal> {
         let listed = tolerances.listed();
         let sides = Sides {
@@ -124,7 +138,7 @@ impl Solver {
             index: &mut self.index,
             work: &mut self.work,
         };
-        let test = Refusal::unless_yes(library::solve(&self.matrix, sides, lent))?;
+        let test = Refusal::unless_yes(library::solve_with(&self.matrix, sides, lent, centring, damping))?;
         Ok(Solution { x: &self.output, y: &self.prices, test })
     }
 

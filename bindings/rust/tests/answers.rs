@@ -1,9 +1,12 @@
 //! Answers of the library through the safe interface.
 
+#[path = "answers/fractions.rs"]
+mod fractions;
+
 use std::num::NonZeroUsize;
 
 use ipm::library::{self, Answer, Lent, Matrix, Sides};
-use ipm::{LANES, Lane, Refusal, Solver, Tolerances};
+use ipm::{LANES, Lane, Refusal, Solution, Solver, Tolerances};
 
 fn limit(tests: usize) -> NonZeroUsize {
     NonZeroUsize::new(tests).expect("not 0")
@@ -32,6 +35,18 @@ fn lanes(sides: &[[f64; 3]; LANES]) -> [Lane<'_>; LANES] {
     sides.each_ref().map(|b| Lane { b, c: &[2.0, 1.0] })
 }
 
+/// `SIDES` entry by entry, and c.
+fn entries() -> ([[f64; LANES]; 3], [[f64; LANES]; 2]) {
+    (std::array::from_fn(|row| SIDES.map(|side| side[row])), [[2.0; LANES], [1.0; LANES]])
+}
+
+fn assert_best(solution: &Solution<'_>) {
+    for (lane, best) in BEST.iter().enumerate() {
+        let x: Vec<f64> = solution.lane(lane).collect();
+        assert!(x.iter().zip(best).all(|(p, q)| (p - q).abs() < NEAR), "lane {lane}: {x:?}");
+    }
+}
+
 /// x, then y.
 fn solved(solver: &mut Solver, sides: &[[f64; 3]; LANES]) -> Vec<[f64; LANES]> {
     let solution = solver.solve_lanes(lanes(sides), &Tolerances::default(), limit(100)).expect("a yes");
@@ -49,6 +64,7 @@ fn three_rows_matrix() -> Matrix {
 }
 
 /// Memory lent to a solve of a small matrix. Before the solve every number is one that no solve gives.
+#[derive(Clone, Debug, PartialEq)]
 struct Memory {
     output: Vec<f64>,
     prices: Vec<f64>,
@@ -61,12 +77,16 @@ impl Memory {
 
     fn new(output: usize, prices: usize) -> Self {
         let numbers = |count| vec![Self::BEFORE; count];
-        Memory { output: numbers(output), prices: numbers(prices), index: vec![0; 100], work: numbers(200) }
+        Memory { output: numbers(output), prices: numbers(prices), index: vec![u32::MAX; 100], work: numbers(200) }
+    }
+
+    fn lent(&mut self) -> Lent<'_> {
+        let Memory { output, prices, index, work } = self;
+        Lent { output, prices, index, work }
     }
 
     fn solve(&mut self, matrix: &Matrix, sides: Sides<'_>) -> Answer {
-        let Memory { output, prices, index, work } = self;
-        library::solve(matrix, sides, Lent { output, prices, index, work })
+        library::solve(matrix, sides, self.lent())
     }
 
     fn outputs_are_as_before(&self) -> bool {
@@ -129,10 +149,7 @@ fn a_refused_solve_leaves_both_outputs() {
 fn each_lane_has_its_own_best() {
     let mut solver = three_rows();
     let solution = solver.solve_lanes(lanes(&SIDES), &Tolerances::default(), limit(100)).expect("a yes");
-    for (lane, best) in BEST.iter().enumerate() {
-        let x: Vec<f64> = solution.lane(lane).collect();
-        assert!(x.iter().zip(best).all(|(p, q)| (p - q).abs() < NEAR), "lane {lane}: {x:?}");
-    }
+    assert_best(&solution);
 }
 
 /// Prices that are nowhere negative and cover c in every column bound c·x by b·y; they are right if the two meet.
@@ -166,8 +183,7 @@ fn a_solver_is_used_again() {
 fn interleaved_and_one_by_one_agree() {
     let mut solver = three_rows();
     let one_by_one = solved(&mut solver, &SIDES);
-    let b: [[f64; LANES]; 3] = std::array::from_fn(|row| SIDES.map(|side| side[row]));
-    let c = [[2.0; LANES], [1.0; LANES]];
+    let (b, c) = entries();
     let together = solver.solve(&b, &c, &Tolerances::default(), limit(100)).expect("a yes");
     assert_eq!([together.x, together.y].concat(), one_by_one);
 }
@@ -229,7 +245,9 @@ fn the_largest_matrix_fits_its_memory() {
 fn refusals_speak() {
     assert_eq!(Refusal::Spoilt { test: 2, lane: 3 }.to_string(), "lane 3 met a NaN at test 2");
     assert_eq!(Refusal::NotDone { limit: 50 }.to_string(), "not all lanes were done within 50 tests");
+    assert_eq!(Refusal::Fractions.to_string(), "centring or damping is not above 0 and below 1");
     assert_eq!(Refusal::EmptyRow { row: 7 }.question(), 4);
+    assert_eq!(Refusal::Fractions.question(), 13);
 }
 
 #[test]

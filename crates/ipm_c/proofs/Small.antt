@@ -15,6 +15,8 @@ use Rattle.csr.specs.Csr.{Accepted}
 use Rattle.base.proofs.Bools.{and-right}
 use Rattle.csr.proofs.Yes.{accepted-of}
 use Rattle.lanes.specs.Lists.{first}
+use Rattle.lanes.specs.Controls.{fractionsProper}
+use Rattle.lanes.specs.declared.Controls.{Controls}
 use Rattle.lanes.proofs.Lists.{first-le}
 use Rattle.ipm_common.specs.Plan.{roomVerdict, planVerdict}
 use Rattle.machine.specs.declared.Status.{Status}
@@ -24,7 +26,7 @@ use Rattle.machine.specs.Outcome.{isSpoilt, lowestSpoilt, someSpoilt, allDone, 
 use Rattle.machine.specs.Demand3.{Buffers}
 use Rattle.ipm_simd.specs.declared.Lengths.{Lengths}
 use Rattle.ipm_simd.specs.declared.SolveAnswer.{SolveAnswer}
-use Rattle.ipm_simd.specs.Solve.{Given, call, priceCount, lengthsOf, toldSolve, Solved, outcomeVerdict, lengthsRight, sizesVerdict, memoryVerdict, begun, solveVerdict}
+use Rattle.ipm_simd.specs.Solve.{Given, controlsOf, call, priceCount, lengthsOf, toldSolve, Solved, outcomeVerdict, lengthsRight, sizesVerdict, memoryVerdict, begun, solveVerdict}
 use Rattle.ipm_simd.proofs.Questions.{sizes-of}
 use Rattle.ipm_c.specs.Packed.{packed, SolvedInOne}
 use Rattle.lists.proofs.Few.{few-stored, few-shared, few-products}
@@ -34,7 +36,7 @@ abbrev pub Small : Verdict → Type 0
 Small passed = Unit {0}
 Small (planned w) = w < 2 ^ 32
 Small (accepted k count) = (k < 2 ^ 32) × (count < 2 ^ 16)
-Small (refused q p l) = (q ≤ 12) × (p < 2 ^ 32) × (l < 2 ^ 8)
+Small (refused q p l) = (q ≤ 13) × (p < 2 ^ 32) × (l < 2 ^ 8)
 
 small-ask : (t : Bool) (v w : Verdict) → (t ≡ true → Small v) → Small w → Small (ask t v w)
 small-ask true v w h g = h refl
@@ -110,22 +112,25 @@ small-outcome K says N count few limit short =
     (small-choice count (someSpoilt K says k) (noAt11 k (lowestSpoilt K says k)) (acceptedAt k)
     (omega arith, omega (arith, limit, upTo), omega (arith, few, lane)) (omega (arith, limit, upTo), short))
 
--- QUESTIONS 6 TO 10
-small-no : (q : ℕ) → q ≤ 12 → Small (refused q 0 0)
+-- QUESTIONS 6 TO 10 AND 13
+small-no : (q : ℕ) → q ≤ 13 → Small (refused q 0 0)
 small-no q h = (h, omega arith, omega arith)
 
-small-sizes : (W E m n s : ℕ) (L : Lengths) (N : ℕ) → Small (sizesVerdict W E m n s L N)
+small-sizes : (W E m n s : ℕ) (L : Lengths) (k : Controls) → Small (sizesVerdict W E m n s L k)
 unfolding sizesVerdict
-small-sizes W E m n s L N =
+small-sizes W E m n s L k =
     let q7 = leb s m in
     let q8 = lengthsRight m n L in
     let q9 = leb (4 * (5 * n + 3 * m + 2 * s + E)) (L .work) in
-    let q10 = leb 1 N && leb N 10000 in
-    let from10 = ask q10 passed (refused 10 0 0) in
+    let q10 = leb 1 (k .limit) && leb (k .limit) 10000 in
+    let q13 = fractionsProper k in
+    let from13 = ask q13 passed (refused 13 0 0) in
+    let from10 = ask q10 from13 (refused 10 0 0) in
     let from9 = ask q9 from10 (refused 9 0 0) in
     let from8 = ask q8 from9 (refused 8 0 0) in
     let from7 = ask q7 from8 (refused 7 0 0) in
-    let s10 = small-ask q10 passed (refused 10 0 0) (λ _. tt) (small-no 10 (omega arith)) in
+    let s13 = small-ask q13 passed (refused 13 0 0) (λ _. tt) (small-no 13 (omega arith)) in
+    let s10 = small-ask q10 from13 (refused 10 0 0) (λ _. s13) (small-no 10 (omega arith)) in
     let s9 = small-ask q9 from10 (refused 9 0 0) (λ _. s10) (small-no 9 (omega arith)) in
     let s8 = small-ask q8 from9 (refused 8 0 0) (λ _. s9) (small-no 8 (omega arith)) in
     let s7 = small-ask q7 from8 (refused 7 0 0) (λ _. s8) (small-no 7 (omega arith)) in
@@ -138,7 +143,7 @@ passes (planned k) w e = let z : _≡_ {A = ℕ} 0 1 = cc in absurd (omega arith
 passes (accepted k count) w e = let z : _≡_ {A = ℕ} 0 1 = cc in absurd (omega arith)
 passes (refused q p l) w e = let z : _≡_ {A = ℕ} 0 1 = cc in absurd (omega arith)
 
--- QUESTIONS 1 TO 12
+-- QUESTIONS 1 TO 13
 pub small-solve : (a : Given) (B : Buffers) → Small (solveVerdict a B)
 unfolding solveVerdict begun solved memoryVerdict
 small-solve a B =
@@ -146,11 +151,11 @@ small-solve a B =
     let E = countE (a .offsets) (a .columns) (a .m) in
     let first5 = firstNo (a .m) (a .n) (a .offsets) (a .columns) (length (a .values)) in
     small-then (andThen first5 (memoryVerdict a B)) _
-    (small-then first5 _ (small-first (a .m) (a .n) (a .offsets) (a .columns) (length (a .values))) (λ _. small-sizes W E (a .m) (a .n) (a .s) (lengthsOf a B) (a .limit)))
+    (small-then first5 _ (small-first (a .m) (a .n) (a .offsets) (a .columns) (length (a .values))) (λ _. small-sizes W E (a .m) (a .n) (a .s) (lengthsOf a B) (controlsOf a)))
     (λ e.
     let both = passes first5 (memoryVerdict a B) e in
     let ok = accepted-of (a .m) (a .n) (a .offsets) (a .columns) (length (a .values)) (both .0) in
-    let sizes = sizes-of W E (a .m) (a .n) (a .s) (lengthsOf a B) (a .limit) (both .1) in
+    let sizes = sizes-of W E (a .m) (a .n) (a .s) (lengthsOf a B) (controlsOf a) (both .1) in
     small-outcome 4 (laneStatus (call a)) (a .limit) (priceCount a) (omega arith) (sizes .upTo) (omega (arith, ok .csr .few)))
 
 -- what solve promises of its answer holds of the number

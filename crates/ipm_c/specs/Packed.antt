@@ -17,7 +17,7 @@ packed (planned w) = inOne 0 0 w 0
 packed (accepted k count) = inOne count 0 k 0
 packed (refused q p l) = inOne 0 q p l
 
--- a solve with its answer in one number: the answer, the lent lists, and demand 3 whole once questions 1 to 10 got a yes
+-- a solve with its answer in one number: the answer, the lent lists, and demand 3 whole once questions 1 to 10 and 13 got a yes
 pub record SolvedInOne (a : Given) (B B′ : Buffers) (r : ℕ) : Type 0 where
   pub answer : r ≡ packed (solveVerdict a B)
   pub buffers : B′ ≡ solveBuffers a B

@@ -4,6 +4,7 @@ ghost use Prim.Native.Nat.{_≤_, _<_, _^_};
 ghost use lib.ListN.{length};
 ghost use Rattle.ipm_common.specs.Plan.{planVerdict, planIndex};
 ghost use Rattle.root.specs.Root.{rootBits};
+ghost use Rattle.lanes.specs.Controls.{controls};
 ghost use Rattle.ipm_simd.specs.Solve.{given, lent};
 ghost use Rattle.ipm_c.specs.Packed.{inOne, packed, SolvedInOne};
 use ipm_common::PlanAnswer;
@@ -14,7 +15,7 @@ const YES: u32 = 0;
 
 // length · 2^48 + question · 2^40 + place · 2^8 + lane.
 fn pack(length: usize, question: u32, place: usize, lane: u32) -> u64
-    requires { ⌜ (length < 2 ^ 16) × (question ≤ 12) × (place < 2 ^ 32) × (lane < 2 ^ 8) ⌝ }
+    requires { ⌜ (length < 2 ^ 16) × (question ≤ 13) × (place < 2 ^ 32) × (lane < 2 ^ 8) ⌝ }
     ensures { λ r. ⌜ r ≡ inOne length question place lane ⌝ }
 {
     let front = (length as u64) * 0x1_0000_0000_0000 + (question as u64) * 0x100_0000_0000;
@@ -39,7 +40,7 @@ pub extern "C" fn ipm_plan(
     }
 }
 
-// Questions 1 to 12, and after a yes x and y.
+// Questions 1 to 13, and after a yes x and y.
 #[no_mangle]
 pub extern "C" fn ipm_solve(
     m: usize,
@@ -52,12 +53,14 @@ pub extern "C" fn ipm_solve(
     c: &[f64],
     tolerances: &[f64],
     limit: usize,
+    centring: f64,
+    damping: f64,
     output: &mut [f64],
     prices: &mut [f64],
     index: &mut [u32],
     work: &mut [f64],
 ) -> u64
-    ensures { λ r. ⌜ SolvedInOne (given m n s (now (offsets .entry)) (now (columns .entry)) (now (values .entry)) (now (b .entry)) (now (c .entry)) (now (tolerances .entry)) limit) (lent (now (output .entry)) (now (prices .entry)) (now (index .entry)) (now (work .entry))) (lent (now (output .exit)) (now (prices .exit)) (now (index .exit)) (now (work .exit))) r ⌝ }
+    ensures { λ r. ⌜ SolvedInOne (given m n s (now (offsets .entry)) (now (columns .entry)) (now (values .entry)) (now (b .entry)) (now (c .entry)) (now (tolerances .entry)) (controls limit centring damping)) (lent (now (output .entry)) (now (prices .entry)) (now (index .entry)) (now (work .entry))) (lent (now (output .exit)) (now (prices .exit)) (now (index .exit)) (now (work .exit))) r ⌝ }
 {
     match ipm_simd::solve(
         m,
@@ -70,6 +73,8 @@ pub extern "C" fn ipm_solve(
         c,
         tolerances,
         limit,
+        centring,
+        damping,
         output,
         prices,
         index,

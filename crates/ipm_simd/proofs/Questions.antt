@@ -6,6 +6,8 @@ use native.Mathlib.Omega.{arith}
 use borrow.Author.Tests.{eqb-true, leb-true, le-leb, eq-eqb}
 use lib.Dec.{eqb, leb}
 use Rattle.layout.specs.Layout.{workingSize}
+use Rattle.lanes.specs.Controls.{fractionsProper}
+use Rattle.lanes.specs.declared.Controls.{Controls}
 use Rattle.csr.specs.Verdict.{passed, refused}
 use Rattle.base.proofs.Bools.{and-left, and-right}
 use Rattle.machine.specs.Outcome.{largestLimit}
@@ -46,64 +48,70 @@ lengths-of m n L h =
       prices-long = eqb-true _ _ (and-right (b && c && t && o) y h);
     }
 
--- questions 6 to 10
-pub record Sizes (W E m n s : ℕ) (L : Lengths) (N : ℕ) : Type 0 where
+-- questions 6 to 10 and 13
+pub record Sizes (W E m n s : ℕ) (L : Lengths) (k : Controls) : Type 0 where
   pub index-long : W ≤ L .index
   pub slack : s ≤ m
   pub lengths : LengthsRight m n L
   pub work-long : workingSize 4 m n s E ≤ L .work
-  pub from : 1 ≤ N
-  pub upTo : N ≤ largestLimit
+  pub from : 1 ≤ k .limit
+  pub upTo : k .limit ≤ largestLimit
+  pub fractions : fractionsProper k ≡ true
 
-pub sizes-of : (W E m n s : ℕ) (L : Lengths) (N : ℕ) → sizesVerdict W E m n s L N ≡ passed → Sizes W E m n s L N
+pub sizes-of : (W E m n s : ℕ) (L : Lengths) (k : Controls) → sizesVerdict W E m n s L k ≡ passed → Sizes W E m n s L k
 unfolding sizesVerdict
-sizes-of W E m n s L N h =
+sizes-of W E m n s L k h =
     let h6 = asked (leb W (L .index)) _ 6 0 0 h in
     let h7 = asked (leb s m) _ 7 0 0 (h6 .1) in
     let h8 = asked (lengthsRight m n L) _ 8 0 0 (h7 .1) in
     let h9 = asked (leb (workingSize 4 m n s E) (L .work)) _ 9 0 0 (h8 .1) in
-    let h10 = asked (leb 1 N && leb N largestLimit) _ 10 0 0 (h9 .1) in
+    let h10 = asked (leb 1 (k .limit) && leb (k .limit) largestLimit) _ 10 0 0 (h9 .1) in
+    let h13 = asked (fractionsProper k) _ 13 0 0 (h10 .1) in
     record {
       index-long = leb-true W (L .index) (h6 .0);
       slack = leb-true s m (h7 .0);
       lengths = lengths-of m n L (h8 .0);
       work-long = leb-true (workingSize 4 m n s E) (L .work) (h9 .0);
-      from = leb-true 1 N (and-left (leb 1 N) (leb N largestLimit) (h10 .0));
-      upTo = leb-true N largestLimit (and-right (leb 1 N) (leb N largestLimit) (h10 .0));
+      from = leb-true 1 (k .limit) (and-left (leb 1 (k .limit)) (leb (k .limit) largestLimit) (h10 .0));
+      upTo = leb-true (k .limit) largestLimit (and-right (leb 1 (k .limit)) (leb (k .limit) largestLimit) (h10 .0));
+      fractions = h13 .0;
     }
 
 true-false : false ≡ true → ⊥
 true-false h = let z : _≡_ {A = ℕ} 0 1 = cc in omega arith
 
-module _ (m n s : ℕ) (L : Lengths) (N : ℕ) where
-  -- questions 7 to 10 get a yes just where the entries fit
-  pub below-some : s ≤ m → lengthsRight m n L ≡ true → (leb 1 N && leb N largestLimit) ≡ true → 5 * n + 3 * m + 2 * s ≤ L .work / 4
-      → EntriesBelow m n s L N (L .work / 4 - (5 * n + 3 * m + 2 * s) + 1)
-  below-some h l t w = record {
+module _ (m n s : ℕ) (L : Lengths) (k : Controls) where
+  -- questions 7 to 10 and 13 get a yes just where the entries fit
+  pub below-some : s ≤ m → lengthsRight m n L ≡ true → (leb 1 (k .limit) && leb (k .limit) largestLimit) ≡ true → fractionsProper k ≡ true → 5 * n + 3 * m + 2 * s ≤ L .work / 4
+      → EntriesBelow m n s L k (L .work / 4 - (5 * n + 3 * m + 2 * s) + 1)
+  below-some h l t p w = record {
     yes = λ W E i e.
         unfold sizesVerdict in
-        simp (le-leb _ _ i, le-leb _ _ h, l, le-leb (workingSize 4 m n s E) (L .work) (omega (arith, e, w)), t);
-    under = λ W E v. omega (arith, sizes-of W E m n s L N v .work-long);
+        simp (le-leb _ _ i, le-leb _ _ h, l, le-leb (workingSize 4 m n s E) (L .work) (omega (arith, e, w)), t, p);
+    under = λ W E v. omega (arith, sizes-of W E m n s L k v .work-long);
   }
 
-  -- a no at 7, at 8, at 10, or at 9 with no entries at all
-  below-none : ((W E : ℕ) → Sizes W E m n s L N → ⊥) → EntriesBelow m n s L N 0
-  below-none f = record {
+  -- a no at 7, at 8, at 10, at 13, or at 9 with no entries at all
+  below-none : ((W E : ℕ) → Sizes W E m n s L k → ⊥) → EntriesBelow m n s L k 0
+  below-none never = record {
     yes = λ W E i e. absurd (omega (arith, e));
-    under = λ W E v. absurd (f W E (sizes-of W E m n s L N v));
+    under = λ W E v. absurd (never W E (sizes-of W E m n s L k v));
   }
 
-  pub below-slack : m < s → EntriesBelow m n s L N 0
+  pub below-slack : m < s → EntriesBelow m n s L k 0
   below-slack h = below-none (λ W E q. omega (arith, q .slack))
 
-  pub below-lengths : lengthsRight m n L ≡ false → EntriesBelow m n s L N 0
+  pub below-lengths : lengthsRight m n L ≡ false → EntriesBelow m n s L k 0
   below-lengths h =
       below-none (λ W E q.
       let r = q .lengths in
       true-false (sym h ∙ sym (lengths-last m n L (r .b-long) (r .c-long) (r .tolerances-long) (r .output-long)) ∙ eq-eqb _ _ (r .prices-long)))
 
-  pub below-limit : (leb 1 N && leb N largestLimit) ≡ false → EntriesBelow m n s L N 0
+  pub below-limit : (leb 1 (k .limit) && leb (k .limit) largestLimit) ≡ false → EntriesBelow m n s L k 0
   below-limit h = below-none (λ W E q. true-false (sym (simp (le-leb _ _ (q .from), le-leb _ _ (q .upTo)) at h)))
 
-  pub below-room : L .work / 4 < 5 * n + 3 * m + 2 * s → EntriesBelow m n s L N 0
+  pub below-fractions : fractionsProper k ≡ false → EntriesBelow m n s L k 0
+  below-fractions h = below-none (λ W E q. true-false (sym h ∙ q .fractions))
+
+  pub below-room : L .work / 4 < 5 * n + 3 * m + 2 * s → EntriesBelow m n s L k 0
   below-room h = below-none (λ W E q. omega (arith, q .work-long))

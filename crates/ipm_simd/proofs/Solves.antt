@@ -21,7 +21,7 @@ use Rattle.lists.proofs.Sizes.{plan-size}
 use Rattle.lists.proofs.Counts.{held-stored}
 use Rattle.machine.specs.declared.Outcome.{Outcome}
 use Rattle.machine.specs.declared.Outcome.the-variants.{Accepted as accepted, NoAt11 as noAt11, NoAt12 as noAt12}
-use Rattle.machine.specs.Machine.{State, standard}
+use Rattle.machine.specs.Machine.{State, asGiven}
 use Rattle.machine.specs.Outcome.{Call, solved}
 use Rattle.machine.specs.Demand3.{Buffers, Memory, outputAfter, leaves}
 use Rattle.machine.specs.Work.{Ran}
@@ -41,7 +41,7 @@ use Rattle.outputs.specs.Outputs.{outputOf}
 use Rattle.step.specs.Steps.{Untouched}
 use Rattle.ipm_simd.specs.declared.SolveAnswer.{SolveAnswer}
 use Rattle.ipm_simd.specs.declared.SolveAnswer.the-variants as answers
-use Rattle.ipm_simd.specs.Solve.{Given, lent, call, words, room, priceCount, lengthsOf, plannedHas, toldSolve, outcomeVerdict, sizesVerdict, memoryVerdict, begun, solveVerdict, ifPassed, solveBuffers, Solved}
+use Rattle.ipm_simd.specs.Solve.{Given, lent, controlsOf, call, words, room, priceCount, lengthsOf, plannedHas, toldSolve, outcomeVerdict, sizesVerdict, memoryVerdict, begun, solveVerdict, ifPassed, solveBuffers, Solved}
 use Rattle.ipm_simd.specs.Parts.{Asked10, EntriesBelow, Finished, Continued}
 use Rattle.ipm_common.specs.Plan.{written as indexed}
 use Rattle.ipm_common.proofs.Final.{written-yes, written-other}
@@ -102,7 +102,7 @@ module _ (a : Given) {output prices work : List Float} {index : List ℕ} {store
   room-four = room-fits 4 work (lAt (a .n) (a .m) (a .s) + stored) (omega arith) (omega (arith, Q .work))
 
   -- the block's lanes are the call's
-  pub run-four : {M : Memory} {o : Outcome} → Ran (callIn standard (planOf a stored shared products) four 4 (a .offsets) (a .columns) (a .values) (a .b) (a .c) (a .tolerances)) (a .limit) M o → Ran (call a) (a .limit) M o
+  pub run-four : {M : Memory} {o : Outcome} → Ran (callIn (asGiven (a .centring) (a .damping)) (planOf a stored shared products) four 4 (a .offsets) (a .columns) (a .values) (a .b) (a .c) (a .tolerances)) (a .limit) M o → Ran (call a) (a .limit) M o
   run-four R =
       rw (lanes-all 4 (a .m) (a .b) (omega arith) (Q .b-long), lanes-all 4 (a .n) (a .c) (omega arith) (Q .c-long), lanes-all 4 3 (a .tolerances) (omega arith) (Q .tol-long))
       at R
@@ -154,21 +154,21 @@ module _ (a : Given) {output prices work : List Float} {index : List ℕ} {store
       all : lent output1 prices1 index1 work2 ≡ leaves (call a) (words a) (room a) (a .limit) (lent output prices index work)
       all = λ i. record { output = x-out i; prices = y-out i; index = plan i; work = clear i }
 
--- ---- questions 6 to 10
+-- ---- questions 6 to 10 and 13
 module _ (a : Given) (B : Buffers) where
-  -- the verdict of questions 6 to 10, of the counted E, S and D
+  -- the verdict of questions 6 to 10 and 13, of the counted E, S and D
   memory-is : (stored shared products : ℕ) → Counted (a .offsets) (a .columns) (a .m) stored shared products
-      → sizesVerdict (wordsAt (planOf a stored shared products)) stored (a .m) (a .n) (a .s) (lengthsOf a B) (a .limit) ≡ memoryVerdict a B
+      → sizesVerdict (wordsAt (planOf a stored shared products)) stored (a .m) (a .n) (a .s) (lengthsOf a B) (controlsOf a) ≡ memoryVerdict a B
   unfolding memoryVerdict
   memory-is stored shared products c = rw (words-of (a .offsets) (a .columns) (a .m) (a .n) (a .s) stored shared products c, c .stored)
 
   module _ (stored shared products : ℕ) (c : Counted (a .offsets) (a .columns) (a .m) stored shared products) where
     abbrev verdict : Verdict
-    verdict = sizesVerdict (wordsAt (planOf a stored shared products)) stored (a .m) (a .n) (a .s) (lengthsOf a B) (a .limit)
+    verdict = sizesVerdict (wordsAt (planOf a stored shared products)) stored (a .m) (a .n) (a .s) (lengthsOf a B) (controlsOf a)
 
     pub asked-all : Accepted (a .offsets) (a .columns) (a .m) (a .n) → length (a .values) ≡ length (a .columns) → passed ≡ verdict → Asked10 a B stored shared products
     asked-all ok values v =
-        let q = sizes-of _ stored (a .m) (a .n) (a .s) (lengthsOf a B) (a .limit) (sym v) in
+        let q = sizes-of _ stored (a .m) (a .n) (a .s) (lengthsOf a B) (controlsOf a) (sym v) in
         record {
           ok = ok;
           values = values;
@@ -203,11 +203,11 @@ module _ (a : Given) (B : Buffers) where
           demand3 = λ p. absurd (not-passed (r .question) (r .place) (r .lane) (sym z ∙ p));
         }
 
-    module _ (below : ℕ) (bound : EntriesBelow (a .m) (a .n) (a .s) (lengthsOf a B) (a .limit) below) where
-      -- the index memory after ten yeses, and after a no
+    module _ (below : ℕ) (bound : EntriesBelow (a .m) (a .n) (a .s) (lengthsOf a B) (controlsOf a) below) where
+      -- the index memory after the yeses, and after a no
       pub index-planned : passed ≡ verdict → indexed below (a .m) (a .n) (a .offsets) (a .columns) (B .index) ≡ words a ++ drop (sizeW (a .offsets) (a .columns) (a .m) (a .n)) (B .index)
       index-planned v =
-          let q = sizes-of _ stored (a .m) (a .n) (a .s) (lengthsOf a B) (a .limit) (sym v) in
+          let q = sizes-of _ stored (a .m) (a .n) (a .s) (lengthsOf a B) (controlsOf a) (sym v) in
           written-yes (a .m) (a .n) (a .offsets) (a .columns) (B .index) below (omega (arith, c .stored, bound .under _ stored (sym v))) (omega (arith, words-of (a .offsets) (a .columns) (a .m) (a .n) (a .s) stored shared products c, q .index-long))
 
       pub index-kept : (r : Refusal) → refusal r ≡ verdict → indexed below (a .m) (a .n) (a .offsets) (a .columns) (B .index) ≡ B .index

@@ -5,6 +5,7 @@ use Prim.Native.Nat.{ℕ, _*_, _<_, _≤_}
 use lib.ListN.{length, drop}
 use lib.Ieee.{Float}
 use Rattle.layout.specs.Layout.{workingSize}
+use Rattle.lanes.specs.declared.Controls.{Controls}
 use Rattle.csr.specs.Csr.{Accepted}
 use Rattle.csr.specs.Counts.{sizeW}
 use Rattle.machine.specs.Outcome.{largestLimit, solved}
@@ -16,7 +17,7 @@ use Rattle.ipm_simd.specs.declared.Lengths.{Lengths}
 use Rattle.ipm_simd.specs.declared.SolveAnswer.{SolveAnswer}
 use Rattle.ipm_simd.specs.Solve.{Given, lent, call, words, room, priceCount, plannedHas, toldSolve, outcomeVerdict, sizesVerdict, memoryVerdict, ifPassed}
 
--- questions 1 to 10 got a yes, and E, S and D are counted
+-- questions 1 to 10 got a yes, and E, S and D are counted; the tests need nothing of 13
 pub record Asked10 (a : Given) (B : Buffers) (stored shared products : ℕ) : Type 0 where
   pub ok : Accepted (a .offsets) (a .columns) (a .m) (a .n)
   pub values : length (a .values) ≡ length (a .columns)
@@ -32,10 +33,10 @@ pub record Asked10 (a : Given) (B : Buffers) (stored shared products : ℕ) : Ty
   pub from : 1 ≤ a .limit
   pub upTo : a .limit ≤ largestLimit
 
--- questions 7 to 10 get a yes just where E is below r
-pub record EntriesBelow (m n s : ℕ) (L : Lengths) (N r : ℕ) : Type 0 where
-  pub yes : (W E : ℕ) → W ≤ L .index → E < r → sizesVerdict W E m n s L N ≡ passed
-  pub under : (W E : ℕ) → sizesVerdict W E m n s L N ≡ passed → E < r
+-- questions 7 to 10 and 13 get a yes just where E is below r
+pub record EntriesBelow (m n s : ℕ) (L : Lengths) (k : Controls) (r : ℕ) : Type 0 where
+  pub yes : (W E : ℕ) → W ≤ L .index → E < r → sizesVerdict W E m n s L k ≡ passed
+  pub under : (W E : ℕ) → sizesVerdict W E m n s L k ≡ passed → E < r
 
 -- the tests were made: the answer, the lent lists and demand 3
 pub record Finished (a : Given) (B B′ : Buffers) (r : SolveAnswer) : Type 0 where
@@ -51,7 +52,7 @@ Ends a p output prices work B′ r =
     → B′ .index ≡ words a ++ drop (sizeW (a .offsets) (a .columns) (a .m) (a .n)) old
     → Finished a (lent output prices old work) B′ r
 
--- questions 6 to 10, and then the tests
+-- questions 6 to 10 and 13, and then the tests
 pub record Continued (a : Given) (B B′ : Buffers) (r : SolveAnswer) : Type 0 where
   pub answer : toldSolve r ≡ andThen (memoryVerdict a B) (outcomeVerdict (priceCount a) (solved (call a) (a .limit)))
   pub buffers : B′ ≡ ifPassed a (memoryVerdict a B) (leaves (call a) (words a) (room a) (a .limit) B) B

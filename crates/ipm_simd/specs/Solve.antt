@@ -7,13 +7,15 @@ use lib.Dec.{eqb, leb}
 use lib.ListN.{length}
 use lib.Ieee.{Float}
 use Rattle.layout.specs.Layout.{workingSize}
+use Rattle.lanes.specs.Controls.{controls, fractionsProper}
+use Rattle.lanes.specs.declared.Controls.{Controls}
 use Rattle.csr.specs.Verdict.{Verdict, passed, planned, refused, accepted as acceptedAt, ask, andThen, refusal}
 use Rattle.csr.specs.Questions.{firstNo}
 use Rattle.csr.specs.Counts.{countE, sizeW, sizeF}
 use Rattle.csr.specs.Pattern.{has, row}
 use Rattle.lists.specs.Lists.{shape, listOf, planWords}
 use Rattle.lists.specs.declared.Which.the-variants.{Lindptr, Lindices}
-use Rattle.machine.specs.Machine.{standard}
+use Rattle.machine.specs.Machine.{asGiven}
 use Rattle.machine.specs.declared.Outcome.{Outcome}
 use Rattle.machine.specs.declared.Outcome.the-variants.{Accepted as accepted, NoAt11 as noAt11, NoAt12 as noAt12}
 use Rattle.machine.specs.Outcome.{largestLimit, Call, solved}
@@ -35,10 +37,25 @@ pub record Given : Type 0 where
   pub c : List Float
   pub tolerances : List Float
   pub limit : ℕ
+  pub centring : Float
+  pub damping : Float
 
-abbrev pub given : ℕ → ℕ → ℕ → List ℕ → List ℕ → List Float → List Float → List Float → List Float → ℕ → Given
-given m n s offsets columns values b c tolerances limit =
-    record { m = m; n = n; s = s; offsets = offsets; columns = columns; values = values; b = b; c = c; tolerances = tolerances; limit = limit }
+abbrev pub given : ℕ → ℕ → ℕ → List ℕ → List ℕ → List Float → List Float → List Float → List Float → Controls → Given
+given m n s offsets columns values b c tolerances k =
+    record {
+      m = m;
+      n = n;
+      s = s;
+      offsets = offsets;
+      columns = columns;
+      values = values;
+      b = b;
+      c = c;
+      tolerances = tolerances;
+      limit = k .limit;
+      centring = k .centring;
+      damping = k .damping;
+    }
 
 abbrev pub lent : List Float → List Float → List ℕ → List Float → Buffers
 lent output prices index work = record { output = output; prices = prices; index = index; work = work }
@@ -58,15 +75,17 @@ outcomeVerdict count (noAt12 k) = refused 12 k 0
 abbrev pub lengthsRight : ℕ → ℕ → Lengths → Bool
 lengthsRight m n L = eqb (L .b) (4 * m) && eqb (L .c) (4 * n) && eqb (L .tolerances) 12 && eqb (L .output) (4 * n) && eqb (L .prices) (4 * m)
 
--- questions 6 to 10, by W, E, the sizes, the lengths of the lists, and N
-unfoldable pub sizesVerdict : ℕ → ℕ → ℕ → ℕ → ℕ → Lengths → ℕ → Verdict
-sizesVerdict W E m n s L N =
+-- questions 6 to 10, then 13, by W, E, the sizes, the lengths of the lists, and what the caller set
+unfoldable pub sizesVerdict : ℕ → ℕ → ℕ → ℕ → ℕ → Lengths → Controls → Verdict
+sizesVerdict W E m n s L k =
     ask (leb W (L .index))
     (ask (leb s m)
     (ask (lengthsRight m n L)
     (ask (leb (workingSize 4 m n s E) (L .work))
-    (ask (leb 1 N && leb N largestLimit)
+    (ask (leb 1 (k .limit) && leb (k .limit) largestLimit)
+    (ask (fractionsProper k)
     passed
+    (refused 13 0 0))
     (refused 10 0 0))
     (refused 9 0 0))
     (refused 8 0 0))
@@ -74,13 +93,17 @@ sizesVerdict W E m n s L N =
     (refused 6 0 0)
 
 module _ (a : Given) where
-  -- four lanes with document 01's settings
+  -- what the caller set
+  abbrev pub controlsOf : Controls
+  controlsOf = controls (a .limit) (a .centring) (a .damping)
+
+  -- four lanes, and the machine with the two as given
   abbrev pub call : Call
   call =
       record {
         K = 4;
         problem = problemOf (a .m) (a .n) (a .s) (a .offsets) (a .columns) (a .values);
-        settings = standard;
+        settings = asGiven (a .centring) (a .damping);
         b = a .b;
         c = a .c;
         tolerances = a .tolerances;
@@ -114,23 +137,23 @@ module _ (a : Given) where
   abbrev pub plannedHas : ℕ → ℕ → Bool
   plannedHas i j = has (row (listOf (shape (a .offsets) (a .columns)) Lindptr (a .m)) (listOf (shape (a .offsets) (a .columns)) Lindices (a .m)) i) j
 
-  -- questions 6 to 10 of a matrix that has passed 1 to 5
+  -- questions 6 to 10 and 13 of a matrix that has passed 1 to 5
   unfoldable pub memoryVerdict : Buffers → Verdict
   unfolding sizesVerdict sizeW countE
   memoryVerdict B =
-      sizesVerdict (sizeW (a .offsets) (a .columns) (a .m) (a .n)) (countE (a .offsets) (a .columns) (a .m)) (a .m) (a .n) (a .s) (lengthsOf B) (a .limit)
+      sizesVerdict (sizeW (a .offsets) (a .columns) (a .m) (a .n)) (countE (a .offsets) (a .columns) (a .m)) (a .m) (a .n) (a .s) (lengthsOf B) controlsOf
 
-  -- questions 1 to 10
+  -- questions 1 to 10 and 13
   unfoldable pub begun : Buffers → Verdict
   unfolding firstNo memoryVerdict
   begun B = andThen (firstNo (a .m) (a .n) (a .offsets) (a .columns) (length (a .values))) (memoryVerdict B)
 
-  -- 1 to 10, then 11 and 12 by the machines
+  -- 1 to 10 and 13, then 11 and 12 by the machines
   unfoldable pub solveVerdict : Buffers → Verdict
   unfolding begun solved
   solveVerdict B = andThen (begun B) (outcomeVerdict priceCount (solved call (a .limit)))
 
-  -- 'A no at 1 to 10 changes no buffer.'
+  -- 'A no at 1 to 10 changes no buffer.' And 13: 'no buffer changed'
   abbrev pub ifPassed : Verdict → Buffers → Buffers → Buffers
   ifPassed passed new old = new
   ifPassed (planned w) new old = old
@@ -141,7 +164,7 @@ module _ (a : Given) where
   unfolding begun sizeF solved
   solveBuffers B = ifPassed (begun B) (leaves call words room (a .limit) B) B
 
-  -- the answer, the lent lists, and demand 3 whole once questions 1 to 10 got a yes
+  -- the answer, the lent lists, and demand 3 whole once questions 1 to 10 and 13 got a yes
   pub record Solved (B B′ : Buffers) (r : SolveAnswer) : Type 0 where
     pub answer : toldSolve r ≡ solveVerdict B
     pub buffers : B′ ≡ solveBuffers B

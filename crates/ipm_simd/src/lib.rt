@@ -8,6 +8,7 @@ ghost use lib.ListN.{length, drop, replicate};
 ghost use Rattle.csr.specs.Csr.{Accepted, maxStored};
 ghost use Rattle.csr.specs.Verdict.{toldAsked};
 ghost use Rattle.lanes.specs.Arithmetic.{null};
+ghost use Rattle.lanes.specs.Controls.{controls};
 ghost use Rattle.machine.specs.declared.Outcome.the-variants.{NoAt11};
 ghost use Rattle.machine.specs.Outcome.{largestLimit};
 ghost use Rattle.memory.specs.Planned.{Planned};
@@ -16,7 +17,7 @@ ghost use Rattle.ipm_simd.specs.Parts.{Asked10, EntriesBelow, Ends, Cont
 ghost use Rattle.csr.specs.Questions.{maxRows, maxColumns};
 use csr::Asked;
 use csr::Refusal;
-use lanes::LaneState;
+use lanes::Controls;
 use layout::Block;
 use layout::Plan;
 use machine::Outcome;
@@ -33,6 +34,8 @@ const LIMIT: u32 = 10;
 const SPOILT: u32 = 11;
 
 const NOT_DONE: u32 = 12;
+
+const FRACTIONS: u32 = 13;
 
 const LANES: usize = 4;
 
@@ -84,13 +87,13 @@ fn limit_right(limit: usize) -> bool
     if limit < 1 {
         return false;
     }
-    limit <= LaneState::MAX_TESTS
+    limit <= Controls::MAX_TESTS
 }
 
-// Questions 6 to 10, by W, the plan's sizes, the lengths of the lists and the limit.
-fn ask_sizes(words: usize, plan: Plan, lengths: Lengths, limit: usize) -> Asked
+// Questions 6 to 10 and 13, by W, the plan's sizes, the lengths of the lists and what the caller set.
+fn ask_sizes(words: usize, plan: Plan, lengths: Lengths, controls: Controls) -> Asked
     requires { ⌜ (plan .m ≤ maxRows) × (plan .n ≤ maxColumns) × (plan .stored ≤ maxStored) ⌝ }
-    ensures { λ r. ⌜ toldAsked r ≡ sizesVerdict words (plan .stored) (plan .m) (plan .n) (plan .s) lengths limit ⌝ }
+    ensures { λ r. ⌜ toldAsked r ≡ sizesVerdict words (plan .stored) (plan .m) (plan .n) (plan .s) lengths controls ⌝ }
 {
     let m = plan.m;
     let n = plan.n;
@@ -107,8 +110,11 @@ fn ask_sizes(words: usize, plan: Plan, lengths: Lengths, limit: usize) -> Asked
     if lengths.work < plan.numbers(LANES) {
         return Asked::Refused(Refusal::new(WORKING_MEMORY, 0, 0));
     }
-    if !limit_right(limit) {
+    if !limit_right(controls.limit) {
         return Asked::Refused(Refusal::new(LIMIT, 0, 0));
+    }
+    if !controls.fractions_proper() {
+        return Asked::Refused(Refusal::new(FRACTIONS, 0, 0));
     }
     Asked::Good
 }
@@ -137,7 +143,7 @@ fn answer(outcome: Outcome, length: usize) -> SolveAnswer
     }
 }
 
-// The tests, the outputs and the clearing, after ten yeses and the plan.
+// The tests, the outputs and the clearing, after the yeses and the plan.
 fn solve_planned(
     plan: Plan,
     offsets: &[u32],
@@ -146,14 +152,14 @@ fn solve_planned(
     b: &[f64],
     c: &[f64],
     tolerances: &[f64],
-    limit: usize,
+    controls: Controls,
     output: &mut [f64],
     prices: &mut [f64],
     index: &[u32],
     work: &mut [f64],
 ) -> SolveAnswer
-    requires { ⌜ Planned (now offsets) (now columns) (now values) plan (now index) × Asked10 (given (plan .m) (plan .n) (plan .s) (now offsets) (now columns) (now values) (now b) (now c) (now tolerances) limit) (lent (now output) (now prices) (now index) (now work)) (plan .stored) (plan .shared) (plan .products) ⌝ }
-    ensures { λ r. ⌜ Ends (given (plan .m) (plan .n) (plan .s) (now (offsets .entry)) (now (columns .entry)) (now (values .entry)) (now (b .entry)) (now (c .entry)) (now (tolerances .entry)) limit) plan (now (output .entry)) (now (prices .entry)) (now (work .entry)) (lent (now (output .exit)) (now (prices .exit)) (now (index .entry)) (now (work .exit))) r ⌝ }
+    requires { ⌜ Planned (now offsets) (now columns) (now values) plan (now index) × Asked10 (given (plan .m) (plan .n) (plan .s) (now offsets) (now columns) (now values) (now b) (now c) (now tolerances) controls) (lent (now output) (now prices) (now index) (now work)) (plan .stored) (plan .shared) (plan .products) ⌝ }
+    ensures { λ r. ⌜ Ends (given (plan .m) (plan .n) (plan .s) (now (offsets .entry)) (now (columns .entry)) (now (values .entry)) (now (b .entry)) (now (c .entry)) (now (tolerances .entry)) controls) plan (now (output .entry)) (now (prices .entry)) (now (work .entry)) (lent (now (output .exit)) (now (prices .exit)) (now (index .entry)) (now (work .exit))) r ⌝ }
 {
     let room = plan.numbers(LANES);
     let block = Block {
@@ -172,17 +178,17 @@ fn solve_planned(
         block,
         work,
         LANES,
-        limit,
+        controls,
     );
     outputs::write_outputs(outcome, plan, LANES, output, prices, work);
     clear_front(work, room);
     answer(outcome, prices.len())
 }
 
-// How many stored entries the working memory has no room for: questions 7 to 10 get a yes just where E is below this.
-fn entries_below(m: usize, n: usize, s: usize, lengths: Lengths, limit: usize) -> usize
+// How many stored entries the working memory has no room for: questions 7 to 10 and 13 get a yes just where E is below this.
+fn entries_below(m: usize, n: usize, s: usize, lengths: Lengths, controls: Controls) -> usize
     requires { ⌜ (m ≤ maxRows) × (n ≤ maxColumns) ⌝ }
-    ensures { λ r. ⌜ EntriesBelow m n s lengths limit r ⌝ }
+    ensures { λ r. ⌜ EntriesBelow m n s lengths controls r ⌝ }
 {
     if m < s {
         return 0;
@@ -190,7 +196,10 @@ fn entries_below(m: usize, n: usize, s: usize, lengths: Lengths, limit: usize) -
     if !lengths_right(m, n, lengths) {
         return 0;
     }
-    if !limit_right(limit) {
+    if !limit_right(controls.limit) {
+        return 0;
+    }
+    if !controls.fractions_proper() {
         return 0;
     }
     let most = lengths.work / LANES;
@@ -201,7 +210,7 @@ fn entries_below(m: usize, n: usize, s: usize, lengths: Lengths, limit: usize) -
     most - others + 1
 }
 
-// Questions 6 to 10 of a matrix that has passed 1 to 5, and the solve. The plan is written where all of them get a yes.
+// Questions 6 to 10 and 13 of a matrix that has passed 1 to 5, and the solve. The plan is written where all of them get a yes.
 fn solve_accepted(
     m: usize,
     n: usize,
@@ -212,14 +221,14 @@ fn solve_accepted(
     b: &[f64],
     c: &[f64],
     tolerances: &[f64],
-    limit: usize,
+    controls: Controls,
     output: &mut [f64],
     prices: &mut [f64],
     index: &mut [u32],
     work: &mut [f64],
 ) -> SolveAnswer
     requires { ⌜ Accepted (now offsets) (now columns) m n × (length (now values) ≡ length (now columns)) ⌝ }
-    ensures { λ r. ⌜ Continued (given m n s (now (offsets .entry)) (now (columns .entry)) (now (values .entry)) (now (b .entry)) (now (c .entry)) (now (tolerances .entry)) limit) (lent (now (output .entry)) (now (prices .entry)) (now (index .entry)) (now (work .entry))) (lent (now (output .exit)) (now (prices .exit)) (now (index .exit)) (now (work .exit))) r ⌝ }
+    ensures { λ r. ⌜ Continued (given m n s (now (offsets .entry)) (now (columns .entry)) (now (values .entry)) (now (b .entry)) (now (c .entry)) (now (tolerances .entry)) controls) (lent (now (output .entry)) (now (prices .entry)) (now (index .entry)) (now (work .entry))) (lent (now (output .exit)) (now (prices .exit)) (now (index .exit)) (now (work .exit))) r ⌝ }
 {
     let lengths = Lengths {
         index: index.len(),
@@ -230,12 +239,12 @@ fn solve_accepted(
         prices: prices.len(),
         work: work.len(),
     };
-    let below = entries_below(m, n, s, lengths, limit);
+    let below = entries_below(m, n, s, lengths, controls);
     let sizes = ipm_common::plan_below(m, n, offsets, columns, index, below);
     let e = sizes.e as usize;
     let d = sizes.d as usize;
     let plan = Plan::new(m, n, s, columns.len(), e, sizes.s, d);
-    match ask_sizes(plan.words(), plan, lengths, limit) {
+    match ask_sizes(plan.words(), plan, lengths, controls) {
         Asked::Refused(r) => SolveAnswer::Refused(r),
         Asked::Good => solve_planned(
             plan,
@@ -245,7 +254,7 @@ fn solve_accepted(
             b,
             c,
             tolerances,
-            limit,
+            controls,
             output,
             prices,
             index,
@@ -266,13 +275,20 @@ pub fn solve(
     c: &[f64],
     tolerances: &[f64],
     limit: usize,
+    centring: f64,
+    damping: f64,
     output: &mut [f64],
     prices: &mut [f64],
     index: &mut [u32],
     work: &mut [f64],
 ) -> SolveAnswer
-    ensures { λ r. ⌜ Solved (given m n s (now (offsets .entry)) (now (columns .entry)) (now (values .entry)) (now (b .entry)) (now (c .entry)) (now (tolerances .entry)) limit) (lent (now (output .entry)) (now (prices .entry)) (now (index .entry)) (now (work .entry))) (lent (now (output .exit)) (now (prices .exit)) (now (index .exit)) (now (work .exit))) r ⌝ }
+    ensures { λ r. ⌜ Solved (given m n s (now (offsets .entry)) (now (columns .entry)) (now (values .entry)) (now (b .entry)) (now (c .entry)) (now (tolerances .entry)) (controls limit centring damping)) (lent (now (output .entry)) (now (prices .entry)) (now (index .entry)) (now (work .entry))) (lent (now (output .exit)) (now (prices .exit)) (now (index .exit)) (now (work .exit))) r ⌝ }
 {
+    let controls = Controls {
+        limit,
+        centring,
+        damping,
+    };
     match csr::ask(m, n, offsets, columns, values.len()) {
         Asked::Refused(r) => SolveAnswer::Refused(r),
         Asked::Good => solve_accepted(
@@ -285,7 +301,7 @@ pub fn solve(
             b,
             c,
             tolerances,
-            limit,
+            controls,
             output,
             prices,
             index,

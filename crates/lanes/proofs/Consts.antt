@@ -2,13 +2,13 @@
 use mathlib.Core.Path.{_≡_, refl}
 use lib.Ieee.{binary64, ofBits, ofInt, round}
 use Rattle.lanes.specs.Arithmetic.{null, one}
-use Rattle.lanes.specs.Constants.{startValue, startBits, centringValue, centringBits, dampingValue, dampingBits, PatternsExact}
+use Rattle.lanes.specs.Constants.{oneBits, startValue, startBits, centringValue, centringBits, dampingValue, dampingBits, PatternsExact}
 
 pub null-bits : ofBits binary64 0 ≡ null
 unfolding ofBits ofInt
 null-bits = refl
 
-pub one-bits : ofBits binary64 0x3FF0_0000_0000_0000 ≡ one
+pub one-bits : ofBits binary64 oneBits ≡ one
 unfolding ofBits ofInt
 one-bits = refl
 

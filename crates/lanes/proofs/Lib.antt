@@ -3,3 +3,4 @@ pub mod Regions
 pub mod Quads
 pub mod Consts
 pub mod Magnitude
+pub mod Fractions

@@ -5,6 +5,10 @@ use Prim.Native.Nat.{ℕ}
 use lib.Ieee.{Float, binary64, round, ofBits}
 use Rattle.lanes.specs.Arithmetic.{whole}
 
+-- the pattern of 1.0
+abbrev pub oneBits : ℕ
+oneBits = 0x3ff0_0000_0000_0000
+
 -- 1000.0: every number of a machine at the start
 abbrev pub startValue : Float
 startValue = whole 1000

@@ -3,3 +3,4 @@ pub mod Arithmetic
 pub mod Constants
 pub mod Lanes
 pub mod Region
+pub mod Controls

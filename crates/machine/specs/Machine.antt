@@ -44,21 +44,25 @@ pub record State : Type 0 where
   pub y : List Float
   pub w : List Float
 
--- what a solve fixes besides: centring, damping, and the divisors of R and Q
+-- what a solve fixes besides: centring and damping, and the divisors of R and Q
 pub record Settings : Type 0 where
   pub centring : Float
   pub damping : Float
   pub divisorR : Problem → LaneData → State → Float
   pub divisorQ : Problem → LaneData → State → Float
 
--- 'R = root(Σr²)/(1 + root(Σx²))', 'Q = root(Σq²)/(1 + root(Σy²))', 'mu = 0.1·g/(n + s)', 'h = smaller(0.9995/theta, 1)'
-abbrev pub standard : Settings
-standard = record {
-  centring = centringValue;
-  damping = dampingValue;
+-- 'The machine of document 01 has the two as given', with 'R = root(Σr²)/(1 + root(Σx²))' and 'Q = root(Σq²)/(1 + root(Σy²))'
+abbrev pub asGiven : Float → Float → Settings
+asGiven centring damping = record {
+  centring = centring;
+  damping = damping;
   divisorR = λ A d q. one ⊕ norm (A .n) (q .x);
   divisorQ = λ A d q. one ⊕ norm (A .m) (q .y);
 }
+
+-- 'mu = 0.1·g/(n + s)', 'h = smaller(0.9995/theta, 1)'
+abbrev pub standard : Settings
+standard = asGiven centringValue dampingValue
 
 -- what a step works out: 'all its dx, dz, dy, dw'
 pub record Direction : Type 0 where
@@ -186,7 +190,7 @@ module _ (A : Problem) where
     unfolding Σ
     g q = Σ (A .n) (λ e. at (q .z) e ⊗ at (q .x) e) ⊕ Σ (A .s) (λ i. at (q .w) i ⊗ at (q .y) i)
 
-    -- 'mu = 0.1·g/(n + s)'
+    -- 'mu = 0.1·g/(n + s)', with the centring given for 0.1
     unfoldable pub mu : State → Float
     unfolding g
     mu q = H .centring ⊗ g q ⊘ whole (A .n + A .s)
@@ -242,7 +246,7 @@ module _ (A : Problem) where
     unfolding largestRatio larger
     theta q r = larger (largestRatio (A .n) (q .x) (r .dx) (q .z) (r .dz)) (largestRatio (A .s) (q .w) (r .dw) (q .y) (r .dy))
 
-    -- 'h = smaller(0.9995/theta, 1)'
+    -- 'h = smaller(0.9995/theta, 1)', with the damping given for 0.9995
     unfoldable pub stepLength : State → Direction → Float
     unfolding theta smaller
     stepLength q r = smaller (H .damping ⊘ theta q r) one

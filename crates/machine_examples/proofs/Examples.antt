@@ -2,7 +2,7 @@
 use mathlib.Core.Path.{_≡_, refl}
 use lib.Ieee.{toBits, ofBits, add, sub, mul, div, neg, lt, ofInt, round, isNan}
 use Rattle.machine.specs.Outcome.{solved, fieldAt}
-use Rattle.machine_examples.specs.Examples.{bitsOf, Holds, All, rows, paper-accepted, paper-strict, divisors, strict-R, strict-G, layout, spent, empty-done, empty-spent, paper-nan, chained}
+use Rattle.machine_examples.specs.Examples.{bitsOf, Holds, All, rows, paper-accepted, paper-strict, divisors, strict-R, strict-G, layout, spent, empty-done, empty-spent, paper-nan, as-given, chained}
 
 paper-accepted-holds : Holds paper-accepted
 unfolding solved fieldAt toBits ofBits add sub mul div neg lt ofInt round isNan
@@ -44,6 +44,10 @@ paper-nan-holds : Holds paper-nan
 unfolding solved fieldAt toBits ofBits add sub mul div neg lt ofInt round isNan
 paper-nan-holds = (refl, refl, refl)
 
+as-given-holds : Holds as-given
+unfolding solved fieldAt toBits ofBits add sub mul div neg lt ofInt round isNan
+as-given-holds = (refl, refl, refl)
+
 -- each part by itself: one declaration computes only so much
 chained-answer : solved (chained .call) (chained .limit) ≡ chained .answer
 unfolding solved toBits ofBits add sub mul div neg lt ofInt round isNan
@@ -61,4 +65,4 @@ chained-holds : Holds chained
 chained-holds = (chained-answer, chained-output, chained-prices)
 
 pub examples-hold : All rows
-examples-hold = (paper-accepted-holds, (paper-strict-holds, (divisors-holds, (strict-R-holds, (strict-G-holds, (layout-holds, (spent-holds, (empty-done-holds, (empty-spent-holds, (paper-nan-holds, (chained-holds, tt)))))))))))
+examples-hold = (paper-accepted-holds, (paper-strict-holds, (divisors-holds, (strict-R-holds, (strict-G-holds, (layout-holds, (spent-holds, (empty-done-holds, (empty-spent-holds, (paper-nan-holds, (as-given-holds, (chained-holds, tt))))))))))))

@@ -6,7 +6,7 @@ use Prim.Native.Nat.{ℕ}
 use lib.Ieee.{Float, nan, binary64, toBits, ofBits, round}
 use lib.ListN.{replicate}
 use Rattle.lanes.specs.Arithmetic.{_⊘_, whole, one, null}
-use Rattle.machine.specs.Machine.{Problem, State, standard}
+use Rattle.machine.specs.Machine.{Problem, Settings, State, asGiven, standard}
 use Rattle.machine.specs.declared.Outcome.{Outcome}
 use Rattle.machine.specs.declared.Outcome.the-variants.{Accepted as accepted, NoAt11 as noAt11, NoAt12 as noAt12}
 use Rattle.machine.specs.Outcome.{Call, solved}
@@ -69,9 +69,12 @@ abbrev oneRow : Problem
 oneRow = record { m = 1; n = 1; s = 1; off = 0 ∷ 1 ∷ []; cols = 0 ∷ []; vals = one ∷ [] }
 
 -- K lanes of it: b and c, the primal, dual and optimality tolerances
+abbrev singleBy : Settings → ℕ → List Float → Float → List Float → List Float → List Float → Call
+singleBy H K b c primal dual gap =
+    record { K = K; problem = oneRow; settings = H; b = b; c = replicate K c; tolerances = primal ++ (dual ++ gap) }
+
 abbrev single : ℕ → List Float → Float → List Float → List Float → List Float → Call
-single K b c primal dual gap =
-    record { K = K; problem = oneRow; settings = standard; b = b; c = replicate K c; tolerances = primal ++ (dual ++ gap) }
+single = singleBy standard
 
 -- rows {0}, {1}, two lanes
 abbrev twoRows : Call
@@ -163,5 +166,9 @@ paper-nan = record { call = single 4 (lanes one one nan one) one (four small) (f
 abbrev pub chained : Row
 chained = record { call = star; limit = 3; answer = accepted 3; output = 0x40318bbcfab550d0 ∷ 0x403438ca154eeaf8 ∷ []; prices = 0x408df28fcb5b703a ∷ 0x407ace718fb356c2 ∷ 0xc09768737e25f1ae ∷ [] }
 
+-- one step with centring 0.5 and damping 0.9: x is 100.9; with the two exchanged it would be 500.5, with 0.1 and 0.9995 1.4995
+abbrev pub as-given : Row
+as-given = record { call = singleBy (asGiven (fraction 1 2) (fraction 9 10)) 1 (one ∷ []) one (large ∷ []) (large ∷ []) (whole 900 ∷ []); limit = 2; answer = accepted 2; output = 0x4059399999999990 ∷ []; prices = 0x4096a80000000000 ∷ [] }
+
 abbrev pub rows : List Row
-rows = paper-accepted ∷ paper-strict ∷ divisors ∷ strict-R ∷ strict-G ∷ layout ∷ spent ∷ empty-done ∷ empty-spent ∷ paper-nan ∷ chained ∷ []
+rows = paper-accepted ∷ paper-strict ∷ divisors ∷ strict-R ∷ strict-G ∷ layout ∷ spent ∷ empty-done ∷ empty-spent ∷ paper-nan ∷ as-given ∷ chained ∷ []

@@ -7,6 +7,8 @@ use lib.ListN.{length, take, drop, replicate, length-drop, length-append}
 use lib.Seq.{length-take-le, take-at, ext-getD, getD-take, getD-drop}
 use lib.Ieee.{Float, binary64, ofBits}
 use Rattle.lanes.specs.Lists.{grow, vec}
+use Rattle.lanes.specs.Controls.{standardControls}
+use Rattle.lanes.specs.declared.Controls.{Controls}
 use Rattle.lanes.proofs.Lists.{grow-length, grow-at}
 use Rattle.machine.specs.Demand3.{Buffers}
 use Rattle.ipm_simd.specs.Solve.{Given, given, lent}
@@ -55,8 +57,8 @@ floats-part s at n j k to h e =
     part-same (λ i. ofBits binary64 (le8 s (at + 8 * i))) (λ i. ofBits binary64 (le8 s (to + 8 * i))) n j k h
     (λ i. ap (λ (p : ℕ). ofBits binary64 (le8 s p)) (omega (arith, e)))
 
-given-same : {m n s l : ℕ} {o o′ c c′ : List ℕ} {v v′ b b′ e e′ t t′ : List Float}
-    → o ≡ o′ → c ≡ c′ → v ≡ v′ → b ≡ b′ → e ≡ e′ → t ≡ t′ → given m n s o c v b e t l ≡ given m n s o′ c′ v′ b′ e′ t′ l
+given-same : {m n s : ℕ} {k : Controls} {o o′ c c′ : List ℕ} {v v′ b b′ e e′ t t′ : List Float}
+    → o ≡ o′ → c ≡ c′ → v ≡ v′ → b ≡ b′ → e ≡ e′ → t ≡ t′ → given m n s o c v b e t k ≡ given m n s o′ c′ v′ b′ e′ t′ k
 given-same p q r u w x = cc
 
 -- ---- how many shorts and floats there are, and where the floats start
@@ -155,7 +157,7 @@ pub cut-text : (z : RecordSizes) (shorts : List ℕ) (floats : List Float) (B : 
     (take (z .t + 12 + 4 * z .m - (z .t + 12)) (drop (z .t + 12) floats))
     (take (z .t + 12 + 4 * z .m + 4 * z .n - (z .t + 12 + 4 * z .m)) (drop (z .t + 12 + 4 * z .m) floats))
     (take (z .t + 12 - z .t) (drop (z .t) floats))
-    (z .limit))
+    (standardControls (z .limit)))
     B
     ≡ solveText (partsOf z shorts floats) B
 cut-text z shorts floats B =

@@ -13,6 +13,9 @@ use Rattle.base.specs.Sums.{sum}
 use Rattle.base.proofs.Sums.{sum-more}
 use Rattle.layout.specs.Layout.{workingSize}
 use Rattle.lanes.specs.Lists.{vec}
+use Rattle.lanes.specs.Controls.{fractionsProper}
+use Rattle.lanes.specs.declared.Controls.{Controls}
+use Rattle.lanes.proofs.Fractions.{standard-proper}
 use Rattle.lanes.proofs.Lists.{grow-length}
 use Rattle.csr.specs.Pattern.{row}
 use Rattle.csr.specs.Csr.{Csr, Accepted}
@@ -26,7 +29,7 @@ use Rattle.machine.specs.declared.Outcome.the-variants as outcomes
 use Rattle.machine.specs.Outcome.{largestLimit, solved}
 use Rattle.machine.specs.Demand3.{Buffers}
 use Rattle.ipm_simd.specs.declared.Lengths.{Lengths}
-use Rattle.ipm_simd.specs.Solve.{lengthsRight, outcomeVerdict, sizesVerdict, call, priceCount, lengthsOf, memoryVerdict, begun, solveVerdict}
+use Rattle.ipm_simd.specs.Solve.{lengthsRight, outcomeVerdict, sizesVerdict, controlsOf, call, priceCount, lengthsOf, memoryVerdict, begun, solveVerdict}
 use Rattle.ipm_simd.proofs.Questions.{lengths-last}
 use Rattle.record.specs.Little.{shorts, floats}
 use Rattle.record.specs.Record.{mOf, nOf, sOf, tOf, limitOf, offsetsOf, columnsOf, valuesOf, mostRows, mostColumns, mostEntries, wellFormed, columnsAt}
@@ -35,16 +38,16 @@ use Rattle.reading.specs.Theorems as theorems
 use Rattle.reading.proofs.Headers.{own-whole}
 use Rattle.reading.proofs.Parts.{zeros-long, blank-long}
 
--- ---- answers that are no refusal at 6, 8 or 9
+-- ---- answers that are no refusal at 6, 8, 9 or 13
 fine : Verdict → Bool
 fine passed = true
 fine (planned w) = true
 fine (accepted k count) = true
-fine (refused q p l) = not (eqb q 6 || eqb q 8 || eqb q 9)
+fine (refused q p l) = not (eqb q 6 || eqb q 8 || eqb q 9 || eqb q 13)
 
-fine-not : (q p l : ℕ) → fine (refused q p l) ≡ true → (q ≢ 6) × (q ≢ 8) × (q ≢ 9)
+fine-not : (q p l : ℕ) → fine (refused q p l) ≡ true → (q ≢ 6) × (q ≢ 8) × (q ≢ 9) × (q ≢ 13)
 unfolding fine
-fine-not q p l h = (λ e. false≢true (rw e at h), λ e. false≢true (rw e at h), λ e. false≢true (rw e at h))
+fine-not q p l h = (λ e. false≢true (rw e at h), λ e. false≢true (rw e at h), λ e. false≢true (rw e at h), λ e. false≢true (rw e at h))
 
 -- a question that may get a no, one that gets a yes, and what follows a first part of the questions
 either : (t : Bool) (next : Verdict) (q p l : ℕ) → fine (refused q p l) ≡ true → (t ≡ true → fine next ≡ true) → fine (ask t next (refused q p l)) ≡ true
@@ -74,17 +77,17 @@ early-fine m n off cols values =
     (λ _. either (not (ltb b m)) passed 5 b 0 refl
     (λ _. refl)))))
 
--- questions 6 to 10
-sizes-fine : (W E m n s : ℕ) (L : Lengths) (N : ℕ) → W ≤ L .index → lengthsRight m n L ≡ true → (s ≤ m → workingSize 4 m n s E ≤ L .work)
-    → fine (sizesVerdict W E m n s L N) ≡ true
+-- questions 6 to 10 and 13
+sizes-fine : (W E m n s : ℕ) (L : Lengths) (k : Controls) → W ≤ L .index → lengthsRight m n L ≡ true → (s ≤ m → workingSize 4 m n s E ≤ L .work) → fractionsProper k ≡ true
+    → fine (sizesVerdict W E m n s L k) ≡ true
 unfolding fine sizesVerdict
-sizes-fine W E m n s L N six eight nine =
+sizes-fine W E m n s L k six eight nine proper =
     sure (leb W (L .index)) _ _ (le-leb W (L .index) six)
     (either (leb s m) _ 7 0 0 refl
     (λ t. sure (lengthsRight m n L) _ _ eight
     (sure (leb (workingSize 4 m n s E) (L .work)) _ _ (le-leb (workingSize 4 m n s E) (L .work) (nine (leb-true s m t)))
-    (either (leb 1 N && leb N largestLimit) passed 10 0 0 refl
-    (λ _. refl)))))
+    (either (leb 1 (k .limit) && leb (k .limit) largestLimit) _ 10 0 0 refl
+    (λ _. sure (fractionsProper k) _ _ proper refl)))))
 
 -- questions 11 and 12
 outcome-fine : (count : ℕ) (o : Outcome) → fine (outcomeVerdict count o) ≡ true
@@ -131,10 +134,11 @@ module _ (s : List ℕ) (w : wellFormed s ≡ true) where
       let W = own-whole s w in
       let short : length (columnsOf s) ≤ mostEntries = omega (arith, shorts-long s (columnsAt (mOf s)) (tOf s), W .entries) in
       let L = lengthsOf (givenOf s) memories in
-      sizes-fine _ (countE (offsetsOf s) (columnsOf s) (mOf s)) (mOf s) (nOf s) (sOf s) L (limitOf s)
+      sizes-fine _ (countE (offsetsOf s) (columnsOf s) (mOf s)) (mOf s) (nOf s) (sOf s) L (controlsOf (givenOf s))
       (omega (arith, words-most (offsetsOf s) (columnsOf s) (mOf s) (nOf s) (ok .csr) (W .rows) (W .columns) short, zeros-long indexWords))
       (sym (lengths-last (mOf s) (nOf s) L (floats-long s _ _) (floats-long s _ _) (floats-long s _ _) (blank-long (4 * nOf s))) ∙ eq-eqb _ _ (blank-long (4 * mOf s)))
       (λ slack. omega (arith, numbers-most (offsetsOf s) (columnsOf s) (mOf s) (nOf s) (ok .csr) (W .rows) (W .columns) (sOf s) slack, blank-long workFloats))
+      (standard-proper (limitOf s))
 
   begun-fine : fine (begun (givenOf s) memories) ≡ true
   unfolding begun
@@ -146,5 +150,5 @@ module _ (s : List ℕ) (w : wellFormed s ≡ true) where
   unfolding solveVerdict
   solve-fine = then-fine _ _ begun-fine (λ _. outcome-fine (priceCount (givenOf s)) (solved (call (givenOf s)) (limitOf s)))
 
-pub memory-enough : theorems.Memory-enough
-memory-enough s w q p l e = fine-not q p l (sym (ap fine e) ∙ solve-fine s w)
+pub own-parts-pass : theorems.Own-parts-pass
+own-parts-pass s w q p l e = fine-not q p l (sym (ap fine e) ∙ solve-fine s w)

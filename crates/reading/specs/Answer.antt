@@ -5,6 +5,7 @@ use Prim.Native.Nat.{ℕ, _+_, _-_, _*_, _/_}
 use lib.ListN.{replicate}
 use lib.Ieee.{Float, binary64, ofBits}
 use Rattle.layout.specs.Layout.{workingSize}
+use Rattle.lanes.specs.Controls.{standardControls}
 use Rattle.csr.specs.Verdict.{Verdict, passed, planned, accepted, refused}
 use Rattle.machine.specs.Demand3.{Buffers}
 use Rattle.ipm_simd.specs.Solve.{Given, given, lent, solveVerdict, solveBuffers}
@@ -27,9 +28,9 @@ solveText a B = verdictText (solveVerdict a B) (solveBuffers a B .output) (a .n)
 abbrev pub answerBytes : ℕ
 answerBytes = acceptedBytes mostColumns
 
--- what a record gives
+-- what a record gives, with 0.1 and 0.9995
 abbrev pub givenOf : List ℕ → Given
-givenOf s = given (mOf s) (nOf s) (sOf s) (offsetsOf s) (columnsOf s) (valuesOf s) (bOf s) (cOf s) (tolerancesOf s) (limitOf s)
+givenOf s = given (mOf s) (nOf s) (sOf s) (offsetsOf s) (columnsOf s) (valuesOf s) (bOf s) (cOf s) (tolerancesOf s) (standardControls (limitOf s))
 
 -- memory of zeros, words or +0.0
 unfoldable pub zeros : ℕ → List ℕ
@@ -50,7 +51,7 @@ mostShared = mostEntries * (mostRows + 1) / 2
 abbrev pub mostProducts : ℕ
 mostProducts = (mostRows - 1) * mostRows * (mostRows + 1) / 6
 
--- the most that W and F can be, where every row may be a slack row. Memory-enough in specs/Theorems.antt says that no record needs more
+-- the most that W and F can be, where every row may be a slack row. Own-parts-pass in specs/Theorems.antt says that no record needs more
 abbrev pub indexWords : ℕ
 indexWords = 5 * mostStored + 3 * mostShared + 2 * mostProducts + 3 * mostRows + mostColumns + 2 * mostEntries + 5
 

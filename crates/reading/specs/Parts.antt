@@ -4,6 +4,7 @@ use mathlib.Core.Path.{_≡_}
 use Prim.Native.Nat.{ℕ, _+_, _*_, _≤_}
 use lib.ListN.{length, take, drop}
 use lib.Ieee.{Float}
+use Rattle.lanes.specs.Controls.{standardControls}
 use Rattle.ipm_simd.specs.Solve.{Given, given}
 use Rattle.record.specs.declared.RecordSizes.{RecordSizes}
 use Rattle.record.specs.Record.{sizesOf, endAt, mostRows, mostColumns, mostEntries}
@@ -50,4 +51,4 @@ partsOf z shorts floats =
     (take (4 * z .m) (drop (z .t + 12) floats))
     (take (4 * z .n) (drop (z .t + 12 + 4 * z .m) floats))
     (take 12 (drop (z .t) floats))
-    (z .limit)
+    (standardControls (z .limit))

@@ -9,6 +9,6 @@ use Rattle.ipm_simd.specs.Solve.{solveVerdict}
 use Rattle.record.specs.Record.{mOf, nOf, wellFormed}
 use Rattle.reading.specs.Answer.{givenOf, lentFor}
 
--- the program's own memory is enough: the answer to a well-formed record is never a no at 6, 8 or 9
-abbrev pub Memory-enough : Type 0
-Memory-enough = (s : List ℕ) → wellFormed s ≡ true → (q p l : ℕ) → solveVerdict (givenOf s) (lentFor (mOf s) (nOf s)) ≡ refused q p l → (q ≢ 6) × (q ≢ 8) × (q ≢ 9)
+-- what the program lends and sets itself passes: the answer to a well-formed record is never a no at 6, 8, 9 or 13
+abbrev pub Own-parts-pass : Type 0
+Own-parts-pass = (s : List ℕ) → wellFormed s ≡ true → (q p l : ℕ) → solveVerdict (givenOf s) (lentFor (mOf s) (nOf s)) ≡ refused q p l → (q ≢ 6) × (q ≢ 8) × (q ≢ 9) × (q ≢ 13)

@@ -6,11 +6,13 @@ ghost use Prim.Native.Nat.{_*_, _≤_};
 ghost use lib.ListN.{length};
 ghost use Rattle.io.specs.Counts.{Counts};
 ghost use Rattle.base.specs.Cat.{Wrote};
+ghost use Rattle.lanes.specs.Controls.{standardControls};
 ghost use Rattle.ipm_simd.specs.Solve.{given, lent};
 ghost use Rattle.record.specs.Record.{mOf, nOf, mostRows, mostColumns};
 ghost use Rattle.reading.specs.Parts.{Whole, Parts, partsOf};
 ghost use Rattle.reading.specs.Answer.{answerBytes, solveText, blank, givenOf, lentFor, answerText};
 use ipm_simd::SolveAnswer;
+use lanes::Controls;
 use record::Header;
 use record::LANES;
 use record::OFFSETS_AT;
@@ -18,7 +20,7 @@ use record::RecordSizes;
 use record::SHORT_BYTES;
 use record::TOLERANCES;
 
-// Solves, and puts the text of the answer at the start of out. The text has no y, so its memory is made here.
+// Solves with the centring and the damping of the Rust, and puts the text of the answer at the start of out. The text has no y, so its memory is made here.
 fn solve_text(
     m: usize,
     n: usize,
@@ -36,10 +38,12 @@ fn solve_text(
     out: &mut [u8],
 ) -> usize
     requires { ⌜ (m ≤ mostRows) × (n ≤ mostColumns) × (length (now output) ≡ 4 * n) × (answerBytes ≤ length (now out)) ⌝ }
-    ensures { λ r. ⌜ Wrote (now (out .entry)) (now (out .exit)) 0 (solveText (given m n s (now (offsets .entry)) (now (columns .entry)) (now (values .entry)) (now (b .entry)) (now (c .entry)) (now (tolerances .entry)) limit) (lent (now (output .entry)) (blank (4 * m)) (now (index .entry)) (now (work .entry)))) r ⌝ }
+    ensures { λ r. ⌜ Wrote (now (out .entry)) (now (out .exit)) 0 (solveText (given m n s (now (offsets .entry)) (now (columns .entry)) (now (values .entry)) (now (b .entry)) (now (c .entry)) (now (tolerances .entry)) (standardControls limit)) (lent (now (output .entry)) (blank (4 * m)) (now (index .entry)) (now (work .entry)))) r ⌝ }
 {
     let mut prices = memory::prices();
     let price_count = LANES * m;
+    let centring = Controls::CENTRING;
+    let damping = Controls::DAMPING;
     let answer = ipm_simd::solve(
         m,
         n,
@@ -51,6 +55,8 @@ fn solve_text(
         c,
         tolerances,
         limit,
+        centring,
+        damping,
         output,
         &mut prices[..price_count],
         index,

@@ -12,9 +12,10 @@ use lib.Ieee.{Float}
 use Rattle.lanes.specs.Lists.{at, first}
 use Rattle.lanes.specs.Arithmetic.{_⊕_, one}
 use Rattle.lanes.specs.Lanes.{lanes, Width}
+use Rattle.lanes.specs.declared.Controls.{Controls}
 use Rattle.lanes.proofs.Lists.{first-under}
 use Rattle.lanes.proofs.Quads.{four-lanes, on}
-use Rattle.machine.specs.Machine.{Machine, Problem, LaneData, Settings, live, lost, standard, status, yields}
+use Rattle.machine.specs.Machine.{Machine, Problem, LaneData, Settings, live, lost, asGiven, status, yields}
 use Rattle.machine.specs.declared.Status.{Status}
 use Rattle.machine.specs.declared.Status.the-variants.{Spoilt as spoilt}
 use Rattle.machine.specs.declared.Outcome.{Outcome}
@@ -32,17 +33,23 @@ use Rattle.memory.specs.Calls.{callIn, memoryIn}
 use Rattle.memory.proofs.Calls.{data-in}
 use Rattle.lane_test.specs.Measures.{Measured, Divided}
 use Rattle.lane_test.proofs.Tests.{mu-lane}
-use Rattle.step.specs.Steps.{Told, LanesStep}
+use Rattle.step.specs.Steps.{With, Told, LanesStep}
 use Rattle.run.specs.declared.Turn.{Turn}
 use Rattle.run.specs.declared.Turn.the-variants.{Ends as ends, Steps as steps}
-use Rattle.run.specs.Tests.{Runs, Bears, Tested, AtEveryTest, turnAfter}
+use Rattle.run.specs.Tests.{ByNorms, Bears, Tested, AtEveryTest, turnAfter}
 
--- document 01's settings are such
-pub standard-runs : {A : Problem} → Runs A standard
-standard-runs = record { centring = refl; damping = refl; primal = λ d q. refl; dual = λ d q. refl }
+-- document 01's settings with the two as given are such
+abbrev pub settingsOf : Controls → Settings
+settingsOf k = asGiven (k .centring) (k .damping)
+
+pub settings-with : (k : Controls) → With k (settingsOf k)
+settings-with k = record { centring = refl; damping = refl }
+
+pub settings-norms : (k : Controls) {A : Problem} → ByNorms A (settingsOf k)
+settings-norms k = record { primal = λ d q. refl; dual = λ d q. refl }
 
 -- the divisors are those of the settings
-pub divided : {w : ℕ} → Width w → {A : Problem} {H : Settings} {d : ℕ → LaneData} {centring : Float} {ws nx ny gs ts br bq : List Float} → Runs A H → Measured w (A .m) (A .n) (A .s) centring ws nx ny gs ts
+pub divided : {w : ℕ} → Width w → {A : Problem} {H : Settings} {d : ℕ → LaneData} {centring : Float} {ws nx ny gs ts br bq : List Float} → ByNorms A H → Measured w (A .m) (A .n) (A .s) centring ws nx ny gs ts
     → br ≡ lanes (λ l. one ⊕ at nx l) → bq ≡ lanes (λ l. one ⊕ at ny l) → Divided w A H d ws br bq
 divided {w} W {A} {H} {d} {centring} {ws} {nx} {ny} R M er eq = record {
   primal = λ l b. on W {f = λ l. one ⊕ at nx l} er .lane l b ∙ ap (λ (v : Float). one ⊕ v) (M .x-norm l b) ∙ sym (R .primal (d l) (numbersAt w (A .m) (A .n) (A .s) ws l));

@@ -9,7 +9,7 @@ use lib.Ieee.{Float}
 use Rattle.lanes.specs.Lists.{first}
 use Rattle.lanes.specs.Lanes.{room as roomFor}
 use Rattle.lanes.specs.Arithmetic.{_⊕_, norm, one}
-use Rattle.lanes.specs.Constants.{centringValue, dampingValue}
+use Rattle.lanes.specs.declared.Controls.{Controls}
 use Rattle.machine.specs.Machine.{Problem, LaneData, Settings, State, lost, status}
 use Rattle.machine.specs.declared.Status.{Status}
 use Rattle.machine.specs.declared.Status.the-variants.{Spoilt as spoilt}
@@ -25,6 +25,7 @@ use Rattle.layout.specs.Layout.{topIn}
 use Rattle.memory.specs.Calls.{callIn}
 use Rattle.lane_test.specs.declared.Measures.{Measures}
 use Rattle.lane_test.specs.Measures.{Measured}
+use Rattle.step.specs.Steps.{With}
 use Rattle.run.specs.declared.Turn.{Turn}
 use Rattle.run.specs.declared.Turn.the-variants.{Ends as ends, Steps as steps}
 
@@ -34,21 +35,19 @@ pub record Provided (plan : Plan) (block : Block) (width : ℕ) (off cols : List
   pub lent : Lent block width (plan .m) (plan .n) (plan .s) b c tol
   pub room : topIn plan ≤ roomFor width work
 
--- the settings that the run works by: its centring and its damping, and 1 + the norms of x and y as divisors
-pub record Runs (A : Problem) (H : Settings) : Type 0 where
-  pub centring : H .centring ≡ centringValue
-  pub damping : H .damping ≡ dampingValue
+-- the divisors are 1 + the norms of x and y
+pub record ByNorms (A : Problem) (H : Settings) : Type 0 where
   pub primal : (d : LaneData) (q : State) → (H .divisorR) A d q ≡ one ⊕ norm (A .n) (q .x)
   pub dual : (d : LaneData) (q : State) → (H .divisorQ) A d q ≡ one ⊕ norm (A .m) (q .y)
 
--- what was measured for a test, by the run's centring
-abbrev pub MeasuredIn : Plan → ℕ → List Float → Measures → Type 0
-MeasuredIn plan width ws sums = Measured width (plan .m) (plan .n) (plan .s) centringValue ws (sums .nx) (sums .ny) (sums .g) (sums .mu)
+-- what was measured for a test, by the caller's centring
+abbrev pub MeasuredIn : Controls → Plan → ℕ → List Float → Measures → Type 0
+MeasuredIn k plan width ws sums = Measured width (plan .m) (plan .n) (plan .s) (k .centring) ws (sums .nx) (sums .ny) (sums .g) (sums .mu)
 
--- a claim about the call of the block's lanes, by any settings that the run works by
-abbrev pub ForLanes : (Call → Type 0) → Plan → Block → ℕ → List ℕ → List ℕ → List Float → List Float → List Float → List Float → Type 0
-ForLanes Claim plan block width off cols vals b c tol =
-    (H : Settings) → Runs (problemIn plan off cols vals) H → Claim (callIn H plan block width off cols vals b c tol)
+-- a claim about the call of the block's lanes, by any settings with the controls' centring and damping and the run's divisors
+abbrev pub ForLanes : (Call → Type 0) → Controls → Plan → Block → ℕ → List ℕ → List ℕ → List Float → List Float → List Float → List Float → Type 0
+ForLanes Claim k plan block width off cols vals b c tol =
+    (H : Settings) → With k H → ByNorms (problemIn plan off cols vals) H → Claim (callIn H plan block width off cols vals b c tol)
 
 module _ (C : Call) where
   -- each lane has the numbers that its machine's test k reads; those of a lost machine are free, but its lane shows that it is spoilt

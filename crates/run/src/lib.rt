@@ -10,7 +10,7 @@ ghost use Rattle.memory.specs.Calls.{memoryIn};
 ghost use Rattle.step.specs.Steps.{Untouched};
 ghost use Rattle.run.specs.Tests.{Bears, Tested, AtEveryTest, Provided, MeasuredIn, ForLanes, turnAfter};
 use lane_test::Measures;
-use lanes::LaneState;
+use lanes::Controls;
 use lanes::add4;
 use lanes::one4;
 use layout::Block;
@@ -46,10 +46,11 @@ fn test_at(
     work: &[f64],
     width: usize,
     sums: Measures,
+    controls: Controls,
     k: usize,
 ) -> [Status; 4]
-    requires { ⌜ Provided plan block width (now off) (now cols) (now vals) (now index) (now b) (now c) (now tol) (now work) × MeasuredIn plan width (now work) sums × ForLanes (λ C. Bears C k (memoryIn plan width (now work))) plan block width (now off) (now cols) (now vals) (now b) (now c) (now tol) ⌝ }
-    ensures { λ r. ⌜ ForLanes (λ C. Tested C k (memoryIn plan width (now (work .entry))) r) plan block width (now (off .entry)) (now (cols .entry)) (now (vals .entry)) (now (b .entry)) (now (c .entry)) (now (tol .entry)) ⌝ }
+    requires { ⌜ Provided plan block width (now off) (now cols) (now vals) (now index) (now b) (now c) (now tol) (now work) × MeasuredIn controls plan width (now work) sums × ForLanes (λ C. Bears C k (memoryIn plan width (now work))) controls plan block width (now off) (now cols) (now vals) (now b) (now c) (now tol) ⌝ }
+    ensures { λ r. ⌜ ForLanes (λ C. Tested C k (memoryIn plan width (now (work .entry))) r) controls plan block width (now (off .entry)) (now (cols .entry)) (now (vals .entry)) (now (b .entry)) (now (c .entry)) (now (tol .entry)) ⌝ }
 {
     let nx = sums.nx;
     let ny = sums.ny;
@@ -105,16 +106,16 @@ pub fn run(
     block: Block,
     work: &mut [f64],
     width: usize,
-    limit: usize,
+    controls: Controls,
 ) -> Outcome
-    requires { ⌜ Provided plan block width (now off) (now cols) (now vals) (now index) (now b) (now c) (now tol) (now work) × (1 ≤ limit) ⌝ }
-    ensures { λ r. ⌜ Untouched width (topIn plan) (now (work .entry)) (now (work .exit)) × ForLanes (λ C. Ran C limit (memoryIn plan width (now (work .exit))) r × AtEveryTest C limit (memoryIn plan width (now (work .exit)))) plan block width (now (off .entry)) (now (cols .entry)) (now (vals .entry)) (now (b .entry)) (now (c .entry)) (now (tol .entry)) ⌝ }
+    requires { ⌜ Provided plan block width (now off) (now cols) (now vals) (now index) (now b) (now c) (now tol) (now work) × (1 ≤ controls .limit) ⌝ }
+    ensures { λ r. ⌜ Untouched width (topIn plan) (now (work .entry)) (now (work .exit)) × ForLanes (λ C. Ran C (controls .limit) (memoryIn plan width (now (work .exit))) r × AtEveryTest C (controls .limit) (memoryIn plan width (now (work .exit)))) controls plan block width (now (off .entry)) (now (cols .entry)) (now (vals .entry)) (now (b .entry)) (now (c .entry)) (now (tol .entry)) ⌝ }
 {
     normal_eqn_init(work, width, plan);
     let mut k: usize = 0;
     loop {
         k += 1;
-        let sums = lane_test::measure(work, width, plan, LaneState::CENTRING);
+        let sums = lane_test::measure(work, width, plan, controls.centring);
         let statuses = test_at(
             off,
             cols,
@@ -128,10 +129,11 @@ pub fn run(
             work,
             width,
             sums,
+            controls,
             k,
         );
         let mu = sums.mu;
-        match turn_after(statuses, width, limit, k) {
+        match turn_after(statuses, width, controls.limit, k) {
             Turn::Ends(outcome) => return outcome,
             Turn::Steps => step_lanes(
                 off,
@@ -146,7 +148,7 @@ pub fn run(
                 width,
                 statuses,
                 mu,
-                LaneState::DAMPING,
+                controls,
             ),
         }
     }

@@ -11,6 +11,7 @@ use Rattle.lanes.specs.Lanes.{Width, room}
 use Rattle.lanes.specs.Region.{reg}
 use Rattle.lanes.specs.Arithmetic.{_⊖_, _⊘_, null, one, smaller}
 use Rattle.lanes.specs.Constants.{startValue}
+use Rattle.lanes.specs.declared.Controls.{Controls}
 use Rattle.machine.specs.Machine.{Problem, LaneData, Settings, State, Direction, columnProduct, fOf, dxOf, complement, theta, direction, moved, mu, status}
 use Rattle.machine.specs.declared.Status.{Status}
 use Rattle.machine.specs.declared.Status.the-variants.{Spoilt}
@@ -108,12 +109,17 @@ ChangesFor width plan vals index mu old new ratios =
     → Ready width (problemIn plan off cols vals) d mu old
     → Changed width (problemIn plan off cols vals) H d mu old new ratios
 
--- by the settings with this damping, of which the statuses and mu are told, each lane takes its own step
-abbrev pub StepTaken : Plan → Block → ℕ → List ℕ → List ℕ → List Float → List Float → List Float → List Status → List Float → Float → List Float → List Float → Type 0
-StepTaken plan block width off cols vals b c statuses ts damping old new =
+-- settings with the centring and the damping that a caller set
+pub record With (k : Controls) (H : Settings) : Type 0 where
+  pub centring : H .centring ≡ k .centring
+  pub damping : H .damping ≡ k .damping
+
+-- by any settings with this centring and damping, of which the statuses and mu are told, each lane takes its own step
+abbrev pub StepTaken : Plan → Block → ℕ → List ℕ → List ℕ → List Float → List Float → List Float → List Status → List Float → Controls → List Float → List Float → Type 0
+StepTaken plan block width off cols vals b c statuses ts k old new =
     let A = problemIn plan off cols vals in
     (H : Settings) (tol : List Float)
-    → H .damping ≡ damping
+    → With k H
     → Told width A H (dataIn plan block b c tol) statuses ts old
     → LanesStep width A H (dataIn plan block b c tol) (topIn plan) old new
 

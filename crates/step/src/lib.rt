@@ -19,6 +19,7 @@ use changes::slack_changes;
 use eliminate::factor_solve;
 use kernels::vector_set;
 use kernels::vector_update;
+use lanes::Controls;
 use lanes::LaneState;
 use lanes::div4;
 use lanes::larger4;
@@ -197,12 +198,12 @@ pub fn step_lanes(
     width: usize,
     statuses: [Status; 4],
     mu: [f64; 4],
-    damping: f64,
+    controls: Controls,
 )
     requires { ⌜ Planned (now off) (now cols) (now vals) plan (now index) × Fed block width (plan .m) (plan .n) (plan .s) (now b) (now c) × (topIn plan ≤ room width (now work)) ⌝ }
-    ensures { λ _. ⌜ StepTaken plan block width (now (off .entry)) (now (cols .entry)) (now (vals .entry)) (now (b .entry)) (now (c .entry)) statuses mu damping (now (work .entry)) (now (work .exit)) ⌝ }
+    ensures { λ _. ⌜ StepTaken plan block width (now (off .entry)) (now (cols .entry)) (now (vals .entry)) (now (b .entry)) (now (c .entry)) statuses mu controls (now (work .entry)) (now (work .exit)) ⌝ }
 {
     let done = lanes_done(statuses);
     let theta = directions(off, cols, vals, index, plan, b, c, block, work, width, mu);
-    advance(work, width, plan, theta, done, damping);
+    advance(work, width, plan, theta, done, controls.damping);
 }

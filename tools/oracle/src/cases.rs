@@ -38,6 +38,7 @@ fn worked() -> Problem {
         c: vec![1.0; LANES],
         tolerances: vec![1e9; 3 * LANES],
         limit: 1,
+        ..Problem::default()
     }
 }
 
@@ -117,6 +118,7 @@ fn full(m: usize, n: usize, t: usize) -> Problem {
         c: (0..LANES * n).map(|k| 1.0 + (k % 7) as f64).collect(),
         tolerances: vec![1e-8; 3 * LANES],
         limit: 200,
+        ..Problem::default()
     }
 }
 

@@ -76,10 +76,7 @@ impl Comparison {
     }
 
     fn count_run(&mut self, problem: &Problem, run: &Run) {
-        match run.answer {
-            Answer::Accepted { .. } => self.count("answers: accepted"),
-            Answer::Refused(no) => self.count(format!("answers: refused {:02}", no.question)),
-        }
+        self.count(format!("answers: {}", run.answer.kind()));
         if run.trace.tests.is_empty() {
             return;
         }
@@ -236,6 +233,7 @@ fn compare_one_by_one(comparison: &mut Comparison) {
                     c: lanes.map(|(_, c)| c).to_vec(),
                     tolerances: [1e300, 1e300, tolerance, tolerance].repeat(3),
                     limit: 30,
+                    ..Problem::default()
                 };
                 comparison.solve("one by one, all edges", &problem);
             }
@@ -258,6 +256,7 @@ fn compare_two_by_two(comparison: &mut Comparison) {
                     c: vec![1.0, 0.0, 3.0, -1.0, 2.0, 1.0, 0.0, 5.0],
                     tolerances: vec![1e-8; 3 * LANES],
                     limit: 60,
+                    ..Problem::default()
                 };
                 comparison.solve_around("two by two, all patterns and values", &problem);
             }
@@ -285,14 +284,7 @@ pub fn compare_all(comparison: &mut Comparison, seed: u64, scale: usize) {
     compare_one_by_one(comparison);
     compare_two_by_two(comparison);
     for _ in 0..scale {
-        let problem = generate::solvable(random, 6, 8);
-        comparison.solve_around("solvable", &problem);
-        comparison.solve_around("early finisher", &generate::early(random));
-        comparison.solve_around("one bad lane", &generate::one_bad_lane(random));
-        comparison.solve_around("edge numbers", &generate::edges(random, 3, 3));
-        comparison.solve_around("edge numbers", &generate::edges(random, 5, 6));
-        comparison.solve_around("runaway", &generate::runaway(random));
-        comparison.solve_around("bad wait", &generate::bad_wait(random));
+        generate::each_kind(random).iter().for_each(|(kind, problem)| comparison.solve_around(kind, problem));
         comparison.solve("something wrong", &generate::wrong(random));
     }
     for _ in 0..scale / 20 {

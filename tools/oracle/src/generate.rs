@@ -182,6 +182,19 @@ pub fn bad_wait(random: &mut Random) -> Problem {
     problem
 }
 
+/// A small problem of each kind that questions 1 to 10 let pass.
+pub fn each_kind(random: &mut Random) -> [(&'static str, Problem); 7] {
+    [
+        ("solvable", solvable(random, 6, 8)),
+        ("early finisher", early(random)),
+        ("one bad lane", one_bad_lane(random)),
+        ("edge numbers", edges(random, 3, 3)),
+        ("edge numbers", edges(random, 5, 6)),
+        ("runaway", runaway(random)),
+        ("bad wait", bad_wait(random)),
+    ]
+}
+
 /// A problem with one thing wrong that a record can say: questions 1 to 5, 7 and 10.
 pub fn wrong(random: &mut Random) -> Problem {
     let mut problem = solvable(random, 4, 5);
@@ -250,6 +263,7 @@ pub fn large(random: &mut Random) -> Problem {
         c: floats(random, LANES * n, 0.0, 5.0),
         tolerances: lane_tolerances([1e-8, 1e-6, 1e-3, 1.0]),
         limit: 100,
+        ..Problem::default()
     }
 }
 
@@ -264,6 +278,7 @@ pub fn sized(m: usize, n: usize, t: usize, tolerance: f64) -> Problem {
         c: (0..LANES * n).map(|k| 1.0 + (k % 7) as f64).collect(),
         tolerances: lane_tolerances([tolerance; LANES]),
         limit: 3,
+        ..Problem::default()
     }
 }
 

@@ -87,6 +87,8 @@ fn call_solve(problem: &Problem, lent: &mut Lent) -> Code {
             tolerances.as_ptr(),
             tolerances.len(),
             problem.limit,
+            problem.fractions.centring,
+            problem.fractions.damping,
             lent.output.as_mut_ptr(),
             lent.output.len(),
             lent.prices.as_mut_ptr(),
@@ -109,7 +111,7 @@ fn check_outputs_untouched(lent: &Lent) -> Result<(), String> {
     check(lent.prices.iter().all(|&p| p == NUMBER), "a refusal changed the prices")
 }
 
-/// Index and working memory after a no at 1 to 10.
+/// Index and working memory after a no at 1 to 10 or 13.
 fn check_memory_untouched(lent: &Lent) -> Result<(), String> {
     check(lent.index.iter().all(|&word| word == WORD), "a refusal changed the index memory")?;
     check(lent.work.iter().all(|&p| p == NUMBER), "a refusal changed the working memory")

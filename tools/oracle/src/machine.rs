@@ -2,11 +2,9 @@
 //! rule. Nothing here reads the Rust, its lists or its order of work.
 
 use crate::plan::{neighbours, shared_places};
-use crate::problem::{Problem, lane, settled_bits};
+use crate::problem::{Fractions, Problem, lane, settled_bits};
 
-const START: f64 = 1000.0;
-const CENTRING: f64 = 0.1;
-const DAMPING: f64 = 0.9995;
+pub const START: f64 = 1000.0;
 
 /// What a lane's test yields.
 #[derive(Clone, Copy, Debug, PartialEq, Eq)]
@@ -88,6 +86,7 @@ pub struct Machine<'a> {
     b: Vec<f64>,
     c: Vec<f64>,
     tolerances: [f64; 3],
+    fractions: Fractions,
     pub x: Vec<f64>,
     z: Vec<f64>,
     pub y: Vec<f64>,
@@ -138,6 +137,7 @@ impl<'a> Machine<'a> {
             b: lane(&problem.b, l),
             c: lane(&problem.c, l),
             tolerances: [tolerances[0], tolerances[1], tolerances[2]],
+            fractions: problem.fractions,
             x: vec![START; shape.n],
             z: vec![START; shape.n],
             y: vec![START; shape.m],
@@ -170,7 +170,7 @@ impl<'a> Machine<'a> {
     }
 
     fn mu(&self) -> f64 {
-        CENTRING * self.gap() / (self.shape.n + self.shape.s) as f64
+        self.fractions.centring * self.gap() / (self.shape.n + self.shape.s) as f64
     }
 
     /// The test: what it yields, from now on spoilt if it is spoilt.
@@ -255,7 +255,7 @@ impl<'a> Machine<'a> {
             .fold(0.0, |theta, e| larger(larger(theta, -change.x[e] / self.x[e]), -change.z[e] / self.z[e]));
         let slacks = (0..self.shape.s)
             .fold(0.0, |theta, i| larger(larger(theta, -change.w[i] / self.w[i]), -change.y[i] / self.y[i]));
-        smaller(DAMPING / larger(columns, slacks), 1.0)
+        smaller(self.fractions.damping / larger(columns, slacks), 1.0)
     }
 
     /// x, z, y and w as bits, unless it is spoilt: then they are free.

@@ -7,6 +7,8 @@ mod compare;
 #[path = "../../../bindings/rust/src/extern_c.rs"]
 #[allow(dead_code)]
 mod extern_c;
+#[cfg(ipm_c)]
+mod fractions;
 mod generate;
 #[cfg(ipm_c)]
 mod library;
@@ -136,7 +138,10 @@ fn compare(seed: u64, scale: usize) -> Result<(), String> {
     compare::compare_all(&mut comparison, seed, scale);
     rubbish::compare(&mut comparison, &mut random::Random::new(seed), scale);
     #[cfg(ipm_c)]
-    rooms::compare(&mut comparison, &mut random::Random::new(seed), 10 * scale);
+    {
+        rooms::compare(&mut comparison, &mut random::Random::new(seed), 10 * scale);
+        fractions::compare(&mut comparison, &mut random::Random::new(seed), scale);
+    }
     if comparison.report() { Ok(()) } else { Err("there are differences".into()) }
 }
 

@@ -14,6 +14,7 @@ fn problem(n: usize, rows: &[&[usize]], s: usize, tolerance: f64) -> Problem {
         s,
         tolerances: vec![tolerance; 3 * LANES],
         limit: 100,
+        ..Problem::default()
     }
 }
 

@@ -40,6 +40,20 @@ impl Matrix {
     }
 }
 
+/// The centring and the damping of a solve, shared by the lanes.
+#[derive(Clone, Copy, Debug, PartialEq)]
+pub struct Fractions {
+    pub centring: f64,
+    pub damping: f64,
+}
+
+impl Default for Fractions {
+    /// Document 01's, which the Rust and the reading program have for every problem.
+    fn default() -> Self {
+        Fractions { centring: 0.1, damping: 0.9995 }
+    }
+}
+
 /// All that a solve is given, apart from the memory lent to it.
 #[derive(Clone, Debug, Default)]
 pub struct Problem {
@@ -51,6 +65,7 @@ pub struct Problem {
     /// Four primal, four dual, four optimality.
     pub tolerances: Vec<f64>,
     pub limit: usize,
+    pub fractions: Fractions,
 }
 
 impl Problem {
@@ -95,6 +110,14 @@ pub enum Answer {
 }
 
 impl Answer {
+    /// In a word, for the counts.
+    pub fn kind(&self) -> String {
+        match self {
+            Answer::Accepted { .. } => "accepted".into(),
+            Answer::Refused(no) => format!("refused {:02}", no.question),
+        }
+    }
+
     pub fn tells_y(&self) -> bool {
         matches!(self, Answer::Accepted { y: Some(_), .. })
     }

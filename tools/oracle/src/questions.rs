@@ -1,7 +1,7 @@
-//! Document 01's questions 1 to 10, in order.
+//! Document 01's questions 1 to 10 in order, and then 13: all that is asked before the tests.
 
 use crate::plan::{Counts, counts, plan_words, work_numbers};
-use crate::problem::{LANES, MOST_COLUMNS, MOST_ENTRIES, MOST_ROWS, MOST_TESTS, Matrix, Problem, Refusal};
+use crate::problem::{Fractions, LANES, MOST_COLUMNS, MOST_ENTRIES, MOST_ROWS, MOST_TESTS, Matrix, Problem, Refusal};
 
 /// The lengths of the memory lent beside the problem.
 #[derive(Clone, Copy, Debug, PartialEq, Eq)]
@@ -59,7 +59,12 @@ pub fn ask_plan(matrix: &Matrix, index: usize) -> Result<Counts, Refusal> {
     Ok(counts)
 }
 
-/// Questions 1 to 10.
+/// Above 0 and below 1. NaN is neither.
+fn is_proper(number: f64) -> bool {
+    0.0 < number && number < 1.0
+}
+
+/// Questions 1 to 10, then 13.
 pub fn ask_solve(problem: &Problem, room: Room) -> Result<(), Refusal> {
     let matrix = &problem.matrix;
     ask_matrix(matrix, Some(problem.values.len()))?;
@@ -69,5 +74,7 @@ pub fn ask_solve(problem: &Problem, room: Room) -> Result<(), Refusal> {
     let lengths = [problem.b.len(), problem.c.len(), problem.tolerances.len(), room.output, room.prices];
     no_unless(lengths == [of_rows, of_columns, 3 * LANES, of_columns, of_rows], 8)?;
     no_unless(room.work >= work_numbers(matrix, problem.s, counts), 9)?;
-    no_unless((1..=MOST_TESTS).contains(&problem.limit), 10)
+    no_unless((1..=MOST_TESTS).contains(&problem.limit), 10)?;
+    let Fractions { centring, damping } = problem.fractions;
+    no_unless(is_proper(centring) && is_proper(damping), 13)
 }

@@ -4,7 +4,7 @@ use std::io::Write;
 use std::process::{Command, Stdio};
 
 use crate::backend::{Backend, Told};
-use crate::problem::{Answer, LANES, Matrix, Planned, Problem, Refusal};
+use crate::problem::{Answer, Fractions, LANES, Matrix, Planned, Problem, Refusal};
 use crate::record::{READING, read, write};
 
 pub struct ReadingProgram {
@@ -53,7 +53,7 @@ impl Backend for ReadingProgram {
 
     fn solve(&mut self, problem: &Problem) -> Result<Option<Told>, String> {
         let sizes = [problem.s, problem.limit, problem.matrix.entries()];
-        if sizes.iter().any(|&size| size > u16::MAX as usize) {
+        if problem.fractions != Fractions::default() || sizes.iter().any(|&size| size > u16::MAX as usize) {
             return Ok(None);
         }
         let bytes = write(problem);

@@ -58,7 +58,7 @@ pub fn read(bytes: &[u8], limits: Limits) -> Option<Problem> {
     let values = reader.floats(t)?;
     let tolerances = reader.floats(TOLERANCES)?;
     let (b, c) = (reader.floats(LANES * m)?, reader.floats(LANES * n)?);
-    reader.bytes.is_empty().then_some(Problem { matrix, values, s, b, c, tolerances, limit })
+    reader.bytes.is_empty().then_some(Problem { matrix, values, s, b, c, tolerances, limit, ..Problem::default() })
 }
 
 /// The record of a problem whose lists are as long as a record says.

@@ -29,7 +29,7 @@ fn together(lists: [&[f64]; LANES]) -> Vec<u64> {
     (0..lists[0].len()).flat_map(|k| lists.map(|list| settled_bits(list[k]))).collect()
 }
 
-/// The answer once questions 1 to 10 have a yes, or the test goes on.
+/// The answer once questions 1 to 10 and 13 have a yes, or the test goes on.
 fn stopped(verdicts: [Verdict; LANES], test: usize, machines: &[Machine; LANES]) -> Option<Answer> {
     if let Some(lane) = verdicts.iter().position(|&verdict| verdict == Verdict::Spoilt) {
         return Some(Answer::Refused(Refusal { question: 11, place: test, lane }));

@@ -4,7 +4,7 @@ use crate::compare::Comparison;
 use crate::generate;
 use crate::library::{enough, plan_in, solve_in};
 use crate::plan::{plan_words, work_numbers};
-use crate::problem::{LANES, Problem};
+use crate::problem::{Answer, LANES, Problem};
 use crate::questions::{Room, ask_plan};
 use crate::random::Random;
 use crate::reference;
@@ -25,7 +25,7 @@ fn near_prices(random: &mut Random, problem: &Problem) -> usize {
 }
 
 /// Exactly what the problem needs.
-fn exact(problem: &Problem) -> Room {
+pub fn exact(problem: &Problem) -> Room {
     match ask_plan(&problem.matrix, usize::MAX) {
         Err(_) => enough(problem),
         Ok(counts) => Room {
@@ -37,7 +37,7 @@ fn exact(problem: &Problem) -> Room {
 }
 
 /// Changes lengths at random.
-fn vary(random: &mut Random, problem: &mut Problem) -> Room {
+pub fn vary(random: &mut Random, problem: &mut Problem) -> Room {
     for list in [&mut problem.values, &mut problem.b, &mut problem.c, &mut problem.tolerances] {
         let length = near(random, list.len());
         list.resize(length, 1.0);
@@ -57,16 +57,22 @@ fn vary(random: &mut Random, problem: &mut Problem) -> Room {
     }
 }
 
+/// The static library beside the reference with this much lent; gives the reference's answer.
+pub fn compare_solve(comparison: &mut Comparison, what: &str, problem: &Problem, room: Room) -> Answer {
+    let wanted = reference::run(problem, room).answer;
+    comparison.count(format!("solves with {what} varied: static library"));
+    match solve_in(problem, room) {
+        Ok(answer) if answer == wanted => {}
+        other => comparison.differ(format!("static library {other:?}, wanted {wanted:?}: {room:?} {problem:?}")),
+    }
+    wanted
+}
+
 pub fn compare(comparison: &mut Comparison, random: &mut Random, count: usize) {
     for _ in 0..count {
         let mut problem = if random.once_in(6) { generate::wrong(random) } else { generate::solvable(random, 4, 4) };
         let room = vary(random, &mut problem);
-        let wanted = reference::run(&problem, room).answer;
-        comparison.count("solves with lengths varied: static library");
-        match solve_in(&problem, room) {
-            Ok(answer) if answer == wanted => {}
-            other => comparison.differ(format!("static library {other:?}, wanted {wanted:?}: {room:?} {problem:?}")),
-        }
+        compare_solve(comparison, "lengths", &problem, room);
         let wanted = reference::plan(&problem.matrix, room.index);
         comparison.count("plans with lengths varied: static library");
         match plan_in(&problem.matrix, room.index) {

@@ -1,4 +1,4 @@
-//! The Rust, unchanged. It is given only what passes questions 1 to 10.
+//! The Rust, unchanged. It is given only what passes questions 1 to 10, with the centring and damping that it has.
 
 use std::any::Any;
 use std::cell::Cell;
@@ -8,7 +8,7 @@ use ipm_simd::{PathFollowingDirectSimdSolver, inside};
 use wide::watch;
 
 use crate::backend::{Backend, Numbers, Test, Told, Trace};
-use crate::problem::{Answer, Matrix, Planned, Problem, Refusal, all_settled_bits, settled_bits};
+use crate::problem::{Answer, Fractions, Matrix, Planned, Problem, Refusal, all_settled_bits, settled_bits};
 use crate::questions::{Room, ask_matrix, ask_solve};
 use crate::rust::{Solved, lists, solve_with, solver};
 
@@ -84,7 +84,7 @@ impl Backend for Unchanged {
     }
 
     fn solve(&mut self, problem: &Problem) -> Result<Option<Told>, String> {
-        if ask_solve(problem, Room::ample(problem)).is_err() {
+        if problem.fractions != Fractions::default() || ask_solve(problem, Room::ample(problem)).is_err() {
             return Ok(None);
         }
         let (end, trace) = solve_watched(problem);

@@ -1,6 +1,7 @@
 -- `ipm_c::ipm_solve` meets its contract: the answer of solve in one number. Assumes nothing.
 use mathlib.Core.Path.{sym, ap, _∙_, subst}
 use native.Mathlib.Omega.{arith}
+use Rattle.lanes.specs.Controls.{controls}
 use Rattle.ipm_simd.specs.Solve.{given, lent, toldSolve}
 use Rattle.ipm_c.specs.Packed.{packed}
 use Rattle.ipm_c.proofs.Small.{Small, small-solve, in-one}
@@ -12,14 +13,14 @@ pack-requires : tie.Need-pack-requires
 pack-requires c κs =
     let a = c .before .before .before .before .before .before .before .before .before .before .before .before .before .before .before .before .before .before .before .before .before .before .before .before .before .before .args in
     let said = sym (c .before .before .before .before .before .before .before .before .before .before .before .solve .ensures .answer) ∙ ap toldSolve (c .before .k .given .1) in
-    let small = subst Small said (small-solve (given (a .m) (a .n) (a .s) (a .offsets .now) (a .columns .now) (a .values .now) (a .b .now) (a .c .now) (a .tolerances .now) (a .limit)) (lent (a .output .now) (a .prices .now) (a .index .now) (a .work .now))) in
+    let small = subst Small said (small-solve (given (a .m) (a .n) (a .s) (a .offsets .now) (a .columns .now) (a .values .now) (a .b .now) (a .c .now) (a .tolerances .now) (controls (a .limit) (a .centring) (a .damping))) (lent (a .output .now) (a .prices .now) (a .index .now) (a .work .now))) in
     (omega (arith, small .1), omega arith, small .0, omega arith)
 
 pack-requires-2 : tie.Need-pack-requires-2
 pack-requires-2 c κs =
     let a = c .before .before .before .before .before .before .before .before .before .before .before .before .before .before .before .before .before .before .before .before .before .before .before .before .before .before .args in
     let said = sym (c .before .before .before .before .before .before .before .before .before .before .before .solve .ensures .answer) ∙ ap toldSolve (c .before .r .given .1) in
-    let small = subst Small said (small-solve (given (a .m) (a .n) (a .s) (a .offsets .now) (a .columns .now) (a .values .now) (a .b .now) (a .c .now) (a .tolerances .now) (a .limit)) (lent (a .output .now) (a .prices .now) (a .index .now) (a .work .now))) in
+    let small = subst Small said (small-solve (given (a .m) (a .n) (a .s) (a .offsets .now) (a .columns .now) (a .values .now) (a .b .now) (a .c .now) (a .tolerances .now) (controls (a .limit) (a .centring) (a .damping))) (lent (a .output .now) (a .prices .now) (a .index .now) (a .work .now))) in
     (omega arith, small .0, small .1, small .2)
 
 returns : tie.Need-returns

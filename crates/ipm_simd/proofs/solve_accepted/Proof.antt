@@ -29,7 +29,7 @@ ask-sizes-requires c κs =
 solve-planned-requires : tie.Need-solve-planned-requires
 solve-planned-requires c κs =
     let s = c .before .before .before .before .before .before .before .before .before .before .before .before .before .before .before .before .before .before .before .before .before .before .before .before .before .before in
-    let a = (given (s .args .m) (s .args .n) (s .args .s) (s .args .offsets .now) (s .args .columns .now) (s .args .values .now) (s .args .b .now) (s .args .c .now) (s .args .tolerances .now) (s .args .limit)) in
+    let a = (given (s .args .m) (s .args .n) (s .args .s) (s .args .offsets .now) (s .args .columns .now) (s .args .values .now) (s .args .b .now) (s .args .c .now) (s .args .tolerances .now) (s .args .controls)) in
     let B = (lent (s .args .output .now) (s .args .prices .now) (s .args .index .now) (s .args .work .now)) in
     let z = c .before .before .before .before .before .before .before .before .before .before .before .before .before .plan-below .result in
     let t = c .before .before .before .before .before .before .before .before .before .before .before .before .before .plan-below .ensures .sizes in
@@ -60,7 +60,7 @@ solve-planned-requires c κs =
 returns : tie.Need-returns
 returns c =
     let s = c .before .before .before .before .before .before .before .before .before .before .before .before .before .before .before .before .before .before .before .before .before .before .before in
-    let a = (given (s .args .m) (s .args .n) (s .args .s) (s .args .offsets .now) (s .args .columns .now) (s .args .values .now) (s .args .b .now) (s .args .c .now) (s .args .tolerances .now) (s .args .limit)) in
+    let a = (given (s .args .m) (s .args .n) (s .args .s) (s .args .offsets .now) (s .args .columns .now) (s .args .values .now) (s .args .b .now) (s .args .c .now) (s .args .tolerances .now) (s .args .controls)) in
     let B = (lent (s .args .output .now) (s .args .prices .now) (s .args .index .now) (s .args .work .now)) in
     let z = c .before .before .before .before .before .before .before .before .before .before .plan-below .result in
     let t = c .before .before .before .before .before .before .before .before .before .before .plan-below .ensures .sizes in
@@ -75,7 +75,7 @@ returns c =
 returns-2 : tie.Need-returns-2
 returns-2 c =
     let s = c .before .before .before .before .before .before .before .before .before .before .before .before .before .before .before .before .before .before .before .before .before .before .before .before .before .before .before .before .before .before .before .before .before in
-    let a = (given (s .args .m) (s .args .n) (s .args .s) (s .args .offsets .now) (s .args .columns .now) (s .args .values .now) (s .args .b .now) (s .args .c .now) (s .args .tolerances .now) (s .args .limit)) in
+    let a = (given (s .args .m) (s .args .n) (s .args .s) (s .args .offsets .now) (s .args .columns .now) (s .args .values .now) (s .args .b .now) (s .args .c .now) (s .args .tolerances .now) (s .args .controls)) in
     let B = (lent (s .args .output .now) (s .args .prices .now) (s .args .index .now) (s .args .work .now)) in
     let z = c .before .before .before .before .before .before .before .before .before .before .before .before .before .before .before .before .before .before .before .before .plan-below .result in
     let t = c .before .before .before .before .before .before .before .before .before .before .before .before .before .before .before .before .before .before .before .before .plan-below .ensures .sizes in

@@ -18,9 +18,8 @@ returns c =
     let s = c .before .before .before .before .before .before .before .before .before .before .before .before .before .before .before .before in
     λ H tol e K.
     let d = dataAt (s .args .block) (s .args .plan .m) (s .args .plan .n) (s .args .b .now) (s .args .c .now) tol in
-    let T = took _ _ H d _ _ e (c .before .before .before .before .before .before .directions .ensures H tol) (c .before .before .advance .ensures) (omega arith) in
+    let T = took _ _ H d _ _ (e .damping) (c .before .before .before .before .before .before .directions .ensures H tol) (c .before .before .advance .ensures) (omega arith) in
     by-statuses _ _ H d (s .args .statuses) T K (λ l h. c .before .before .before .before .before .before .before .before .lanes-done .ensures l (omega (arith, h, s .pre .1 .wide .most)))
 
 pub step-lanes-spec : {M : Type 1} → statement M
-step-lanes-spec =
-    tie.close (tie.spec (λ c κs. search needs) (λ c κs. search needs) advance-requires (λ c. search needs) returns)
+step-lanes-spec = tie.close (tie.spec (λ c κs. search needs) (λ c κs. search needs) advance-requires (λ c. search needs) returns)

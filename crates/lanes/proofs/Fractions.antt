@@ -1,0 +1,127 @@
+-- Which numbers are proper fractions. Assumes nothing.
+use mathlib.Core.Path.{_≡_, refl, sym, ap, ap₂, _∙_, subst}
+use mathlib.Core.Bool.{Bool, true, false, _&&_, cond}
+use Prim.Native.Nat.{ℕ, zero, suc, _+_, _*_, _/_, _%_, _^_, _≤_, _<_}
+use native.Mathlib.Nat.{le-trans, le-of-eq, lt-of-lt-of-le, not-le-of-lt, mul-one, mul-pos, mul-le-mul-right}
+use native.Mathlib.Decide.{decLe}
+use native.Mathlib.Omega.{arith}
+use lib.Dec.{T, leb, ltb, eqb, eqb→eq}
+use lib.Pow.{pow-add, pow-pos, pow-mono, shl-lt}
+use lib.Ieee.{Float, nan, inf, binary64, odd, below, lt, round, ofInt, ofFields, ofBits}
+use lib.Ieee.Exact.{odd-sign}
+use borrow.Author.Tests.{ltb-true, lt-ltb, le-ltb, le-leb, lt-leb}
+use Rattle.base.proofs.Bools.{and-false, same-if}
+use Rattle.root4.proofs.Rounding.{Is, lt-is}
+use Rattle.lanes.specs.Arithmetic.{null, one}
+use Rattle.lanes.specs.Constants.{oneBits}
+use Rattle.lanes.specs.Controls.{proper, fractionsProper, standardControls, Proper-patterns}
+
+pub standard-proper : (limit : ℕ) → fractionsProper (standardControls limit) ≡ true
+unfolding proper lt round ofInt
+standard-proper limit = refl
+
+-- ---- n smallest values against 0 and 1
+
+null-is : Is null false 0
+unfolding ofInt
+null-is = (refl, refl)
+
+one-is : Is one false (2 ^ 1074)
+unfolding ofInt
+one-is = (refl, refl)
+
+proper-is : (v : Float) (s : Bool) (n : ℕ) → Is v s n → proper v ≡ (below false 0 s n && below s n false (2 ^ 1074))
+unfolding proper
+proper-is v s n h = ap₂ _&&_ (lt-is null v false s 0 n null-is h) (lt-is v one s false n (2 ^ 1074) h one-is)
+
+-- ---- a pattern's fields: the sign, the exponent's field x and the digits t
+
+-- an infinity or a NaN
+no-end : (s b : Bool) → proper (cond b (inf s) nan) ≡ false
+unfolding proper lt ofInt
+no-end s false = refl
+no-end true true = refl
+no-end false true = refl
+
+top-fields : (s : Bool) (x t : ℕ) → x ≡ 2047 → proper (ofFields binary64 s x t) ≡ false
+unfolding ofFields
+top-fields s x t e = ap (λ (y : ℕ). proper (ofFields binary64 s y t)) e ∙ no-end s (eqb t 0)
+
+-- a finite number, counted in smallest values
+smallest : ℕ → ℕ → ℕ
+smallest zero t = t
+smallest (suc x) t = (2 ^ 52 + t) * 2 ^ x
+
+finite-fields : (s : Bool) (x t : ℕ) → x < 2047 → Is (ofFields binary64 s x t) s (smallest x t)
+unfolding smallest ofFields
+finite-fields s zero t u = subst (Is (odd 53 s t 0 1074) s) (mul-one t) (odd-sign 53 s t 0 1074)
+finite-fields s (suc x) t u = go (eqb (suc x) 2047) (eqb→eq (suc x) 2047)
+  where
+    no : suc x ≡ 2047 → ⊥
+    no e = omega arith
+
+    go : (b : Bool) → (T b → suc x ≡ 2047) → Is (cond b (cond (eqb t 0) (inf s) nan) (odd 53 s (2 ^ 52 + t) x 1074)) s ((2 ^ 52 + t) * 2 ^ x)
+    go true k = absurd (no (k tt))
+    go false k = odd-sign 53 s (2 ^ 52 + t) x 1074
+
+negative : (x t : ℕ) → x < 2048 → proper (ofFields binary64 true x t) ≡ false
+negative x t u = go (decLe 2047 x)
+  where
+    go : Dec (2047 ≤ x) → proper (ofFields binary64 true x t) ≡ false
+    go (yes k) = top-fields true x t (omega arith)
+    go (no k) = proper-is (ofFields binary64 true x t) true (smallest x t) (finite-fields true x t (omega arith))
+
+-- ---- the sign clear
+
+same-ltb : (a b c d : ℕ) → (a < b → c < d) → (c < d → a < b) → ltb a b ≡ ltb c d
+same-ltb a b c d f g = same-if (ltb a b) (ltb c d) (λ e. lt-ltb c d (f (ltb-true a b e))) (λ e. lt-ltb a b (g (ltb-true c d e)))
+
+-- above 0 are the patterns above 0
+some : (x t : ℕ) → ltb 0 (smallest x t) ≡ ltb 0 (x * 2 ^ 52 + t)
+unfolding smallest
+some zero t = same-ltb 0 t 0 (0 * 2 ^ 52 + t) (λ h. omega arith) (λ h. omega arith)
+some (suc x) t = same-ltb 0 ((2 ^ 52 + t) * 2 ^ x) 0 (suc x * 2 ^ 52 + t) (λ h. omega arith) (λ h. mul-pos (omega arith) (pow-pos x))
+
+-- below 1 are the patterns below its own
+less : (x t : ℕ) → t < 2 ^ 52 → ltb (smallest x t) (2 ^ 1074) ≡ ltb (x * 2 ^ 52 + t) oneBits
+unfolding smallest
+less zero t u = same-ltb t (2 ^ 1074) (0 * 2 ^ 52 + t) oneBits (λ h. omega arith) (λ h. lt-of-lt-of-le u (pow-mono {i = 52} {j = 1074} (omega arith)))
+less (suc x) t u = same-ltb ((2 ^ 52 + t) * 2 ^ x) (2 ^ 1074) (suc x * 2 ^ 52 + t) oneBits (λ h. down h (decLe 1022 x)) (λ h. up (omega arith))
+  where
+    large : 1022 ≤ x → 2 ^ 1074 ≤ (2 ^ 52 + t) * 2 ^ x
+    large k = le-trans (pow-mono {i = 1074} {j = 52 + x} (omega arith)) (le-trans (le-of-eq (pow-add 2 52 x)) (mul-le-mul-right (2 ^ x) (omega arith)))
+
+    down : (2 ^ 52 + t) * 2 ^ x < 2 ^ 1074 → Dec (1022 ≤ x) → suc x * 2 ^ 52 + t < oneBits
+    down h (yes k) = absurd (not-le-of-lt h (large k))
+    down h (no k) = omega arith
+
+    up : x < 1022 → (2 ^ 52 + t) * 2 ^ x < 2 ^ 1074
+    up k = lt-of-lt-of-le (shl-lt 53 x (omega arith)) (pow-mono {i = 53 + x} {j = 1074} (omega arith))
+
+abbrev between : ℕ → Bool
+between b = ltb 0 b && ltb b oneBits
+
+not-below : (b : ℕ) → oneBits ≤ b → false ≡ between b
+not-below b h = sym (ap (λ (c : Bool). ltb 0 b && c) (le-ltb b oneBits h) ∙ and-false (ltb 0 b))
+
+positive : (x t : ℕ) → x < 2048 → t < 2 ^ 52 → proper (ofFields binary64 false x t) ≡ between (x * 2 ^ 52 + t)
+positive x t u h = go (decLe 2047 x)
+  where
+    go : Dec (2047 ≤ x) → proper (ofFields binary64 false x t) ≡ between (x * 2 ^ 52 + t)
+    go (yes k) = top-fields false x t (omega arith) ∙ not-below (x * 2 ^ 52 + t) (omega arith)
+    go (no k) = proper-is (ofFields binary64 false x t) false (smallest x t) (finite-fields false x t (omega arith)) ∙ ap₂ _&&_ (some x t) (less x t h)
+
+-- ---- all patterns
+
+ofBits-is : (b : ℕ) (s : Bool) → leb (2 ^ 63) b ≡ s → ofBits binary64 b ≡ ofFields binary64 s (b % 2 ^ 63 / 2 ^ 52) (b % 2 ^ 52)
+unfolding ofBits
+ofBits-is b s e = ap (λ (c : Bool). ofFields binary64 c (b % 2 ^ 63 / 2 ^ 52) (b % 2 ^ 52)) e
+
+pub proper-patterns : Proper-patterns
+proper-patterns b = go (decLe (2 ^ 63) b)
+  where
+    go : Dec (2 ^ 63 ≤ b) → proper (ofBits binary64 b) ≡ between b
+    go (yes l) = ap proper (ofBits-is b true (le-leb (2 ^ 63) b l)) ∙ negative (b % 2 ^ 63 / 2 ^ 52) (b % 2 ^ 52) (omega arith) ∙ not-below b (omega arith)
+    go (no l) =
+        let e : b % 2 ^ 63 / 2 ^ 52 * 2 ^ 52 + b % 2 ^ 52 ≡ b = omega arith in
+        ap proper (ofBits-is b false (lt-leb (2 ^ 63) b (omega arith))) ∙ positive (b % 2 ^ 63 / 2 ^ 52) (b % 2 ^ 52) (omega arith) (omega arith) ∙ ap between e
