@@ -22,6 +22,7 @@ const POWERS: usize = 60;
 
 /// Parts of the first test's gap.
 const PARTS: [f64; 4] = [0.999, 0.5, 0.1, 0.01];
+/// A primal and dual tolerance that is met at once.
 const WIDE: f64 = 1e300;
 
 /// NaNs of both signs, quiet and signalling, with one payload and another.
