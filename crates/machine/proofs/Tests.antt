@@ -48,7 +48,7 @@ module _ (A : Problem) (H : Settings) (d : LaneData) where
   strictly-below q (inr (inr e)) t = not-below (G A H d q) (d .gap) e (done-passed q t .2)
 
   pub divisors-alone : theorems.Divisors-alone A H d
-  divisors-alone d' q = (refl, refl)
+  divisors-alone p r d' q = (refl, refl)
 
   pub mu-alone : theorems.Mu-alone A H d
   unfolding mu g

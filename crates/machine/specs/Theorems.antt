@@ -12,7 +12,7 @@ use Rattle.csr.specs.Pattern.{neighbours, stored}
 use Rattle.csr.specs.Chain.{Chain}
 use Rattle.lanes.specs.Arithmetic.{_⊕_, _⊗_, null, one}
 use Rattle.lanes.specs.Lists.{at}
-use Rattle.machine.specs.Machine.{Problem, LaneData, Settings, State, live, Status, spoilt, done, status, mu, direction, allFinite, after, standard, R, Q, G, machine, yields, inFactor, cell, factor, factorEntry}
+use Rattle.machine.specs.Machine.{Problem, LaneData, Settings, State, live, Status, spoilt, done, status, mu, direction, allFinite, after, asGiven, R, Q, G, machine, yields, inFactor, cell, factor, factorEntry}
 use Rattle.machine.specs.Outcome.{Outcome, noAt12, largestLimit, outcome, testsMade, Call, laneData, laneStatus}
 use Rattle.machine.specs.Ends.{Ends}
 use Rattle.machine.specs.Demand3.{Memory, Buffers, Has, AtTest, Made, Demand3}
@@ -84,9 +84,12 @@ module _ (A : Problem) (H : Settings) (d : LaneData) where
   abbrev pub Strictly-below : Type 0
   Strictly-below = (q : State) → (R A H d q ≡ d .primal) ⊎ ((Q A H d q ≡ d .dual) ⊎ (G A H d q ≡ d .gap)) → status A H d q ≢ done
 
-  -- '1 + root(Σx²)', '1 + root(Σy²)': the divisors of R and Q read neither b nor c
+  -- '1 + root(Σx²)', '1 + root(Σy²)': with any two numbers given, the divisors of R and Q read neither b nor c
   abbrev pub Divisors-alone : Type 0
-  Divisors-alone = (d' : LaneData) (q : State) → (standard .divisorR A d' q ≡ standard .divisorR A d q) × (standard .divisorQ A d' q ≡ standard .divisorQ A d q)
+  Divisors-alone =
+      (centring damping : Float) (d' : LaneData) (q : State)
+      → let S = asGiven centring damping in
+      (S .divisorR A d' q ≡ S .divisorR A d q) × (S .divisorQ A d' q ≡ S .divisorQ A d q)
 
   -- 'n + s': of the problem mu reads n and s, and no row that is not slack
   abbrev pub Mu-alone : Type 0
