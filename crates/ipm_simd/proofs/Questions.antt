@@ -1,6 +1,6 @@
 -- What a yes at each of the questions says. Assumes nothing.
 use mathlib.Core.Path.{_≡_, refl, sym, _∙_}
-use mathlib.Core.Bool.{true, false, _&&_}
+use mathlib.Core.Bool.{true, _&&_}
 use Prim.Native.Nat.{ℕ, _+_, _-_, _*_, _/_, _≤_, _<_}
 use native.Mathlib.Omega.{arith}
 use borrow.Author.Tests.{eqb-true, leb-true, le-leb, eq-eqb}
@@ -8,7 +8,8 @@ use lib.Dec.{eqb, leb}
 use Rattle.layout.specs.Layout.{workingSize}
 use Rattle.lanes.specs.Controls.{fractionsProper}
 use Rattle.lanes.specs.declared.Controls.{Controls}
-use Rattle.csr.specs.Verdict.{passed, refused}
+use Rattle.csr.specs.declared.Refusal.{Refusal}
+use Rattle.csr.specs.Verdict.{passed, refused, refusal}
 use Rattle.base.proofs.Bools.{and-left, and-right}
 use Rattle.machine.specs.Outcome.{largestLimit}
 use Rattle.ipm_simd.specs.declared.Lengths.{Lengths}
@@ -77,41 +78,28 @@ sizes-of W E m n s L k h =
       fractions = h13 .0;
     }
 
-true-false : false ≡ true → ⊥
-true-false h = let z : _≡_ {A = ℕ} 0 1 = cc in omega arith
-
 module _ (m n s : ℕ) (L : Lengths) (k : Controls) where
-  -- questions 7 to 10 and 13 get a yes just where the entries fit
-  pub below-some : s ≤ m → lengthsRight m n L ≡ true → (leb 1 (k .limit) && leb (k .limit) largestLimit) ≡ true → fractionsProper k ≡ true → 5 * n + 3 * m + 2 * s ≤ L .work / 4
-      → EntriesBelow m n s L k (L .work / 4 - (5 * n + 3 * m + 2 * s) + 1)
-  below-some h l t p w = record {
-    yes = λ W E i e.
-        unfold sizesVerdict in
-        simp (le-leb _ _ i, le-leb _ _ h, l, le-leb (workingSize 4 m n s E) (L .work) (omega (arith, e, w)), t, p);
-    under = λ W E v. omega (arith, sizes-of W E m n s L k v .work-long);
-  }
-
-  -- a no at 7, at 8, at 10, at 13, or at 9 with no entries at all
-  below-none : ((W E : ℕ) → Sizes W E m n s L k → ⊥) → EntriesBelow m n s L k 0
-  below-none never = record {
-    yes = λ W E i e. absurd (omega (arith, e));
-    under = λ W E v. absurd (never W E (sizes-of W E m n s L k v));
-  }
-
-  pub below-slack : m < s → EntriesBelow m n s L k 0
-  below-slack h = below-none (λ W E q. omega (arith, q .slack))
-
-  pub below-lengths : lengthsRight m n L ≡ false → EntriesBelow m n s L k 0
-  below-lengths h =
-      below-none (λ W E q.
+  -- a yes for some W and E is one for any that fit
+  sized : {W E : ℕ} → Sizes W E m n s L k → (W′ E′ : ℕ) → W′ ≤ L .index → workingSize 4 m n s E′ ≤ L .work → sizesVerdict W′ E′ m n s L k ≡ passed
+  unfolding sizesVerdict
+  sized q W′ E′ i w =
       let r = q .lengths in
-      true-false (sym h ∙ sym (lengths-last m n L (r .b-long) (r .c-long) (r .tolerances-long) (r .output-long)) ∙ eq-eqb _ _ (r .prices-long)))
+      let eight : lengthsRight m n L ≡ true = sym (lengths-last m n L (r .b-long) (r .c-long) (r .tolerances-long) (r .output-long)) ∙ eq-eqb _ _ (r .prices-long) in
+      simp (le-leb W′ (L .index) i, le-leb s m (q .slack), eight, le-leb (workingSize 4 m n s E′) (L .work) w, le-leb 1 (k .limit) (q .from), le-leb (k .limit) largestLimit (q .upTo), q .fractions)
 
-  pub below-limit : (leb 1 (k .limit) && leb (k .limit) largestLimit) ≡ false → EntriesBelow m n s L k 0
-  below-limit h = below-none (λ W E q. true-false (sym (simp (le-leb _ _ (q .from), le-leb _ _ (q .upTo)) at h)))
+  -- what no words and no entries are told decides
+  pub below-some : passed ≡ sizesVerdict 0 0 m n s L k → EntriesBelow m n s L k ((L .work - workingSize 4 m n s 0) / 4 + 1)
+  below-some v =
+      let q = sizes-of 0 0 m n s L k (sym v) in
+      record {
+        yes = λ W E i e. sized q W E i (omega (arith, e, q .work-long));
+        under = λ W E h. omega (arith, sizes-of W E m n s L k h .work-long);
+      }
 
-  pub below-fractions : fractionsProper k ≡ false → EntriesBelow m n s L k 0
-  below-fractions h = below-none (λ W E q. true-false (sym h ∙ q .fractions))
-
-  pub below-room : L .work / 4 < 5 * n + 3 * m + 2 * s → EntriesBelow m n s L k 0
-  below-room h = below-none (λ W E q. omega (arith, q .work-long))
+  pub below-none : (r : Refusal) → refusal r ≡ sizesVerdict 0 0 m n s L k → EntriesBelow m n s L k 0
+  below-none r v = record {
+    yes = λ W E i e. absurd (omega (arith, e));
+    under = λ W E h.
+        let q = sizes-of W E m n s L k h in
+        absurd (not-passed (r .question) (r .place) (r .lane) (v ∙ sized q 0 0 (omega arith) (omega (arith, q .work-long))));
+  }

@@ -110,10 +110,12 @@ fn ask_sizes(words: usize, plan: Plan, lengths: Lengths, controls: Controls) -> 
     if lengths.work < plan.numbers(LANES) {
         return Asked::Refused(Refusal::new(WORKING_MEMORY, 0, 0));
     }
-    if !limit_right(controls.limit) {
+    let limit = limit_right(controls.limit);
+    let fractions = controls.fractions_proper();
+    if !limit {
         return Asked::Refused(Refusal::new(LIMIT, 0, 0));
     }
-    if !controls.fractions_proper() {
+    if !fractions {
         return Asked::Refused(Refusal::new(FRACTIONS, 0, 0));
     }
     Asked::Good
@@ -190,24 +192,11 @@ fn entries_below(m: usize, n: usize, s: usize, lengths: Lengths, controls: Contr
     requires { ⌜ (m ≤ maxRows) × (n ≤ maxColumns) ⌝ }
     ensures { λ r. ⌜ EntriesBelow m n s lengths controls r ⌝ }
 {
-    if m < s {
-        return 0;
+    let empty = Plan::new(m, n, s, 0, 0, 0, 0);
+    match ask_sizes(0, empty, lengths, controls) {
+        Asked::Refused(_) => 0,
+        Asked::Good => (lengths.work - empty.numbers(LANES)) / LANES + 1,
     }
-    if !lengths_right(m, n, lengths) {
-        return 0;
-    }
-    if !limit_right(controls.limit) {
-        return 0;
-    }
-    if !controls.fractions_proper() {
-        return 0;
-    }
-    let most = lengths.work / LANES;
-    let others = 5 * n + 3 * m + 2 * s;
-    if most < others {
-        return 0;
-    }
-    most - others + 1
 }
 
 // Questions 6 to 10 and 13 of a matrix that has passed 1 to 5, and the solve. The plan is written where all of them get a yes.

@@ -5,12 +5,12 @@ use Prim.Native.Nat.{ℕ, zero, suc, _+_, _*_, _/_, _%_, _^_, _≤_, _<_}
 use native.Mathlib.Nat.{le-trans, le-of-eq, lt-of-lt-of-le, not-le-of-lt, mul-one, mul-pos, mul-le-mul-right}
 use native.Mathlib.Decide.{decLe}
 use native.Mathlib.Omega.{arith}
-use lib.Dec.{T, leb, ltb, eqb, eqb→eq}
+use lib.Dec.{ltb, eqb}
 use lib.Pow.{pow-add, pow-pos, pow-mono, shl-lt}
-use lib.Ieee.{Float, nan, inf, binary64, odd, below, lt, round, ofInt, ofFields, ofBits}
-use lib.Ieee.Exact.{odd-sign}
-use borrow.Author.Tests.{ltb-true, lt-ltb, le-ltb, le-leb, lt-leb}
+use lib.Ieee.{Float, nan, inf, binary64, below, lt, round, ofInt, ofFields, ofBits}
+use borrow.Author.Tests.{ltb-true, lt-ltb, le-ltb}
 use Rattle.base.proofs.Bools.{and-false, same-if}
+use Rattle.root.proofs.Patterns.{sign-clear, sign-set, low-fields, mid-fields}
 use Rattle.root4.proofs.Rounding.{Is, lt-is}
 use Rattle.lanes.specs.Arithmetic.{null, one}
 use Rattle.lanes.specs.Constants.{oneBits}
@@ -53,16 +53,9 @@ smallest zero t = t
 smallest (suc x) t = (2 ^ 52 + t) * 2 ^ x
 
 finite-fields : (s : Bool) (x t : ℕ) → x < 2047 → Is (ofFields binary64 s x t) s (smallest x t)
-unfolding smallest ofFields
-finite-fields s zero t u = subst (Is (odd 53 s t 0 1074) s) (mul-one t) (odd-sign 53 s t 0 1074)
-finite-fields s (suc x) t u = go (eqb (suc x) 2047) (eqb→eq (suc x) 2047)
-  where
-    no : suc x ≡ 2047 → ⊥
-    no e = omega arith
-
-    go : (b : Bool) → (T b → suc x ≡ 2047) → Is (cond b (cond (eqb t 0) (inf s) nan) (odd 53 s (2 ^ 52 + t) x 1074)) s ((2 ^ 52 + t) * 2 ^ x)
-    go true k = absurd (no (k tt))
-    go false k = odd-sign 53 s (2 ^ 52 + t) x 1074
+unfolding smallest
+finite-fields s zero t u = subst (Is (ofFields binary64 s 0 t) s) (mul-one t) (low-fields s t)
+finite-fields s (suc x) t u = mid-fields s x t u
 
 negative : (x t : ℕ) → x < 2048 → proper (ofFields binary64 true x t) ≡ false
 negative x t u = go (decLe 2047 x)
@@ -113,15 +106,11 @@ positive x t u h = go (decLe 2047 x)
 
 -- ---- all patterns
 
-ofBits-is : (b : ℕ) (s : Bool) → leb (2 ^ 63) b ≡ s → ofBits binary64 b ≡ ofFields binary64 s (b % 2 ^ 63 / 2 ^ 52) (b % 2 ^ 52)
-unfolding ofBits
-ofBits-is b s e = ap (λ (c : Bool). ofFields binary64 c (b % 2 ^ 63 / 2 ^ 52) (b % 2 ^ 52)) e
-
 pub proper-patterns : Proper-patterns
 proper-patterns b = go (decLe (2 ^ 63) b)
   where
     go : Dec (2 ^ 63 ≤ b) → proper (ofBits binary64 b) ≡ between b
-    go (yes l) = ap proper (ofBits-is b true (le-leb (2 ^ 63) b l)) ∙ negative (b % 2 ^ 63 / 2 ^ 52) (b % 2 ^ 52) (omega arith) ∙ not-below b (omega arith)
+    go (yes l) = ap proper (sign-set b l) ∙ negative (b % 2 ^ 63 / 2 ^ 52) (b % 2 ^ 52) (omega arith) ∙ not-below b (omega arith)
     go (no l) =
-        let e : b % 2 ^ 63 / 2 ^ 52 * 2 ^ 52 + b % 2 ^ 52 ≡ b = omega arith in
-        ap proper (ofBits-is b false (lt-leb (2 ^ 63) b (omega arith))) ∙ positive (b % 2 ^ 63 / 2 ^ 52) (b % 2 ^ 52) (omega arith) (omega arith) ∙ ap between e
+        let e : b / 2 ^ 52 * 2 ^ 52 + b % 2 ^ 52 ≡ b = omega arith in
+        ap proper (sign-clear b (omega arith)) ∙ positive (b / 2 ^ 52) (b % 2 ^ 52) (omega arith) (omega arith) ∙ ap between e

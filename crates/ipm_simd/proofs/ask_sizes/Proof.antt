@@ -23,15 +23,15 @@ returns-4 c = c .new4 .ensures ∙ simp (le-leb _ _ (c .before .before .before .
 
 returns-5 : tie.Need-returns-5
 unfolding sizesVerdict
-returns-5 c = c .new5 .ensures ∙ simp (le-leb _ _ (c .before .before .before .before .before .before .before .before .before .if1 .left), le-leb _ _ (c .before .before .before .before .before .before .before .before .if2 .left), ← c .before .before .before .before .before .before .before .lengths-right .ensures, not-false (c .before .before .before .before .before .before .before .lengths-right .result) (c .before .before .before .before .before .before .if3 .left), le-leb _ _ (rw (c .before .before .before .before .before .numbers .ensures) at (c .before .before .before .if4 .left)), ← c .before .before .limit-right .ensures, not-true (c .before .before .limit-right .result) (c .before .if5 .taken))
+returns-5 c = c .new5 .ensures ∙ simp (le-leb _ _ (c .before .before .before .before .before .before .before .before .before .before .if1 .left), le-leb _ _ (c .before .before .before .before .before .before .before .before .before .if2 .left), ← c .before .before .before .before .before .before .before .before .lengths-right .ensures, not-false (c .before .before .before .before .before .before .before .before .lengths-right .result) (c .before .before .before .before .before .before .before .if3 .left), le-leb _ _ (rw (c .before .before .before .before .before .before .numbers .ensures) at (c .before .before .before .before .if4 .left)), ← c .before .before .before .limit-right .ensures, not-true (c .before .before .before .limit-right .result) (c .before .if5 .taken))
 
 returns-6 : tie.Need-returns-6
 unfolding sizesVerdict
-returns-6 c = c .new6 .ensures ∙ simp (le-leb _ _ (c .before .before .before .before .before .before .before .before .before .before .before .if1 .left), le-leb _ _ (c .before .before .before .before .before .before .before .before .before .before .if2 .left), ← c .before .before .before .before .before .before .before .before .before .lengths-right .ensures, not-false (c .before .before .before .before .before .before .before .before .before .lengths-right .result) (c .before .before .before .before .before .before .before .before .if3 .left), le-leb _ _ (rw (c .before .before .before .before .before .before .before .numbers .ensures) at (c .before .before .before .before .before .if4 .left)), ← c .before .before .before .before .limit-right .ensures, not-false (c .before .before .before .before .limit-right .result) (c .before .before .before .if5 .left), ← c .before .before .fractions-proper .ensures, not-true (c .before .before .fractions-proper .result) (c .before .if6 .taken))
+returns-6 c = c .new6 .ensures ∙ simp (le-leb _ _ (c .before .before .before .before .before .before .before .before .before .before .before .if1 .left), le-leb _ _ (c .before .before .before .before .before .before .before .before .before .before .if2 .left), ← c .before .before .before .before .before .before .before .before .before .lengths-right .ensures, not-false (c .before .before .before .before .before .before .before .before .before .lengths-right .result) (c .before .before .before .before .before .before .before .before .if3 .left), le-leb _ _ (rw (c .before .before .before .before .before .before .before .numbers .ensures) at (c .before .before .before .before .before .if4 .left)), ← c .before .before .before .before .limit-right .ensures, not-false (c .before .before .before .before .limit-right .result) (c .before .before .if5 .left), ← c .before .before .before .fractions-proper .ensures, not-true (c .before .before .before .fractions-proper .result) (c .before .if6 .taken))
 
 returns-7 : tie.Need-returns-7
 unfolding sizesVerdict
-returns-7 c = simp (le-leb _ _ (c .before .before .before .before .before .before .before .before .before .before .if1 .left), le-leb _ _ (c .before .before .before .before .before .before .before .before .before .if2 .left), ← c .before .before .before .before .before .before .before .before .lengths-right .ensures, not-false (c .before .before .before .before .before .before .before .before .lengths-right .result) (c .before .before .before .before .before .before .before .if3 .left), le-leb _ _ (rw (c .before .before .before .before .before .before .numbers .ensures) at (c .before .before .before .before .if4 .left)), ← c .before .before .before .limit-right .ensures, not-false (c .before .before .before .limit-right .result) (c .before .before .if5 .left), ← c .before .fractions-proper .ensures, not-false (c .before .fractions-proper .result) (c .if6 .left))
+returns-7 c = simp (le-leb _ _ (c .before .before .before .before .before .before .before .before .before .before .if1 .left), le-leb _ _ (c .before .before .before .before .before .before .before .before .before .if2 .left), ← c .before .before .before .before .before .before .before .before .lengths-right .ensures, not-false (c .before .before .before .before .before .before .before .before .lengths-right .result) (c .before .before .before .before .before .before .before .if3 .left), le-leb _ _ (rw (c .before .before .before .before .before .before .numbers .ensures) at (c .before .before .before .before .if4 .left)), ← c .before .before .before .limit-right .ensures, not-false (c .before .before .before .limit-right .result) (c .before .if5 .left), ← c .before .before .fractions-proper .ensures, not-false (c .before .before .fractions-proper .result) (c .if6 .left))
 
 pub ask-sizes-spec : {M : Type 1} → statement M
-ask-sizes-spec = tie.close (tie.spec (λ c κs. search needs) returns (λ c κs. search needs) returns-2 (λ c κs. search needs) (λ c κs. search needs) returns-3 (λ c κs. search needs) (λ c κs. search needs) returns-4 (λ c κs. search needs) (λ c κs. search needs) returns-5 (λ c κs. search needs) (λ c κs. search needs) returns-6 returns-7)
+ask-sizes-spec = tie.close (tie.spec (λ c κs. search needs) returns (λ c κs. search needs) returns-2 (λ c κs. search needs) (λ c κs. search needs) returns-3 (λ c κs. search needs) (λ c κs. search needs) returns-4 (λ c κs. search needs) (λ c κs. search needs) (λ c κs. search needs) returns-5 (λ c κs. search needs) returns-6 returns-7)
