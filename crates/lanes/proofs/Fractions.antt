@@ -10,8 +10,9 @@ use lib.Pow.{pow-add, pow-pos, pow-mono, shl-lt}
 use lib.Ieee.{Float, nan, inf, binary64, below, lt, round, ofInt, ofFields, ofBits}
 use borrow.Author.Tests.{ltb-true, lt-ltb, le-ltb}
 use Rattle.base.proofs.Bools.{and-false, same-if}
-use Rattle.root.proofs.Patterns.{sign-clear, sign-set, low-fields, mid-fields}
+use Rattle.root.proofs.Patterns.{sign-clear, sign-set}
 use Rattle.root4.proofs.Rounding.{Is, lt-is}
+use Rattle.root4.proofs.Order.{smallest, finite-fields, in-order}
 use Rattle.lanes.specs.Arithmetic.{null, one}
 use Rattle.lanes.specs.Constants.{oneBits}
 use Rattle.lanes.specs.Controls.{proper, fractionsProper, standardControls, Proper-patterns}
@@ -47,16 +48,6 @@ top-fields : (s : Bool) (x t : ℕ) → x ≡ 2047 → proper (ofFields binary64
 unfolding ofFields
 top-fields s x t e = ap (λ (y : ℕ). proper (ofFields binary64 s y t)) e ∙ no-end s (eqb t 0)
 
--- a finite number, counted in smallest values
-smallest : ℕ → ℕ → ℕ
-smallest zero t = t
-smallest (suc x) t = (2 ^ 52 + t) * 2 ^ x
-
-finite-fields : (s : Bool) (x t : ℕ) → x < 2047 → Is (ofFields binary64 s x t) s (smallest x t)
-unfolding smallest
-finite-fields s zero t u = subst (Is (ofFields binary64 s 0 t) s) (mul-one t) (low-fields s t)
-finite-fields s (suc x) t u = mid-fields s x t u
-
 negative : (x t : ℕ) → x < 2048 → proper (ofFields binary64 true x t) ≡ false
 negative x t u = go (decLe 2047 x)
   where
@@ -66,30 +57,15 @@ negative x t u = go (decLe 2047 x)
 
 -- ---- the sign clear
 
-same-ltb : (a b c d : ℕ) → (a < b → c < d) → (c < d → a < b) → ltb a b ≡ ltb c d
-same-ltb a b c d f g = same-if (ltb a b) (ltb c d) (λ e. lt-ltb c d (f (ltb-true a b e))) (λ e. lt-ltb a b (g (ltb-true c d e)))
-
 -- above 0 are the patterns above 0
-some : (x t : ℕ) → ltb 0 (smallest x t) ≡ ltb 0 (x * 2 ^ 52 + t)
+some : (x t : ℕ) → t < 2 ^ 52 → ltb 0 (smallest x t) ≡ ltb 0 (x * 2 ^ 52 + t)
 unfolding smallest
-some zero t = same-ltb 0 t 0 (0 * 2 ^ 52 + t) (λ h. omega arith) (λ h. omega arith)
-some (suc x) t = same-ltb 0 ((2 ^ 52 + t) * 2 ^ x) 0 (suc x * 2 ^ 52 + t) (λ h. omega arith) (λ h. mul-pos (omega arith) (pow-pos x))
+some x t u = in-order 0 0 x t (omega arith) u
 
 -- below 1 are the patterns below its own
 less : (x t : ℕ) → t < 2 ^ 52 → ltb (smallest x t) (2 ^ 1074) ≡ ltb (x * 2 ^ 52 + t) oneBits
 unfolding smallest
-less zero t u = same-ltb t (2 ^ 1074) (0 * 2 ^ 52 + t) oneBits (λ h. omega arith) (λ h. lt-of-lt-of-le u (pow-mono {i = 52} {j = 1074} (omega arith)))
-less (suc x) t u = same-ltb ((2 ^ 52 + t) * 2 ^ x) (2 ^ 1074) (suc x * 2 ^ 52 + t) oneBits (λ h. down h (decLe 1022 x)) (λ h. up (omega arith))
-  where
-    large : 1022 ≤ x → 2 ^ 1074 ≤ (2 ^ 52 + t) * 2 ^ x
-    large k = le-trans (pow-mono {i = 1074} {j = 52 + x} (omega arith)) (le-trans (le-of-eq (pow-add 2 52 x)) (mul-le-mul-right (2 ^ x) (omega arith)))
-
-    down : (2 ^ 52 + t) * 2 ^ x < 2 ^ 1074 → Dec (1022 ≤ x) → suc x * 2 ^ 52 + t < oneBits
-    down h (yes k) = absurd (not-le-of-lt h (large k))
-    down h (no k) = omega arith
-
-    up : x < 1022 → (2 ^ 52 + t) * 2 ^ x < 2 ^ 1074
-    up k = lt-of-lt-of-le (shl-lt 53 x (omega arith)) (pow-mono {i = 53 + x} {j = 1074} (omega arith))
+less x t u = ap (ltb (smallest x t)) (pow-add 2 52 1022) ∙ in-order x t 1023 0 u (omega arith)
 
 abbrev between : ℕ → Bool
 between b = ltb 0 b && ltb b oneBits
@@ -102,7 +78,7 @@ positive x t u h = go (decLe 2047 x)
   where
     go : Dec (2047 ≤ x) → proper (ofFields binary64 false x t) ≡ between (x * 2 ^ 52 + t)
     go (yes k) = top-fields false x t (omega arith) ∙ not-below (x * 2 ^ 52 + t) (omega arith)
-    go (no k) = proper-is (ofFields binary64 false x t) false (smallest x t) (finite-fields false x t (omega arith)) ∙ ap₂ _&&_ (some x t) (less x t h)
+    go (no k) = proper-is (ofFields binary64 false x t) false (smallest x t) (finite-fields false x t (omega arith)) ∙ ap₂ _&&_ (some x t h) (less x t h)
 
 -- ---- all patterns
 

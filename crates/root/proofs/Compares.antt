@@ -5,6 +5,7 @@ use native.Mathlib.Nat.{mul-lt-mul-of-pos-right}
 use native.Mathlib.Omega.{arith}
 use mathlib.Core.Bool.{not}
 use lib.Dec.{T, isLe, isEq, eqb, leb→le, nleb→lt, eqb→eq, eqb-refl}
+use Rattle.root.specs.Steps.{NoTie}
 use Rattle.root.proofs.Squares.{sq-odd}
 
 both : (a b : ℕ) → a < b → b ≤ a → ⊥
@@ -58,3 +59,7 @@ below-middle q r h = compare-lt (4 * (q * q + r)) ((2 * q + 1) * (2 * q + 1)) (o
 
 pub above-middle : (q r : ℕ) → q < r → compare (4 * (q * q + r)) ((2 * q + 1) * (2 * q + 1)) ≡ Ordering·gt
 above-middle q r h = compare-gt (4 * (q * q + r)) ((2 * q + 1) * (2 * q + 1)) (omega (arith, sq-odd q))
+
+-- an odd number is no multiple of four
+pub no-tie : NoTie
+no-tie n q e = omega (arith, sq-odd q)

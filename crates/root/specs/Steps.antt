@@ -1,4 +1,4 @@
--- What each step of the root promises: special operands, exponent halved, root digits, rounding. Definitions only.
+-- What each step of the root promises, in the steps' order: special operands, exponent halved, root digits, rounding. Definitions only.
 use mathlib.Core.Path.{_≡_}
 use mathlib.Core.Logic.{_⊎_}
 use Prim.Native.Nat.{ℕ, _+_, _*_, _^_, _≤_, _<_, compare}
@@ -6,17 +6,27 @@ use mathlib.Core.Bool.{false}
 use lib.Ieee.{binary64, ofBits, nearest}
 use lib.Ieee.Exact.{HasValue}
 use Rattle.root.specs.Root.{rootBits}
+use Rattle.root.specs.Classes.{classOf, atOnce}
 use Rattle.root.specs.declared.Operand.{Operand}
 use Rattle.root.specs.declared.Operand.the-variants.{Answered, Positive}
+
+-- ---- 1. special operands
 
 -- the patterns of the finite numbers above zero: from the smallest value's up to that before +infinity's
 abbrev pub FinitePositive : ℕ → Type 0
 FinitePositive b = (0 < b) × (b < 0x7FF0_0000_0000_0000)
 
--- Special operands: any other pattern is answered at once. These are +0, and all from +infinity's up: +infinity, the NaNs, and all with a sign.
-abbrev pub Special : ℕ → Operand → Type 0
-Special b (Answered a) = ((b ≡ 0) ⊎ (0x7FF0_0000_0000_0000 ≤ b)) × (a ≡ rootBits b)
-Special b Positive = FinitePositive b
+-- Any other pattern is answered at once. These are +0, and all from +infinity's up: +infinity, the NaNs, and all with a sign.
+abbrev pub Answer : ℕ → Operand → Type 0
+Answer b (Answered a) = ((b ≡ 0) ⊎ (0x7FF0_0000_0000_0000 ≤ b)) × (a ≡ rootBits b)
+Answer b Positive = FinitePositive b
+
+-- r is the table's answer at b's class, and that is the root's pattern
+pub record Special (b : ℕ) (r : Operand) : Type 0 where
+  pub row : r ≡ atOnce (classOf b)
+  pub is : Answer b r
+
+-- ---- 2. exponent halved
 
 -- b stands for d * 2 ^ p / 4 ^ 1074, and d has 53 digits
 pub record Unpacks (b d p : ℕ) : Type 0 where
@@ -26,18 +36,26 @@ pub record Unpacks (b d p : ℕ) : Type 0 where
   pub low : 1022 ≤ p
   pub high : p ≤ 3119
 
--- Exponent halved: b stands for d * 2 ^ 52 * 4 ^ h / 4 ^ 1074, and d has 53 or 54 digits. So its root is √(d * 2 ^ 52) * 2 ^ h / 2 ^ 1074.
+-- b stands for d * 2 ^ 52 * 4 ^ h / 4 ^ 1074, exactly, and d has 53 or 54 digits. So its root is √(d * 2 ^ 52) * 2 ^ h / 2 ^ 1074.
 pub record Halved (b d h : ℕ) : Type 0 where
   pub is : HasValue (ofBits binary64 b) false (d * 2 ^ 52 * (2 ^ h * 2 ^ h)) (2 ^ 2148)
   pub least : 2 ^ 52 ≤ d
   pub most : d < 2 ^ 54
   pub high : h ≤ 1533
 
--- Root digits: q is the whole root of n, and r is what is left
+-- ---- 3. root digits
+
+-- q is the whole root of n, and r is what is left
 pub record Digits (n q r : ℕ) : Type 0 where
   pub is : q * q + r ≡ n
   pub rest : r ≤ 2 * q
 
--- Rounding: √(q * q + r) to the nearest whole number, by how it compares with the middle between q and the next; a tie goes to the even one
+-- ---- 4. rounding
+
+-- √(q * q + r) to the nearest whole number, by how it compares with the middle between q and the next; a tie goes to the even one
 abbrev pub roundedRoot : ℕ → ℕ → ℕ
 roundedRoot q r = nearest q (compare (4 * (q * q + r)) ((2 * q + 1) * (2 * q + 1)))
+
+-- there is no tie: no whole number has its root in the middle between two whole numbers; `no-tie` of `proofs/Compares` proves it
+abbrev pub NoTie : Type 0
+NoTie = (n q : ℕ) → 4 * n ≡ (2 * q + 1) * (2 * q + 1) → ⊥

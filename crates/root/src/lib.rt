@@ -1,4 +1,5 @@
-// IEEE 754's squareRoot of an f64, worked out from its bits: special operands, exponent halved, root digits, rounding.
+// IEEE 754's squareRoot of an f64, worked out from its bits in four steps: special operands, exponent halved, root digits, rounding.
+// Each step is a function with a promise of its own, and stands below in that order; `root_bits` puts them together. docs/ROOT.md has the clauses beside them.
 ghost use mathlib.Core.Path.{_≡_};
 ghost use Prim.Native.Nat.{_*_, _^_, _≤_, _<_};
 ghost use lib.Ieee.{binary64, toBits, ofBits};
@@ -25,12 +26,16 @@ const INFINITY: u64 = 0x7FF0_0000_0000_0000;
 
 const NAN: u64 = 0x7FF8_0000_0000_0000;
 
+// ---- 1. special operands
+
+// What the first step makes of an operand: the pattern to answer, or a finite number above zero to go on with.
 pub enum Operand {
     Answered(u64),
     Positive,
 }
 
-// Special operands: those answered at once. What is left is a finite number above zero.
+// Special operands are answered at once, each class as the table `atOnce` says (5.4.1, 6.1, 6.2, 6.3, 7.2). What is left is a finite number above zero.
+// The arms are the exponent's field: zeros and subnormal numbers, normal numbers, infinities and NaNs.
 pub fn special(b: u64) -> Operand
     ensures { λ r. ⌜ Special b r ⌝ }
 {
@@ -62,28 +67,33 @@ pub fn special(b: u64) -> Operand
     }
 }
 
+// ---- 2. exponent halved
+
 // The number is digits * 2 ^ exponent / 4 ^ 1074, and digits has 53 digits.
-pub struct Unpacked {
-    pub digits: u64,
-    pub exponent: u64,
+struct Unpacked {
+    digits: u64,
+    exponent: u64,
 }
 
-// The significand of a finite number above zero, with its leading digit in place, and the exponent that goes with it.
-pub fn unpack(b: u64) -> Unpacked
+// The significand of a finite number above zero, with its leading digit in place, and the exponent that goes with it. A subnormal number's is moved up to there.
+fn unpack(b: u64) -> Unpacked
     requires { ⌜ FinitePositive b ⌝ }
     ensures { λ r. ⌜ Unpacks b (r .digits) (r .exponent) ⌝ }
 {
     let field = b / LEAD;
-    if field == 0 {
-        let up = u64::leading_zeros(b) as u64 - ABOVE_LEAD;
-        Unpacked {
-            digits: b << up,
-            exponent: LOWEST - up,
+    match field {
+        0 => {
+            let up = u64::leading_zeros(b) as u64 - ABOVE_LEAD;
+            Unpacked {
+                digits: b << up,
+                exponent: LOWEST - up,
+            }
         }
-    } else {
-        Unpacked {
-            digits: LEAD + b % LEAD,
-            exponent: field - 1 + LOWEST,
+        1.. => {
+            Unpacked {
+                digits: LEAD + b % LEAD,
+                exponent: field - 1 + LOWEST,
+            }
         }
     }
 }
@@ -94,7 +104,7 @@ pub struct Scaled {
     pub half: u64,
 }
 
-// Exponent halved: an exact scaling by a power of four. An odd exponent gives one factor of two to the digits.
+// An exact scaling by a power of four, so that the root's exponent is half of it. An odd exponent gives one factor of two to the digits. No digit is lost.
 pub fn halved(b: u64) -> Scaled
     requires { ⌜ FinitePositive b ⌝ }
     ensures { λ r. ⌜ Halved b (r .digits) (r .half) ⌝ }
@@ -114,6 +124,8 @@ pub fn halved(b: u64) -> Scaled
     }
 }
 
+// ---- 3. root digits
+
 // The whole root of a number, and what the number has above its square.
 pub struct RootDigits {
     pub whole: u64,
@@ -124,7 +136,7 @@ pub struct RootDigits {
 const TURNS: u64 = 27;
 
 // The whole root of digits, one digit a turn, with no branch.
-pub fn first_digits(digits: u64) -> RootDigits
+fn first_digits(digits: u64) -> RootDigits
     requires { ⌜ digits < 2 ^ 54 ⌝ }
     ensures { λ r. ⌜ Digits digits (r .whole) (r .rest) ⌝ }
 {
@@ -150,7 +162,7 @@ pub fn first_digits(digits: u64) -> RootDigits
 // 2 ^ 26: the root of 2 ^ 52.
 const HALF: u64 = 0x0400_0000;
 
-// Root digits: the whole root of digits * 2 ^ 52. The first 27 digits come one by one, the other 26 by one division.
+// The whole root of digits * 2 ^ 52, and what is left. The first 27 digits come one by one, the other 26 by one division.
 pub fn digits(digits: u64) -> RootDigits
     requires { ⌜ (2 ^ 52 ≤ digits) × (digits < 2 ^ 54) ⌝ }
     ensures { λ r. ⌜ Digits (digits * 2 ^ 52) (r .whole) (r .rest) ⌝ }
@@ -174,13 +186,18 @@ pub fn digits(digits: u64) -> RootDigits
     }
 }
 
-// Rounding: once, to the nearest whole number. A tie would go to the even one, and there is none.
+// ---- 4. rounding
+
+// The one rounding (4.3.1), to the nearest whole number: the root is past the middle between whole and the next where rest is above whole.
+// A tie would go to the even one, and there is none (`NoTie`).
 pub fn rounded(whole: u64, rest: u64) -> u64
     requires { ⌜ whole < 2 ^ 53 ⌝ }
     ensures { λ r. ⌜ r ≡ roundedRoot whole rest ⌝ }
 {
     if rest <= whole { whole } else { whole + 1 }
 }
+
+// ---- the four together
 
 // The root's pattern. Where rounding reaches 2 ^ 53, the sum carries into the exponent's field.
 pub fn root_bits(b: u64) -> u64
@@ -195,6 +212,8 @@ pub fn root_bits(b: u64) -> u64
         }
     }
 }
+
+// ---- patterns and values
 
 // The pattern of any value; to_bits takes no NaN.
 pub fn bits_of(x: f64) -> u64

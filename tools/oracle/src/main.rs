@@ -5,7 +5,6 @@ mod cases;
 mod compare;
 #[cfg(ipm_c)]
 #[path = "../../../bindings/rust/src/extern_c.rs"]
-#[allow(dead_code)]
 mod extern_c;
 #[cfg(ipm_c)]
 mod fractions;
@@ -23,6 +22,8 @@ mod record;
 mod reference;
 #[cfg(ipm_c)]
 mod rooms;
+#[cfg(ipm_c)]
+mod roots;
 mod rubbish;
 mod rust;
 mod unchanged;
@@ -141,6 +142,7 @@ fn compare(seed: u64, scale: usize) -> Result<(), String> {
     {
         rooms::compare(&mut comparison, &mut random::Random::new(seed), 10 * scale);
         fractions::compare(&mut comparison, &mut random::Random::new(seed), scale);
+        roots::compare(&mut comparison, &mut random::Random::new(seed), scale);
     }
     if comparison.report() { Ok(()) } else { Err("there are differences".into()) }
 }

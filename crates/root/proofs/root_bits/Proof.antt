@@ -16,7 +16,7 @@ enum-told : tie.Need-enum-told
 enum-told c = search needs
 
 halved-requires : tie.Need-halved-requires
-halved-requires c κs = subst (Special (c .before .before .before .args .b)) (c .enum-told .given .1) (c .before .before .special .ensures)
+halved-requires c κs = subst (Special (c .before .before .before .args .b)) (c .enum-told .given .1) (c .before .before .special .ensures) .is
 
 rounded-requires : tie.Need-rounded-requires
 rounded-requires c κs = whole-lt _ _ _ _ _ (c .before .halved .ensures) (c .digits .ensures)
@@ -28,7 +28,7 @@ add-result c =
     omega (arith, whole-lt _ _ _ _ _ s p, no-more p (c .before .rounded .ensures), s .high)
 
 returns : tie.Need-returns
-returns c = subst (Special (c .before .before .before .before .args .b)) (c .before .a .given .1) (c .before .before .before .special .ensures) .1
+returns c = subst (Special (c .before .before .before .before .args .b)) (c .before .a .given .1) (c .before .before .before .special .ensures) .is .1
 
 returns-2 : tie.Need-returns-2
 returns-2 c = rounded-bits _ _ _ _ _ (c .before .before .before .halved .ensures) (c .before .before .digits .ensures) _ (c .before .rounded .ensures)
