@@ -6,8 +6,7 @@ use native.Mathlib.Omega.{arith}
 use mathlib.Core.Bool.{Bool, true, false, cond}
 use lib.Dec.{leb, ltb}
 use borrow.Author.Tests.{lt-ltb, le-ltb, le-leb, lt-leb}
-use Rattle.root.specs.Classes.{signalingNan, quietNan, negativeNormal, positiveNormal, lowClass, highClass, classAt, classOf, nanAnswer, infinityBits, minusZeroBits, atOnce}
-use Rattle.root.specs.declared.Operand.{Operand}
+use Rattle.root.specs.Classes.{signalingNan, quietNan, negativeNormal, lowClass, highClass, classAt, classOf, nanAnswer, infinityBits, minusZeroBits, atOnce}
 use Rattle.root.specs.declared.Operand.the-variants.{Answered, Positive}
 
 -- ---- a pattern's class, by its fields

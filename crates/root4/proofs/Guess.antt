@@ -1,7 +1,7 @@
 -- The first guess at 1 / (2 * √x) is less than one binary place off. Assumes nothing.
 use mathlib.Core.Path.{_≡_, refl, sym, ap, _∙_, subst}
 use Prim.Native.Nat.{ℕ, _+_, _-_, _*_, _/_, _%_, _^_, _≤_, _<_}
-use native.Mathlib.Nat.{le-trans, le-of-eq, lt-of-lt-of-le, lt-of-le-of-lt, mul-assoc, mul-mul-mul-comm, mul-le-mul, mul-le-mul-right, mul-lt-mul-of-pos-right}
+use native.Mathlib.Nat.{le-trans, le-of-eq, lt-of-lt-of-le, lt-of-le-of-lt, mul-mul-mul-comm, mul-le-mul, mul-le-mul-right, mul-lt-mul-of-pos-right}
 use native.Mathlib.Decide.{decLe}
 use native.Mathlib.Omega.{arith}
 use mathlib.Core.Bool.{false}

@@ -3,7 +3,7 @@ use mathlib.Core.Path.{_≡_, refl}
 use mathlib.Core.Bool.{Bool, true, false}
 use mathlib.Core.List.{List, [], _∷_, map}
 use Prim.Native.Nat.{ℕ}
-use lib.Ieee.{Float, binary64, add, sub, mul, lt, toBits, ofBits}
+use lib.Ieee.{binary64, add, sub, mul, lt, toBits, ofBits}
 use Rattle.root.specs.Root.{root}
 use Rattle.root4.specs.Steps.{guess, estimate, passes}
 

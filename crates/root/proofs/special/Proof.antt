@@ -4,7 +4,6 @@ use mathlib.Core.Logic.{_⊎_, inl, inr}
 use Prim.Native.Nat.{ℕ, _≤_, _<_, _%_, _/_, _^_}
 use native.Mathlib.Decide.{decLe}
 use native.Mathlib.Omega.{arith}
-use borrow.Author.Needs.{needs}
 use Rattle.root.specs.Classes.{nanAnswer}
 use Rattle.root.specs.Steps.{Special}
 use Rattle.root.specs.declared.Operand.the-variants.{Answered}
