@@ -11,7 +11,7 @@ use borrow.Author.Tests.{le-leb, lt-leb, le-ltb}
 use Rattle.base.proofs.Bools.{and-false, and-true}
 use Rattle.root.specs.Classes.{infinityBits}
 use Rattle.root4.proofs.Rounding.{Is, lt-is}
-use Rattle.root4.proofs.Order.{smallest, in-order, finite-value, over-patterns}
+use Rattle.root4.proofs.Order.{smallest, in-order, smallest-of, over-patterns}
 use Rattle.lanes.specs.Arithmetic.{null, one}
 use Rattle.lanes.specs.Constants.{oneBits}
 use Rattle.lanes.specs.Controls.{proper, fractionsProper, standardControls, Proper-patterns}
@@ -54,7 +54,7 @@ below-one b h = go (decLe infinityBits b)
         let e : b ≡ infinityBits = omega arith in
         ap (λ (y : ℕ). lt (ofBits binary64 y) one) e ∙ infinity-over ∙ sym (le-ltb b oneBits (omega arith))
     go (no l) =
-        lt-is (ofBits binary64 b) one false false _ (2 ^ 1074) (finite-value b (omega arith)) one-is
+        lt-is (ofBits binary64 b) one false false _ (2 ^ 1074) (smallest-of b (omega arith)) one-is
         ∙ less (b / 2 ^ 52) (b % 2 ^ 52) (omega arith)
         ∙ ap (λ (y : ℕ). ltb y oneBits) whole
 

@@ -10,10 +10,11 @@ use lib.Pow.{pow-add, pow-pos, pow-mono}
 use lib.Ieee.{Float, binary64, fits, toBits, ofBits}
 use lib.Ieee.Bits.{ofBits-toBits}
 use lib.Ieee.Scale.{finite}
-use Rattle.root4.specs.Steps.{Ample, OnePlace, guessBits, Halved}
+use Rattle.root.specs.Classes.{infinityBits}
+use Rattle.root4.specs.Steps.{smallBits, Ample, OnePlace, guessBits, Halved}
 use Rattle.root4.proofs.Rounding.{Is}
 use Rattle.root4.proofs.Candidate.{pattern-value, infinity-ends}
-use Rattle.root4.proofs.Numbers.{Over, ample}
+use Rattle.root4.proofs.Numbers.{Above, above}
 
 -- ---- the product of an operand and the square of its guess: v * w * w, times 2 ^ e
 
@@ -50,7 +51,7 @@ place b = b / 2 ^ 52 - 1
 abbrev guess : ℕ → ℕ
 guess b = guessBits - b / 2
 
-module _ (b : ℕ) (l : 64 * 2 ^ 52 ≤ b) (u : b < 0x7FF0_0000_0000_0000) where
+module _ (b : ℕ) (l : smallBits < b) (u : b < infinityBits) where
   abbrev v : ℕ
   v = lead b
 
@@ -105,7 +106,7 @@ module _ (b : ℕ) (l : 64 * 2 ^ 52 ≤ b) (u : b < 0x7FF0_0000_0000_0000) where
       whole : v * 2 ^ place b * (w * 2 ^ place (guess b) * (w * 2 ^ place (guess b))) ≡ v * (w * w) * 2 ^ e
       whole = product v w (place b) (place (guess b))
 
-      value : (c : ℕ) → 2 ^ 52 ≤ c → c < 0x7FF0_0000_0000_0000 → Is (ofBits binary64 c) false (lead c * 2 ^ place c)
+      value : (c : ℕ) → 2 ^ 52 ≤ c → c < infinityBits → Is (ofBits binary64 c) false (lead c * 2 ^ place c)
       value c h k =
           let f : lead c + place c * 2 ^ 52 ≡ c = omega arith in
           subst (λ (y : ℕ). Is (ofBits binary64 y) false (lead c * 2 ^ place c)) f (pattern-value (lead c) (place c) (omega arith) (omega arith) (omega arith))
@@ -121,14 +122,14 @@ guessed x f a = record {
     b : ℕ
     b = toBits binary64 x
 
-    over : Over 115 x
-    over = ample x f a
+    over : Above smallBits x
+    over = above smallBits x (omega arith) f a
 
     back : ofBits binary64 b ≡ x
     back = ofBits-toBits binary64 x f
 
-    at-end : T (finite x) → b ≡ 0x7FF0_0000_0000_0000 → ⊥
+    at-end : T (finite x) → b ≡ infinityBits → ⊥
     at-end t e = infinity-ends (subst (λ (y : ℕ). T (finite (ofBits binary64 y))) e (subst (λ (y : Float). T (finite y)) (sym back) t))
 
-    under : T (finite x) → b < 0x7FF0_0000_0000_0000
+    under : T (finite x) → b < infinityBits
     under t = omega (arith, over .most, at-end t)

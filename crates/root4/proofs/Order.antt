@@ -73,19 +73,19 @@ over-end (fin z m e) n s true h = refl
 over-end (fin z m e) n s false h = refl
 
 module _ (a : ℕ) (u : a < infinityBits) where
-  pub finite-value : Is (ofBits binary64 a) false (smallest (a / 2 ^ 52) (a % 2 ^ 52))
-  finite-value = subst (λ (w : Float). Is w false (smallest (a / 2 ^ 52) (a % 2 ^ 52))) (sym (sign-clear a (omega arith))) (finite-fields false (a / 2 ^ 52) (a % 2 ^ 52) (omega arith))
+  pub smallest-of : Is (ofBits binary64 a) false (smallest (a / 2 ^ 52) (a % 2 ^ 52))
+  smallest-of = subst (λ (w : Float). Is w false (smallest (a / 2 ^ 52) (a % 2 ^ 52))) (sym (sign-clear a (omega arith))) (finite-fields false (a / 2 ^ 52) (a % 2 ^ 52) (omega arith))
 
   top-fields : (s : Bool) (x t : ℕ) → x ≡ 2047 → lt (ofBits binary64 a) (ofFields binary64 s x t) ≡ eqb t 0 && not s
   unfolding ofFields
-  top-fields s x t e = ap (λ (y : ℕ). lt (ofBits binary64 a) (ofFields binary64 s y t)) e ∙ over-end (ofBits binary64 a) _ s (eqb t 0) finite-value
+  top-fields s x t e = ap (λ (y : ℕ). lt (ofBits binary64 a) (ofFields binary64 s y t)) e ∙ over-end (ofBits binary64 a) _ s (eqb t 0) smallest-of
 
   negative : (x t : ℕ) → x < 2048 → lt (ofBits binary64 a) (ofFields binary64 true x t) ≡ false
   negative x t k = go (decLe 2047 x)
     where
       go : Dec (2047 ≤ x) → lt (ofBits binary64 a) (ofFields binary64 true x t) ≡ false
       go (yes l) = top-fields true x t (omega arith) ∙ and-false (eqb t 0)
-      go (no l) = lt-is (ofBits binary64 a) (ofFields binary64 true x t) false true _ _ finite-value (finite-fields true x t (omega arith))
+      go (no l) = lt-is (ofBits binary64 a) (ofFields binary64 true x t) false true _ _ smallest-of (finite-fields true x t (omega arith))
 
   positive : (x t : ℕ) → x < 2048 → t < 2 ^ 52 → lt (ofBits binary64 a) (ofFields binary64 false x t) ≡ ltb a (x * 2 ^ 52 + t) && leb (x * 2 ^ 52 + t) infinityBits
   positive x t k h = go (decLe 2047 x)
@@ -112,7 +112,7 @@ module _ (a : ℕ) (u : a < infinityBits) where
       go : Dec (2047 ≤ x) → lt (ofBits binary64 a) (ofFields binary64 false x t) ≡ ltb a b && leb b infinityBits
       go (yes l) = top-fields false x t (omega arith) ∙ ends (omega arith)
       go (no l) =
-          lt-is (ofBits binary64 a) (ofFields binary64 false x t) false false _ _ finite-value (finite-fields false x t (omega arith))
+          lt-is (ofBits binary64 a) (ofFields binary64 false x t) false false _ _ smallest-of (finite-fields false x t (omega arith))
           ∙ in-order (a / 2 ^ 52) (a % 2 ^ 52) x t (omega arith) h
           ∙ ap (λ (y : ℕ). ltb y b) whole
           ∙ sym (ap (λ (c : Bool). ltb a b && c) (le-leb b infinityBits (omega arith)) ∙ and-true (ltb a b))

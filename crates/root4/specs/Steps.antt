@@ -101,8 +101,11 @@ estimate x y₀ =
 -- ---- 4. rounding: the test that an estimate is √x, rounded once
 
 -- 2 ^ -480
+abbrev pub leastBits : ℕ
+leastBits = 0x21F0_0000_0000_0000
+
 abbrev pub least : Float
-least = ofBits binary64 0x21F0_0000_0000_0000
+least = ofBits binary64 leastBits
 
 -- x where it is above that, and that otherwise, also for a NaN
 abbrev pub raised : Float → Float
@@ -111,9 +114,9 @@ raised x = cond (lt least x) x least
 pub record Raised (x r : Float) : Type 0 where
   pub equal : r ≡ raised x
   pub number : T (not (isNan r))
-  pub is : (r ≡ x) ⊎ (toBits binary64 r ≡ 543 * 2 ^ 52)
-  pub least : 543 * 2 ^ 52 ≤ toBits binary64 r
-  pub most : toBits binary64 r ≤ 0x7FF0_0000_0000_0000
+  pub is : (r ≡ x) ⊎ (toBits binary64 r ≡ leastBits)
+  pub least : leastBits ≤ toBits binary64 r
+  pub most : toBits binary64 r ≤ infinityBits
 
 abbrev pub larger : Float → Float → Float
 larger a b = cond (lt b a) a b

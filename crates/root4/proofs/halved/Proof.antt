@@ -3,7 +3,8 @@ use mathlib.Core.Path.{sym, subst}
 use native.Mathlib.Omega.{arith}
 use lib.Dec.{T}
 use lib.Ieee.{binary64, fits}
-use Rattle.root4.proofs.Numbers.{low-pattern, Over, ample}
+use Rattle.root4.specs.Steps.{smallBits}
+use Rattle.root4.proofs.Numbers.{low-pattern, Above, above}
 use Rattle.root4.proofs.Guess.{guessed}
 use Rattle.root4.proofs.halved.Statement.{statement}
 use Rattle.root4.proofs.halved.Tie as tie
@@ -11,8 +12,8 @@ use Rattle.root4.proofs.halved.Tie as tie
 held : (c : tie.Start) → T (fits binary64 (c .args .x))
 held c = subst T (sym (c .good .0 .1)) tt
 
-operand : (c : tie.Start) → Over 115 (c .args .x)
-operand c = ample _ (held c) (c .pre)
+operand : (c : tie.Start) → Above smallBits (c .args .x)
+operand c = above smallBits _ (omega arith) (held c) (c .pre)
 
 float-to-bits-result : tie.Need-float-to-bits-result
 float-to-bits-result c = operand c .number
