@@ -13,7 +13,7 @@ use lib.Ieee.Fits.{down-pos, nearest-le}
 use lib.Ieee.Nearest.{nearest-ge}
 use lib.Ieee.Exact.{HasValue, units-val}
 use Rattle.root.specs.Root.{wholeRoot, rootUnits, root, rootBits}
-use Rattle.root.specs.Steps.{Halved, Digits, roundedRoot}
+use Rattle.root.specs.Steps.{Halved, Digits, roundedRoot, Together}
 use Rattle.root.proofs.Squares.{sq-next, sq-lt-back, sq-scaled, pow-lt-back, no-zero}
 use Rattle.root.proofs.Whole.{whole-root}
 use Rattle.root.proofs.Compares.{compare-scaled}
@@ -147,3 +147,6 @@ module _ (b d h q r : ℕ) (s : Halved b d h) (p : Digits (d * 2 ^ 52) q r) wher
       let o = compare (4 * (q * q + r)) ((2 * q + 1) * (2 * q + 1)) in
       ap (λ (x : ℕ). x + h * 2 ^ 52) e
       ∙ sym (rootBits-is b ∙ ap (toBits binary64) root-is ∙ units-bits (nearest q o) h (le-trans whole-ge (nearest-ge q o)) (le-trans (nearest-le q o) whole-lt) (s .high))
+
+pub together : Together
+together b d h q r s p = rounded-bits b d h q r s p (roundedRoot q r) refl

@@ -1,4 +1,4 @@
--- Document 01's examples on the root, and the special operands, a row for each, under one theorem for values and one for patterns.
+-- Document 01's examples on the root, and the special operands, a row for each, under one theorem for values and one for patterns; and the ends of each class of operands.
 use mathlib.Core.Path.{_≡_, refl}
 use mathlib.Core.Bool.{true, false}
 use mathlib.Core.List.{List, [], _∷_, map}
@@ -6,6 +6,7 @@ use Prim.Native.Nat.{ℕ}
 use lib.IntN.{pos, negsuc}
 use lib.Ieee.{Float, nan, inf, fin, binary64}
 use Rattle.root.specs.Root.{root, rootBits}
+use Rattle.root.specs.Classes.{Class, signalingNan, quietNan, negativeInfinity, negativeNormal, negativeSubnormal, negativeZero, positiveZero, positiveSubnormal, positiveNormal, positiveInfinity, classOf}
 
 pub record Example : Type 0 where
   pub operand : Float
@@ -53,3 +54,27 @@ bitsExamples =
 pub bits-examples-hold : map (λ (e : BitsExample). rootBits (e .operand)) bitsExamples ≡ map (λ (e : BitsExample). e .result) bitsExamples
 unfolding bitsExamples rootBits
 bits-examples-hold = refl
+
+-- the first and the last pattern of a class; of NaNs those with the sign clear
+pub record ClassEnds : Type 0 where
+  pub class : Class
+  pub first : ℕ
+  pub last : ℕ
+
+unfoldable pub classEnds : List ClassEnds
+classEnds =
+    record { class = positiveZero; first = 0x0000_0000_0000_0000; last = 0x0000_0000_0000_0000 } ∷
+    record { class = positiveSubnormal; first = 0x0000_0000_0000_0001; last = 0x000F_FFFF_FFFF_FFFF } ∷
+    record { class = positiveNormal; first = 0x0010_0000_0000_0000; last = 0x7FEF_FFFF_FFFF_FFFF } ∷
+    record { class = positiveInfinity; first = 0x7FF0_0000_0000_0000; last = 0x7FF0_0000_0000_0000 } ∷
+    record { class = signalingNan; first = 0x7FF0_0000_0000_0001; last = 0x7FF7_FFFF_FFFF_FFFF } ∷
+    record { class = quietNan; first = 0x7FF8_0000_0000_0000; last = 0x7FFF_FFFF_FFFF_FFFF } ∷
+    record { class = negativeZero; first = 0x8000_0000_0000_0000; last = 0x8000_0000_0000_0000 } ∷
+    record { class = negativeSubnormal; first = 0x8000_0000_0000_0001; last = 0x800F_FFFF_FFFF_FFFF } ∷
+    record { class = negativeNormal; first = 0x8010_0000_0000_0000; last = 0xFFEF_FFFF_FFFF_FFFF } ∷
+    record { class = negativeInfinity; first = 0xFFF0_0000_0000_0000; last = 0xFFF0_0000_0000_0000 } ∷ []
+
+pub class-ends-hold : (map (λ (e : ClassEnds). classOf (e .first)) classEnds ≡ map (λ (e : ClassEnds). e .class) classEnds)
+    × (map (λ (e : ClassEnds). classOf (e .last)) classEnds ≡ map (λ (e : ClassEnds). e .class) classEnds)
+unfolding classEnds classOf
+class-ends-hold = (refl, refl)

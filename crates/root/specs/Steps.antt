@@ -59,3 +59,9 @@ roundedRoot q r = nearest q (compare (4 * (q * q + r)) ((2 * q + 1) * (2 * q + 1
 -- there is no tie: no whole number has its root in the middle between two whole numbers; `no-tie` of `proofs/Compares` proves it
 abbrev pub NoTie : Type 0
 NoTie = (n q : ℕ) → 4 * n ≡ (2 * q + 1) * (2 * q + 1) → ⊥
+
+-- ---- the four together
+
+-- the scaling, the digits and the rounding give the root's pattern, however they are worked out; `together` of `proofs/Core` proves it
+abbrev pub Together : Type 0
+Together = (b d h q r : ℕ) → Halved b d h → Digits (d * 2 ^ 52) q r → roundedRoot q r + h * 2 ^ 52 ≡ rootBits b
