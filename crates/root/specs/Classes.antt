@@ -11,24 +11,24 @@ pub data Class : Type 0 where
   negativeInfinity negativeNormal negativeSubnormal negativeZero : Class
   positiveZero positiveSubnormal positiveNormal positiveInfinity : Class
 
--- A pattern's fields are those of clause 3.4: the sign s is the highest bit, the exponent's field x the 11 below it, and t the 52 digits below the leading one.
--- x is 0 at zeros and subnormal numbers, 1 to 2046 at normal numbers, and 2047 at infinities and NaNs.
+-- A pattern's fields are those of clause 3.4: the sign s is the highest bit, the biased exponent e the 11 below it, and the trailing significand t the other 52.
+-- e is 0 at zeros and subnormal numbers, 1 to 2046 at normal numbers, and 2047 at infinities and NaNs.
 abbrev signed : Bool → Class → Class → Class
 signed s negative positive = cond s negative positive
 
--- where x is 0
+-- where e is 0
 abbrev pub lowClass : Bool → ℕ → Class
 lowClass s zero = signed s negativeZero positiveZero
 lowClass s (suc t) = signed s negativeSubnormal positiveSubnormal
 
--- where x is 2047; a quiet NaN has the highest of t's digits set (6.2.1)
+-- where e is 2047; a quiet NaN has the highest bit of t set (6.2.1)
 abbrev pub highClass : Bool → ℕ → Class
 highClass s zero = signed s negativeInfinity positiveInfinity
 highClass s (suc t) = cond (ltb (suc t) (2 ^ 51)) signalingNan quietNan
 
 unfoldable pub classAt : Bool → ℕ → ℕ → Class
 classAt s zero t = lowClass s t
-classAt s (suc x) t = cond (ltb (suc x) 2047) (signed s negativeNormal positiveNormal) (highClass s t)
+classAt s (suc e) t = cond (ltb (suc e) 2047) (signed s negativeNormal positiveNormal) (highClass s t)
 
 unfoldable pub classOf : ℕ → Class
 unfolding classAt

@@ -55,7 +55,7 @@ pub bits-examples-hold : map (λ (e : BitsExample). rootBits (e .operand)) bitsE
 unfolding bitsExamples rootBits
 bits-examples-hold = refl
 
--- the first and the last pattern of a class; of NaNs those with the sign clear
+-- the first and the last pattern of a class; NaNs have a part with the sign clear and one with it set
 pub record ClassEnds : Type 0 where
   pub class : Class
   pub first : ℕ
@@ -72,7 +72,9 @@ classEnds =
     record { class = negativeZero; first = 0x8000_0000_0000_0000; last = 0x8000_0000_0000_0000 } ∷
     record { class = negativeSubnormal; first = 0x8000_0000_0000_0001; last = 0x800F_FFFF_FFFF_FFFF } ∷
     record { class = negativeNormal; first = 0x8010_0000_0000_0000; last = 0xFFEF_FFFF_FFFF_FFFF } ∷
-    record { class = negativeInfinity; first = 0xFFF0_0000_0000_0000; last = 0xFFF0_0000_0000_0000 } ∷ []
+    record { class = negativeInfinity; first = 0xFFF0_0000_0000_0000; last = 0xFFF0_0000_0000_0000 } ∷
+    record { class = signalingNan; first = 0xFFF0_0000_0000_0001; last = 0xFFF7_FFFF_FFFF_FFFF } ∷
+    record { class = quietNan; first = 0xFFF8_0000_0000_0000; last = 0xFFFF_FFFF_FFFF_FFFF } ∷ []
 
 pub class-ends-hold : (map (λ (e : ClassEnds). classOf (e .first)) classEnds ≡ map (λ (e : ClassEnds). e .class) classEnds)
     × (map (λ (e : ClassEnds). classOf (e .last)) classEnds ≡ map (λ (e : ClassEnds). e .class) classEnds)

@@ -12,7 +12,7 @@ use Rattle.root.specs.Root.{root}
 abbrev pub Nearer : (n a b : ℕ) → Type 0
 Nearer n a b = (b < a → (a + b) * (a + b) < 4 * n) × (a < b → 4 * n < (a + b) * (a + b))
 
--- r is √x rounded to nearest. All is counted in the smallest value, 2 ^ -1074: r is `a` of them, and √x is √n of them.
+-- r is √x rounded to nearest. All is counted in the smallest value above zero, 2 ^ -1074: r is `a` of them, and √x is √n of them.
 pub record RoundedToNearest (x r : Float) : Type 0 where
   pub n : ℕ
   pub a : ℕ

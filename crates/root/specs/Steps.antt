@@ -28,7 +28,9 @@ pub record Special (b : ℕ) (r : Operand) : Type 0 where
 
 -- ---- 2. exponent halved
 
--- b stands for d * 2 ^ p / 4 ^ 1074, and d has 53 digits
+-- A number is counted in 4 ^ -1074, so that its root counts 2 ^ -1074, the smallest value above zero.
+
+-- b stands for d * 2 ^ p / 4 ^ 1074, and d has 53 digits. p is 1074 - 52 at the smallest value, and 2045 + 1074 at the largest.
 pub record Unpacks (b d p : ℕ) : Type 0 where
   pub is : HasValue (ofBits binary64 b) false (d * 2 ^ p) (2 ^ 2148)
   pub least : 2 ^ 52 ≤ d
@@ -36,7 +38,8 @@ pub record Unpacks (b d p : ℕ) : Type 0 where
   pub low : 1022 ≤ p
   pub high : p ≤ 3119
 
--- b stands for d * 2 ^ 52 * 4 ^ h / 4 ^ 1074, exactly, and d has 53 or 54 digits. So its root is √(d * 2 ^ 52) * 2 ^ h / 2 ^ 1074.
+-- b stands for d * 2 ^ 52 * 4 ^ h / 4 ^ 1074, exactly, and d has 53 or 54 digits. So its root is √(d * 2 ^ 52) * 2 ^ h / 2 ^ 1074, and √(d * 2 ^ 52) has 53
+-- digits before the point. h is at most half of 3119 - 52.
 pub record Halved (b d h : ℕ) : Type 0 where
   pub is : HasValue (ofBits binary64 b) false (d * 2 ^ 52 * (2 ^ h * 2 ^ h)) (2 ^ 2148)
   pub least : 2 ^ 52 ≤ d
@@ -52,7 +55,7 @@ pub record Digits (n q r : ℕ) : Type 0 where
 
 -- ---- 4. rounding
 
--- √(q * q + r) to the nearest whole number, by how it compares with the middle between q and the next; a tie goes to the even one
+-- q or the next number, by how √(q * q + r) compares with the middle between them; a tie goes to the even one. With r ≤ 2 * q that is the nearest whole number.
 abbrev pub roundedRoot : ℕ → ℕ → ℕ
 roundedRoot q r = nearest q (compare (4 * (q * q + r)) ((2 * q + 1) * (2 * q + 1)))
 
@@ -60,7 +63,7 @@ roundedRoot q r = nearest q (compare (4 * (q * q + r)) ((2 * q + 1) * (2 * q + 1
 abbrev pub NoTie : Type 0
 NoTie = (n q : ℕ) → 4 * n ≡ (2 * q + 1) * (2 * q + 1) → ⊥
 
--- ---- the four together
+-- ---- the last three together
 
 -- the scaling, the digits and the rounding give the root's pattern, however they are worked out; `together` of `proofs/Core` proves it
 abbrev pub Together : Type 0

@@ -15,7 +15,7 @@ const BELOW_LEAD: u64 = 52;
 // The bits of a u64 above a significand's leading digit.
 const ABOVE_LEAD: u64 = 11;
 
-// The smallest value of an f64 is 2 ^ -1074.
+// The smallest f64 above zero is 2 ^ -1074.
 const LOWEST: u64 = 1074;
 
 // The weight of the sign.
@@ -188,7 +188,7 @@ pub fn digits(digits: u64) -> RootDigits
 
 // ---- 4. rounding
 
-// The one rounding (4.3.1), to the nearest whole number: the root is past the middle between whole and the next where rest is above whole.
+// The one rounding (4.3.1), to whole or the next number: the root is past the middle between them where rest is above whole.
 // A tie would go to the even one, and there is none (`NoTie`).
 pub fn rounded(whole: u64, rest: u64) -> u64
     requires { ⌜ whole < 2 ^ 53 ⌝ }
@@ -199,7 +199,7 @@ pub fn rounded(whole: u64, rest: u64) -> u64
 
 // ---- the four together
 
-// The root's pattern. Where rounding reaches 2 ^ 53, the sum carries into the exponent's field.
+// The root's pattern. The leading digit of the rounded root counts one in the exponent's field, and half is added there.
 pub fn root_bits(b: u64) -> u64
     ensures { λ r. ⌜ r ≡ rootBits b ⌝ }
 {

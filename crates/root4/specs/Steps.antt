@@ -12,7 +12,7 @@ use Rattle.root.specs.Classes.{infinityBits}
 
 -- ---- 1. special operands: those left to the one-lane root
 
--- 2 ^ -959
+-- 2 ^ -959. Near it the squares of a root's last digits come down to the smallest value above zero, 2 ^ -1074, and the rounding's test needs them exact.
 abbrev pub smallBits : ℕ
 smallBits = 0x0400_0000_0000_0000
 
@@ -20,12 +20,12 @@ abbrev pub small : Float
 small = ofBits binary64 smallBits
 
 -- all that is not above it: NaNs, what is below zero, zeros, subnormal numbers, and the normal ones up to it
-abbrev pub left : Float → Bool
-left x = not (lt small x)
+abbrev pub leftToOneLane : Float → Bool
+leftToOneLane x = not (lt small x)
 
 -- by patterns: those above its own are taken, up to +infinity's, and no others; `left-patterns` of `proofs/Order` proves it
 abbrev pub Left-patterns : Type 0
-Left-patterns = (b : ℕ) → left (ofBits binary64 b) ≡ not (ltb smallBits b && leb b infinityBits)
+Left-patterns = (b : ℕ) → leftToOneLane (ofBits binary64 b) ≡ not (ltb smallBits b && leb b infinityBits)
 
 -- x is taken
 abbrev pub Ample : Float → Type 0
@@ -33,8 +33,8 @@ Ample x = lt small x ≡ true
 
 -- ---- 2. exponent halved: a first guess at 1 / (2 * √x)
 
--- y is from 1 / (2 * √x) up and below 1 / √x: less than one binary place off. Counted in the smallest value, 2 ^ -1074, x is n of them and y is k,
--- so 4 * x * y * y is from 1 up and below 4.
+-- y is from 1 / (2 * √x) up and below 1 / √x: less than a factor of two too large. Counted in the smallest value above zero, 2 ^ -1074, x is n of them and y is k,
+-- so x * y * y is n * k * k / 2 ^ 3222: from 1 / 4 up and below 1.
 pub record OnePlace (x y : Float) : Type 0 where
   pub n : ℕ
   pub k : ℕ
@@ -43,7 +43,7 @@ pub record OnePlace (x y : Float) : Type 0 where
   pub from : 2 ^ 3222 ≤ 4 * (n * (k * k))
   pub below : n * (k * k) < 2 ^ 3222
 
--- half of x's pattern taken from this one: x's exponent is halved and its sign turned
+-- half of x's pattern taken from this one: the guess's exponent is half of x's, with the sign turned
 abbrev pub guessBits : ℕ
 guessBits = 0x5FDB_F700_0000_0000
 
@@ -56,9 +56,9 @@ pub record Halved (x y : Float) : Type 0 where
 
 -- ---- 3. root digits: an estimate of √x
 
--- a step of Newton's toward 1 / (2 * √x)
-abbrev pub newton : (factor k y : Float) → Float
-newton factor k y = sub binary64 (mul binary64 factor y) (mul binary64 (mul binary64 k y) (mul binary64 y y))
+-- a step of Newton's toward 1 / (2 * √x): linear * y - cubic * y * y * y
+abbrev pub newton : (linear cubic y : Float) → Float
+newton linear cubic y = sub binary64 (mul binary64 linear y) (mul binary64 (mul binary64 cubic y) (mul binary64 y y))
 
 -- 1e300
 abbrev pub large : Float
@@ -94,8 +94,8 @@ estimate x y₀ =
     let y = newton secondFactor twice (newton firstFactor x y₀) in
     let high = upper (toBits binary64 (bounded (mul binary64 twice y))) in
     let rest = sub binary64 x (mul binary64 high high) in
-    let k = mul binary64 y y in
-    let slope = sub binary64 (sub binary64 (mul binary64 thirdFactor y) (mul binary64 (mul binary64 x y) k)) (mul binary64 high k) in
+    let square = mul binary64 y y in
+    let slope = sub binary64 (sub binary64 (mul binary64 thirdFactor y) (mul binary64 (mul binary64 x y) square)) (mul binary64 high square) in
     add binary64 high (mul binary64 rest slope)
 
 -- ---- 4. rounding: the test that an estimate is √x, rounded once
@@ -125,6 +125,10 @@ larger a b = cond (lt b a) a b
 abbrev pub apart : Float → Float → Float
 apart a p = larger (sub binary64 a p) (sub binary64 p a)
 
+-- from the pattern of a power of two to that of its last digit's weight, less one part in 2 ^ 22
+abbrev pub downToUnit : ℕ
+downToUnit = 52 * 2 ^ 52 + 2 ^ 31
+
 -- With s = high + low, x - s * s is x - high * high less (high + s) * low. The test asks whether that is less than `high` times the weight of s's last digit,
 -- less one part in 2 ^ 22, which is more than what the sum and the product are rounded by.
 -- The digits are those of the number before s, so that low is above zero and a power of two has the finer weight of the numbers below it.
@@ -132,7 +136,7 @@ abbrev pub passesAt : (x s : Float) → Bool
 passesAt x s =
     let before = toBits binary64 s - 1 in
     let high = upper before in
-    let unit = ofBits binary64 (before - before % 2 ^ 52 - (52 * 2 ^ 52 + 2 ^ 31)) in
+    let unit = ofBits binary64 (before - before % 2 ^ 52 - downToUnit) in
     lt (apart (sub binary64 x (mul binary64 high high)) (mul binary64 (add binary64 high s) (sub binary64 s high))) (mul binary64 high unit)
 
 abbrev pub passes : (x near : Float) → Bool

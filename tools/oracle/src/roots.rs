@@ -94,8 +94,8 @@ fn number_with_square(start: u64, square: u64) -> u64 {
     (3..DIGITS + 2).fold(start, turn) + 2 * LEAD
 }
 
-/// Roots that are closest to the middle between two doubles. Such a middle is an odd number of 54 digits. Here each
-/// square is at most `8 * count + 1` from a multiple of 2^54, which is a double or the middle between two.
+/// Roots closest to the middle between two doubles. Such a middle is an odd number of 54 digits. Here each square is at
+/// most `8 * count + 1` from a multiple of 2^54, which is a double, or the middle between two and then less close.
 fn compare_closest(comparison: &mut Comparison, random: &mut Random, count: i64) {
     for eighth in -count..=count {
         for start in [1, 3] {
