@@ -21,10 +21,6 @@ class-clear b x u = class-at b x false (lt-leb (2 ^ 63) b u)
 class-set : (b x : ℕ) → 2 ^ 63 ≤ b → b % 2 ^ 63 / 2 ^ 52 ≡ x → classOf b ≡ classAt true x (b % 2 ^ 52)
 class-set b x l = class-at b x true (le-leb (2 ^ 63) b l)
 
-low : (s : Bool) (t : ℕ) → classAt s 0 t ≡ lowClass s t
-unfolding classAt
-low s t = refl
-
 high : (s : Bool) (x t : ℕ) → 2047 ≤ x → classAt s x t ≡ highClass s t
 unfolding classAt
 high s zero t h = absurd (omega arith)
@@ -66,10 +62,11 @@ positive-at (suc x) t u n = rw (lt-ltb (suc x) 2047 u)
 -- ---- the table's row at a pattern
 
 pub zero-row : (b : ℕ) → b < 2 ^ 64 → b % 2 ^ 63 / 2 ^ 52 ≡ 0 → b % 2 ^ 52 ≡ 0 → Answered b ≡ atOnce (classOf b)
+unfolding classAt
 zero-row b u x t = go (decLe (2 ^ 63) b)
   where
     at : (s : Bool) (c : ℕ) → classOf b ≡ classAt s 0 (b % 2 ^ 52) → Answered c ≡ atOnce (lowClass s 0) → b ≡ c → Answered b ≡ atOnce (classOf b)
-    at s c e f g = ap Answered g ∙ f ∙ sym (ap atOnce (e ∙ low s (b % 2 ^ 52) ∙ ap (lowClass s) t))
+    at s c e f g = ap Answered g ∙ f ∙ sym (ap atOnce (e ∙ ap (lowClass s) t))
 
     go : Dec (2 ^ 63 ≤ b) → Answered b ≡ atOnce (classOf b)
     go (yes l) = at true minusZeroBits (class-set b 0 l x) refl (omega arith)
