@@ -1,6 +1,6 @@
 -- Laws of sums. Assumes nothing.
 use mathlib.Core.Path.{_≡_, refl, sym, ap, ap₂, _∙_}
-use mathlib.Core.Bool.{Bool, true, false}
+use mathlib.Core.Bool.{Bool, true, false, _&&_, cond}
 use Prim.Native.Nat.{ℕ, zero, suc, _+_, _-_, _*_, _<_, _≤_}
 use native.Mathlib.Omega.{arith}
 use native.Mathlib.Decide.{ℕ-discrete}
@@ -47,6 +47,16 @@ sum-cut n m f g h same tail =
     ∙ sum-add m (n - m) f
     ∙ ap₂ _+_ (sum-ext m f g same) (sum-zero (n - m) (λ k. f (m + k)) (λ k l. tail (m + k) (omega arith) (omega arith)))
     ∙ add-zero (sum m g)
+
+-- two sums that differ in one term
+pub sum-at : (n : ℕ) (f g : ℕ → ℕ) (k : ℕ) → k < n → ((x : ℕ) → (x ≡ k → ⊥) → f x ≡ g x) → sum n g + f k ≡ sum n f + g k
+unfolding sum
+sum-at zero f g k l h = absurd (omega arith)
+sum-at (suc n) f g k l h = go (ℕ-discrete k n) (sum-at n f g k)
+  where
+    go : Dec (k ≡ n) → (k < n → ((x : ℕ) → (x ≡ k → ⊥) → f x ≡ g x) → sum n g + f k ≡ sum n f + g k) → sum n g + g n + f k ≡ sum n f + f n + g k
+    go (yes z) ih = omega (arith, ap f z, ap g z, sum-ext n f g (λ x u. h x (λ y. omega arith)))
+    go (no z) ih = omega (arith, ih (omega arith) h, h n (λ y. z (sym y)))
 
 -- rows before columns, or columns before rows
 pub sum-swap : (n m : ℕ) (f : ℕ → ℕ → ℕ) → sum n (λ e. sum m (λ i. f i e)) ≡ sum m (λ i. sum n (λ e. f i e))
@@ -100,6 +110,16 @@ sum-ones (suc n) = omega (arith, sum-ones n)
 
 pub count-le : (n : ℕ) (p : ℕ → Bool) → sum n (λ k. one (p k)) ≤ n
 count-le n p = omega (arith, sum-le n (λ k. one (p k)) (λ k. 1) (λ k l. one-le (p k)), sum-ones n)
+
+-- 0 + 1 + .. + (n - 1)
+pub triangle : (n : ℕ) → 2 * sum n (λ k. k) + n ≡ n * n
+unfolding sum
+triangle zero = refl
+triangle (suc n) = omega (arith, triangle n)
+
+pub sum-if : (b : Bool) (n : ℕ) (f : ℕ → Bool) → sum n (λ j. one (b && f j)) ≡ cond b (sum n (λ j. one (f j))) 0
+sum-if true n f = refl
+sum-if false n f = sum-zero n (λ j. 0) (λ k l. refl)
 
 -- one of n numbers is x
 pub sum-once : (n x : ℕ) → x < n → sum n (λ e. one (eqb e x)) ≡ 1

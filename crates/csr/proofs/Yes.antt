@@ -11,7 +11,7 @@ use Rattle.csr.specs.Pattern.{row}
 use Rattle.base.specs.Numbers.{Below, Under, Rising}
 use Rattle.csr.specs.Csr.{Csr, Offsets, Accepted}
 use Rattle.csr.specs.Verdict.{Verdict, passed, refused, ask}
-use Rattle.csr.specs.Questions.{maxEntries, firstFrom, falls, empty, badAt, badRow, offsetsRight, firstNo}
+use Rattle.csr.specs.Questions.{maxEntries, firstFrom, falls, empty, badAt, badRow, offsetsRight, rowsRight, firstNo}
 use Rattle.csr.proofs.First.{none-below}
 use Rattle.csr.proofs.Right.{right, within}
 use Rattle.base.proofs.Bools.{and-left, and-right, or-none}
@@ -29,7 +29,7 @@ and-second false b h e = let z : false ≡ true = h in cc
 pub values-of : (m n : ℕ) (off cols : List ℕ) (values : ℕ) → firstNo m n off cols values ≡ passed → values ≡ length cols
 unfolding firstNo offsetsRight
 values-of m n off cols values h =
-    let h1 = asked (leb 1 m && leb m 256) _ 1 0 0 h in
+    let h1 = asked (rowsRight m) _ 1 0 0 h in
     let h2 = asked (leb 1 n && leb n 1024) _ 2 0 0 (h1 .1) in
     let h3 = asked (offsetsRight m off (length cols) values) _ 3 0 0 (h2 .1) in
     let others =
@@ -103,7 +103,7 @@ module _ (m n : ℕ) (off cols : List ℕ) where
       let e = firstFrom (empty off) 0 m in
       let bad : ℕ → Bool = λ (i : ℕ). badRow n (row off cols i) in
       let b = firstFrom bad 0 m in
-      let h1 = asked (leb 1 m && leb m 256) _ 1 0 0 h in
+      let h1 = asked (rowsRight m) _ 1 0 0 h in
       let h2 = asked (leb 1 n && leb n 1024) _ 2 0 0 (h1 .1) in
       let h3 = asked (offsetsRight m off (length cols) values) _ 3 0 0 (h2 .1) in
       let h4 = asked (not (ltb e m)) _ 4 e 0 (h3 .1) in

@@ -1,4 +1,5 @@
 -- The counts E, S, D and the sizes W and F. Definitions only.
+use mathlib.Core.Path.{_≡_}
 use mathlib.Core.Bool.{Bool, _&&_}
 use mathlib.Core.List.{List, [], _∷_}
 use Prim.Native.Nat.{ℕ, suc, _+_, _*_}
@@ -37,3 +38,9 @@ module _ (off cols : List ℕ) where
   unfoldable pub sizeF : ℕ → ℕ → ℕ → ℕ
   unfolding countE
   sizeF m n s = workingSize 4 m n s (countE m)
+
+  -- these are E, S and D
+  pub record Counted (m E S D : ℕ) : Type 0 where
+    pub stored : E ≡ countE m
+    pub shared : S ≡ countS m
+    pub products : D ≡ countD m

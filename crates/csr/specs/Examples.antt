@@ -50,27 +50,27 @@ abbrev row : Matrix → Ask → Said → Example
 row a q s = record { of = a; asks = q; says = s }
 
 -- one row {0}, n = 1
-abbrev single : Matrix
+abbrev pub single : Matrix
 single = record { m = 1; n = 1; offsets = 0 ∷ 1 ∷ []; columns = 0 ∷ [] }
 
 -- rows {0, 1}, {0}, {1}
-abbrev star : Matrix
+abbrev pub star : Matrix
 star = record { m = 3; n = 2; offsets = 0 ∷ 2 ∷ 3 ∷ 4 ∷ []; columns = 0 ∷ 1 ∷ 0 ∷ 1 ∷ [] }
 
 -- rows {0}, {1}, {0, 1}
-abbrev late : Matrix
+abbrev pub late : Matrix
 late = record { m = 3; n = 2; offsets = 0 ∷ 1 ∷ 2 ∷ 4 ∷ []; columns = 0 ∷ 1 ∷ 0 ∷ 1 ∷ [] }
 
 -- rows {0, 1}, {1, 2}, {0}, {2}
-abbrev four : Matrix
+abbrev pub four : Matrix
 four = record { m = 4; n = 3; offsets = 0 ∷ 2 ∷ 4 ∷ 5 ∷ 6 ∷ []; columns = 0 ∷ 1 ∷ 1 ∷ 2 ∷ 0 ∷ 2 ∷ [] }
 
 -- rows {}, {0}
-abbrev gap : Matrix
+abbrev pub gap : Matrix
 gap = record { m = 2; n = 1; offsets = 0 ∷ 0 ∷ 1 ∷ []; columns = 0 ∷ [] }
 
 -- row {1, 1}, n = 2
-abbrev twice : Matrix
+abbrev pub twice : Matrix
 twice = record { m = 1; n = 2; offsets = 0 ∷ 2 ∷ []; columns = 1 ∷ 1 ∷ [] }
 
 -- m rows with no lists: a yes at 1 shows as a no at 3

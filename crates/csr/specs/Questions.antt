@@ -45,13 +45,17 @@ offsetsRight m offsets t values =
     eqb (length offsets) (m + 1) && eqb (getD offsets 0 0) 0 && not (ltb (firstFrom (falls offsets) 0 m) m) &&
     eqb (getD offsets m 0) t && not (ltb maxEntries t) && eqb values t
 
+-- question 1
+abbrev pub rowsRight : ℕ → Bool
+rowsRight m = leb 1 m && leb m maxRows
+
 -- The first no of questions 1 to 5. Plan is lent no values: for it their number is that of the columns listed.
 unfoldable pub firstNo : ℕ → ℕ → List ℕ → List ℕ → ℕ → Verdict
 unfolding firstFrom badRow offsetsRight row
 firstNo m n offsets columns values =
     let e = firstFrom (empty offsets) 0 m in
     let b = firstFrom (λ (i : ℕ). badRow n (row offsets columns i)) 0 m in
-    ask (leb 1 m && leb m maxRows)
+    ask (rowsRight m)
     (ask (leb 1 n && leb n maxColumns)
     (ask (offsetsRight m offsets (length columns) values)
     (ask (not (ltb e m))

@@ -5,13 +5,22 @@ use Rattle.csr.specs.declared.Refusal.{Refusal}
 use Rattle.csr.specs.declared.Asked.{Asked}
 use Rattle.csr.specs.declared.Asked.the-variants.{Good, Refused}
 
+-- what a call tells after its yeses
+pub data Told : Type 0 where
+  -- plan: its W words
+  planned : ℕ → Told
+  -- solve: the test at which it accepts, and how many numbers y has
+  accepted : ℕ → ℕ → Told
+  -- sizes: E, S, D, W and F
+  sized : ℕ → ℕ → ℕ → ℕ → ℕ → Told
+  -- costliest: E and D
+  costs : ℕ → ℕ → Told
+
 pub data Verdict : Type 0 where
   -- every question that was asked got a yes
   passed : Verdict
-  -- plan's W words
-  planned : ℕ → Verdict
-  -- the test at which solve accepts, and how many numbers y has
-  accepted : ℕ → ℕ → Verdict
+  -- and then this is the answer
+  told : Told → Verdict
   -- the question, the place and the lane
   refused : ℕ → ℕ → ℕ → Verdict
 
@@ -23,8 +32,7 @@ ask false next other = other
 -- the questions of a first part, then what follows them
 abbrev pub andThen : Verdict → Verdict → Verdict
 andThen passed next = next
-andThen (planned w) next = planned w
-andThen (accepted k count) next = accepted k count
+andThen (told a) next = told a
 andThen (refused q p l) next = refused q p l
 
 abbrev pub refusal : Refusal → Verdict

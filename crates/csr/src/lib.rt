@@ -8,7 +8,7 @@ ghost use Rattle.base.specs.Numbers.{Part};
 ghost use Rattle.csr.specs.Pattern.{row};
 ghost use Rattle.csr.specs.Csr.{Offsets};
 ghost use Rattle.csr.specs.Verdict.{refused, refusal, toldAsked};
-ghost use Rattle.csr.specs.Questions.{firstFrom, badRow, offsetsRight, firstNo, maxRows};
+ghost use Rattle.csr.specs.Questions.{firstFrom, badRow, offsetsRight, rowsRight, firstNo, maxRows};
 use base::span;
 use base::word_at;
 
@@ -31,6 +31,8 @@ impl Refusal {
     pub const COLUMN_ORDER: u32 = 5;
 
     pub const INDEX_MEMORY: u32 = 6;
+
+    pub const SLACK_ROWS: u32 = 7;
 
     pub fn new(question: u32, place: usize, lane: u32) -> Self
         ensures { λ r. ⌜ refusal r ≡ refused question place lane ⌝ }
@@ -136,11 +138,18 @@ fn offsets_right(offsets: &[u32], t: usize, values: usize, m: usize) -> bool
     values == t
 }
 
+// Question 1.
+pub fn rows_right(m: usize) -> bool
+    ensures { λ r. ⌜ r ≡ rowsRight m ⌝ }
+{
+    between(1, m, layout::Plan::MAX_ROWS)
+}
+
 // Questions 1 to 5, in order, over any numbers and lists.
 pub fn ask(m: usize, n: usize, offsets: &[u32], columns: &[u32], values: usize) -> Asked
     ensures { λ r. ⌜ toldAsked r ≡ firstNo m n (now (offsets .entry)) (now (columns .entry)) values ⌝ }
 {
-    if !between(1, m, layout::Plan::MAX_ROWS) {
+    if !rows_right(m) {
         return Asked::Refused(Refusal::new(Refusal::ROWS, 0, 0));
     }
     if !between(1, n, layout::Plan::MAX_COLUMNS) {

@@ -6,6 +6,9 @@ ghost use Rattle.base.specs.Numbers.{cut};
 ghost use Rattle.layout.specs.Layout.{planOf, lIn, topIn, numbersOf, regionsOf, topWord};
 ghost use Rattle.layout.specs.Lists.{startsOf, wordsAt, anormIndptrIn, anormIndptrIIn, anormIndptrJIn, anormIndicesIn, ldecompIndptrIn, ldecompIndptrIIn, ldecompIndptrJIn, lindptrIn, ldiagIndptrIn, lindicesIn, ltindptrIn, ltindicesIn, ltmapIn, atindptrIn, atindicesIn, atmapIn, Indexed};
 
+// The lanes of a call.
+pub const LANES: usize = 4;
+
 // The sizes of a problem and of its plan: m rows, n columns, s slack rows, t entries of the matrix; E stored pairs, S shared columns, D products.
 pub struct Plan {
     pub m: usize,
@@ -76,6 +79,11 @@ impl Plan {
     pub const MAX_COLUMNS: usize = 1024;
 
     pub const MAX_ENTRIES: usize = 16384;
+
+    // Up to these sizes a call has small memories of its own: there is less to clear.
+    pub const FEW_ROWS: usize = 16;
+
+    pub const FEW_COLUMNS: usize = 32;
 
     pub fn new(
         m: usize,

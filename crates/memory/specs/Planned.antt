@@ -5,7 +5,7 @@ use Prim.Native.Nat.{ℕ, _+_, _≤_}
 use lib.ListN.{length}
 use lib.Ieee.{Float}
 use Rattle.csr.specs.Csr.{Accepted}
-use Rattle.csr.specs.Counts.{countE, countS, countD}
+use Rattle.csr.specs.Counts.{Counted}
 use Rattle.lists.specs.Lists.{planWords}
 use Rattle.machine.specs.Machine.{Problem, LaneData}
 use Rattle.machine.specs.Work.{problemOf}
@@ -19,12 +19,6 @@ problemIn p off cols vals = problemOf (p .m) (p .n) (p .s) off cols vals
 
 abbrev pub dataIn : Plan → Block → List Float → List Float → List Float → ℕ → LaneData
 dataIn p k b c tol = dataAt k (p .m) (p .n) b c tol
-
--- the plan's counts are E, S and D
-pub record Counted (off cols : List ℕ) (m E S D : ℕ) : Type 0 where
-  pub stored : E ≡ countE off cols m
-  pub shared : S ≡ countS off cols m
-  pub products : D ≡ countD off cols m
 
 -- an accepted matrix with its values, its sizes and counts, and an index memory that begins with its plan
 pub record Planned (off cols : List ℕ) (vals : List Float) (p : Plan) (index : List ℕ) : Type 0 where

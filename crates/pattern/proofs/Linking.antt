@@ -21,7 +21,7 @@ use Rattle.csr.proofs.Has.{has-last}
 use Rattle.pattern.proofs.Whole.{zeros}
 
 -- one more column
-linked-last : (F : ℕ → ℕ) (xs : List ℕ) (e j : ℕ) → linked F (xs ++ (e ∷ [])) j ≡ linked F xs j || eqb (F e) (suc j)
+pub linked-last : (F : ℕ → ℕ) (xs : List ℕ) (e j : ℕ) → linked F (xs ++ (e ∷ [])) j ≡ linked F xs j || eqb (F e) (suc j)
 unfolding linked
 linked-last F [] e j = or-nil (eqb (F e) (suc j))
 linked-last F (x ∷ xs) e j =

@@ -97,7 +97,7 @@ module _ (off cols : List ℕ) where
       let r = linked-out (firstOf off cols i) (row off cols i) j h in
       shares-in (row off cols i) (row off cols j) (r .0) (r .1) (first-has i (r .0) j (r .2) .0)
 
-  link-of : (i j e : ℕ) → has (row off cols i) e ≡ true → firstOf off cols i e ≡ suc j → links off cols i j ≡ true
+  pub link-of : (i j e : ℕ) → has (row off cols i) e ≡ true → firstOf off cols i e ≡ suc j → links off cols i j ≡ true
   unfolding links
   link-of i j e h q = linked-in (firstOf off cols i) (row off cols i) e j h q
 

@@ -23,33 +23,33 @@ returns : tie.Need-returns
 unfolding firstNo
 returns c =
     c .new .ensures ∙ simp (
-      ← c .before .before .between .ensures,
-      not-true (c .before .before .between .result) (c .before .if1 .taken),
+      ← c .before .before .rows-right .ensures,
+      not-true (c .before .before .rows-right .result) (c .before .if1 .taken),
     )
 
 returns-2 : tie.Need-returns-2
 unfolding firstNo
 returns-2 c =
     c .new2 .ensures ∙ simp (
-      ← c .before .before .before .before .between .ensures,
-      not-false (c .before .before .before .before .between .result) (c .before .before .before .if1 .left),
-      ← c .before .before .between2 .ensures,
-      not-true (c .before .before .between2 .result) (c .before .if2 .taken),
+      ← c .before .before .before .before .rows-right .ensures,
+      not-false (c .before .before .before .before .rows-right .result) (c .before .before .before .if1 .left),
+      ← c .before .before .between .ensures,
+      not-true (c .before .before .between .result) (c .before .if2 .taken),
     )
 
 offsets-right-requires : tie.Need-offsets-right-requires
 offsets-right-requires c κs =
     let m = c .before .before .before .before .before .before .args .m in
-    leb-true m 256 (and-right (leb 1 m) (leb m 256) (sym (c .before .before .before .between .ensures) ∙ not-false (c .before .before .before .between .result) (c .before .before .if1 .left)))
+    leb-true m 256 (and-right (leb 1 m) (leb m 256) (sym (c .before .before .before .rows-right .ensures) ∙ not-false (c .before .before .before .rows-right .result) (c .before .before .if1 .left)))
 
 returns-3 : tie.Need-returns-3
 unfolding firstNo
 returns-3 c =
     c .new3 .ensures ∙ simp (
-      ← c .before .before .before .before .before .before .between .ensures,
-      not-false (c .before .before .before .before .before .before .between .result) (c .before .before .before .before .before .if1 .left),
-      ← c .before .before .before .before .between2 .ensures,
-      not-false (c .before .before .before .before .between2 .result) (c .before .before .before .if2 .left),
+      ← c .before .before .before .before .before .before .rows-right .ensures,
+      not-false (c .before .before .before .before .before .before .rows-right .result) (c .before .before .before .before .before .if1 .left),
+      ← c .before .before .before .before .between .ensures,
+      not-false (c .before .before .before .before .between .result) (c .before .before .before .if2 .left),
       ← c .before .before .offsets-right .ensures,
       not-true (c .before .before .offsets-right .result) (c .before .if3 .taken),
     )
@@ -61,10 +61,10 @@ returns-4 : tie.Need-returns-4
 unfolding firstNo
 returns-4 c =
     c .new4 .ensures ∙ simp (
-      ← c .before .before .before .before .before .before .before .before .between .ensures,
-      not-false (c .before .before .before .before .before .before .before .before .between .result) (c .before .before .before .before .before .before .before .if1 .left),
-      ← c .before .before .before .before .before .before .between2 .ensures,
-      not-false (c .before .before .before .before .before .before .between2 .result) (c .before .before .before .before .before .if2 .left),
+      ← c .before .before .before .before .before .before .before .before .rows-right .ensures,
+      not-false (c .before .before .before .before .before .before .before .before .rows-right .result) (c .before .before .before .before .before .before .before .if1 .left),
+      ← c .before .before .before .before .before .before .between .ensures,
+      not-false (c .before .before .before .before .before .before .between .result) (c .before .before .before .before .before .if2 .left),
       ← c .before .before .before .before .offsets-right .ensures,
       not-false (c .before .before .before .before .offsets-right .result) (c .before .before .before .if3 .left),
       ← (c .before .before .first-short .ensures ∙ empties (c .before .before .before .before .before .before .before .before .before .before .before .args .m) (c .before .before .before .before .before .before .before .before .before .before .before .args .offsets .now) (length (c .before .before .before .before .before .before .before .before .before .before .before .args .columns .now)) (c .before .before .before .before .before .before .before .before .before .before .before .args .values) (c .before .before .before .before .offsets-right .result) (c .before .before .before .before .offsets-right .ensures) (c .before .before .before .if3 .left)),
@@ -78,10 +78,10 @@ returns-5 : tie.Need-returns-5
 unfolding firstNo
 returns-5 c =
     c .new5 .ensures ∙ simp (
-      ← c .before .before .before .before .before .before .before .before .before .before .between .ensures,
-      not-false (c .before .before .before .before .before .before .before .before .before .before .between .result) (c .before .before .before .before .before .before .before .before .before .if1 .left),
-      ← c .before .before .before .before .before .before .before .before .between2 .ensures,
-      not-false (c .before .before .before .before .before .before .before .before .between2 .result) (c .before .before .before .before .before .before .before .if2 .left),
+      ← c .before .before .before .before .before .before .before .before .before .before .rows-right .ensures,
+      not-false (c .before .before .before .before .before .before .before .before .before .before .rows-right .result) (c .before .before .before .before .before .before .before .before .before .if1 .left),
+      ← c .before .before .before .before .before .before .before .before .between .ensures,
+      not-false (c .before .before .before .before .before .before .before .before .between .result) (c .before .before .before .before .before .before .before .if2 .left),
       ← c .before .before .before .before .before .before .offsets-right .ensures,
       not-false (c .before .before .before .before .before .before .offsets-right .result) (c .before .before .before .before .before .if3 .left),
       ← (c .before .before .before .before .first-short .ensures ∙ empties (c .before .before .before .before .before .before .before .before .before .before .before .before .before .args .m) (c .before .before .before .before .before .before .before .before .before .before .before .before .before .args .offsets .now) (length (c .before .before .before .before .before .before .before .before .before .before .before .before .before .args .columns .now)) (c .before .before .before .before .before .before .before .before .before .before .before .before .before .args .values) (c .before .before .before .before .before .before .offsets-right .result) (c .before .before .before .before .before .before .offsets-right .ensures) (c .before .before .before .before .before .if3 .left)),
@@ -94,10 +94,10 @@ returns-6 : tie.Need-returns-6
 unfolding firstNo
 returns-6 c =
     simp (
-      ← c .before .before .before .before .before .before .before .before .before .between .ensures,
-      not-false (c .before .before .before .before .before .before .before .before .before .between .result) (c .before .before .before .before .before .before .before .before .if1 .left),
-      ← c .before .before .before .before .before .before .before .between2 .ensures,
-      not-false (c .before .before .before .before .before .before .before .between2 .result) (c .before .before .before .before .before .before .if2 .left),
+      ← c .before .before .before .before .before .before .before .before .before .rows-right .ensures,
+      not-false (c .before .before .before .before .before .before .before .before .before .rows-right .result) (c .before .before .before .before .before .before .before .before .if1 .left),
+      ← c .before .before .before .before .before .before .before .between .ensures,
+      not-false (c .before .before .before .before .before .before .before .between .result) (c .before .before .before .before .before .before .if2 .left),
       ← c .before .before .before .before .before .offsets-right .ensures,
       not-false (c .before .before .before .before .before .offsets-right .result) (c .before .before .before .before .if3 .left),
       ← (c .before .before .before .first-short .ensures ∙ empties (c .before .before .before .before .before .before .before .before .before .before .before .before .args .m) (c .before .before .before .before .before .before .before .before .before .before .before .before .args .offsets .now) (length (c .before .before .before .before .before .before .before .before .before .before .before .before .args .columns .now)) (c .before .before .before .before .before .before .before .before .before .before .before .before .args .values) (c .before .before .before .before .before .offsets-right .result) (c .before .before .before .before .before .offsets-right .ensures) (c .before .before .before .before .if3 .left)),
