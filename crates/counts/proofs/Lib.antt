@@ -1,0 +1,4 @@
+pub mod Products
+pub mod Step
+pub mod Columns
+pub mod Plans

@@ -1,0 +1,2 @@
+pub mod Parent
+pub mod Examples

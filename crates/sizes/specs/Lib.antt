@@ -1,0 +1,3 @@
+pub mod Costliest
+pub mod Sizes
+pub mod Examples
