@@ -3,12 +3,11 @@ use mathlib.Core.Path.{_≡_, sym, ap, _∙_}
 use mathlib.Core.List.{List, _++_}
 use Prim.Native.Nat.{ℕ, _+_, _*_, _<_, _≤_}
 use native.Mathlib.Omega.{arith}
-use native.Mathlib.Decide.{decLt}
 use lib.ListN.{length, drop}
-use borrow.Author.Tests.{lt-leb, le-leb, lt-ltb, le-ltb}
-use lib.Dec.{ltb}
-use Rattle.csr.specs.Counts.{countE, sizeW}
-use Rattle.ipm_common.specs.Plan.{Tallied, written}
+use borrow.Author.Tests.{lt-leb, le-leb}
+use Rattle.csr.specs.Counts.{sizeW}
+use Rattle.csr.specs.Verdict.{Verdict, told, planned, refused}
+use Rattle.ipm_common.specs.Plan.{Tallied, roomVerdict, left, Answered}
 use Rattle.pattern.specs.Word.{bit}
 use Rattle.base.specs.Cat.{Wrote}
 use Rattle.lists.specs.Lists.{shape, tenOf, sideOf, planOf, planWords}
@@ -19,7 +18,6 @@ use Rattle.base.proofs.Write.{wrote-as}
 use Rattle.transpose.specs.Bins.{sideIn}
 use Rattle.pair_lists.specs.Kept.{Rows}
 use Rattle.pair_lists.proofs.Factor.{side-same}
-use Rattle.base.proofs.Bools.{and-false}
 
 module _ (off cols : List ℕ) (m n : ℕ) (p lindptr lindices : List ℕ) (ready : Ready off cols m p) (v : Rows (bit p) lindptr lindices m) where
   pub plan-long : length (planOf (shape off cols) m n) ≡ length (tenOf (shape off cols) m 10) + length (sideIn lindptr lindices m m) + length (sideIn off cols m n)
@@ -38,24 +36,16 @@ pub words-are : (off cols : List ℕ) (m n e s d : ℕ) → Tallied off cols m e
 unfolding sizeW
 words-are off cols m n e s d t = omega (arith, t .stored, t .shared, t .products)
 
--- what is left in the index memory
+-- question 6 of a memory that is too short, and of one that is long enough
 module _ (m n : ℕ) (off cols index : List ℕ) where
-  pub written-off : (below : ℕ) → below ≤ countE off cols m → written below m n off cols index ≡ index
-  unfolding written
-  written-off below h = rw (le-ltb (countE off cols m) below h)
+  pub room-no : length index < sizeW off cols m n → refused 6 0 0 ≡ roomVerdict m n off cols (length index)
+  unfolding roomVerdict
+  room-no h = rw (lt-leb (sizeW off cols m n) (length index) h)
 
-  pub written-no : (below : ℕ) → length index < sizeW off cols m n → written below m n off cols index ≡ index
-  unfolding written
-  written-no below h = rw (lt-leb (sizeW off cols m n) (length index) h, and-false (ltb (countE off cols m) below))
+  pub room-yes : sizeW off cols m n ≤ length index → told (planned (sizeW off cols m n)) ≡ roomVerdict m n off cols (length index)
+  unfolding roomVerdict
+  room-yes h = rw (le-leb (sizeW off cols m n) (length index) h)
 
-  pub written-yes : (below : ℕ) → countE off cols m < below → sizeW off cols m n ≤ length index → written below m n off cols index ≡ planWords off cols m n ++ drop (sizeW off cols m n) index
-  unfolding written
-  written-yes below e h = rw (lt-ltb (countE off cols m) below e, le-leb (sizeW off cols m n) (length index) h)
-
-  pub written-other : (below : ℕ) → (countE off cols m < below → sizeW off cols m n ≤ length index → ⊥) → written below m n off cols index ≡ index
-  written-other below never = go (decLt (countE off cols m) below) (decLt (length index) (sizeW off cols m n))
-    where
-      go : Dec (countE off cols m < below) → Dec (length index < sizeW off cols m n) → written below m n off cols index ≡ index
-      go (no h) x = written-off below (omega arith)
-      go (yes h) (yes l) = written-no below l
-      go (yes h) (no l) = absurd (never h (omega arith))
+-- a memory that is long enough begins with the plan
+pub answered-yes : {m n : ℕ} {off cols old new : List ℕ} {v : Verdict} → Answered m n off cols old new v → sizeW off cols m n ≤ length old → new ≡ planWords off cols m n ++ drop (sizeW off cols m n) old
+answered-yes {m} {n} {off} {cols} {old} a h = a .words ∙ ap (λ (v : Verdict). left v (planWords off cols m n ++ drop (sizeW off cols m n) old) old) (a .says ∙ sym (room-yes m n off cols old h))

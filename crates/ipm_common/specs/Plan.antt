@@ -1,12 +1,11 @@
 -- The six questions of plan, its answer and what it leaves in the index memory. Definitions only.
 use mathlib.Core.Path.{_≡_}
-use mathlib.Core.Bool.{_&&_, cond}
 use mathlib.Core.List.{List, _++_}
 use Prim.Native.Nat.{ℕ, suc, _<_, _≤_, _*_}
-use lib.Dec.{leb, ltb}
+use lib.Dec.{leb}
 use lib.ListN.{length, drop}
 use Rattle.base.specs.Sums.{sum}
-use Rattle.csr.specs.Verdict.{Verdict, passed, planned, accepted, refused, ask, andThen, refusal}
+use Rattle.csr.specs.Verdict.{Verdict, passed, told, planned, refused, ask, andThen, refusal}
 use Rattle.csr.specs.Questions.{firstNo, maxRows}
 use Rattle.csr.specs.Counts.{countE, countS, countD, sizeW}
 use Rattle.lists.specs.Lists.{planWords}
@@ -16,13 +15,13 @@ use Rattle.csr.specs.Csr.{maxPlaces}
 
 -- each case of the answer, by document 01's number and values
 abbrev pub toldPlan : PlanAnswer → Verdict
-toldPlan (Planned w) = planned w
+toldPlan (Planned w) = told (planned w)
 toldPlan (Refused r) = refusal r
 
 -- question 6: has the index memory at least W words?
 unfoldable pub roomVerdict : ℕ → ℕ → List ℕ → List ℕ → ℕ → Verdict
 unfolding sizeW
-roomVerdict m n offsets columns words = ask (leb (sizeW offsets columns m n) words) (planned (sizeW offsets columns m n)) (refused 6 0 0)
+roomVerdict m n offsets columns words = ask (leb (sizeW offsets columns m n) words) (told (planned (sizeW offsets columns m n))) (refused 6 0 0)
 
 -- questions 1 to 6; plan is lent no values
 unfoldable pub planVerdict : ℕ → ℕ → List ℕ → List ℕ → ℕ → Verdict
@@ -32,8 +31,7 @@ planVerdict m n offsets columns words = andThen (firstNo m n offsets columns (le
 -- a plan takes the place of what was there, a no leaves it
 abbrev pub left : Verdict → List ℕ → List ℕ → List ℕ
 left passed new old = old
-left (planned w) new old = new
-left (accepted k count) new old = old
+left (told a) new old = new
 left (refused q p l) new old = old
 
 -- the index memory after plan: the W words and the old rest, or as before
@@ -64,16 +62,6 @@ pub record Tallied (offsets columns : List ℕ) (m e s d : ℕ) : Type 0 where
   pub shared : s ≡ countS offsets columns m
   pub products : d ≡ countD offsets columns m
   pub few : s ≤ maxRows * maxPlaces
-
--- the plan and the old rest where E is below a bound and the memory has room, else as before
-unfoldable pub written : ℕ → ℕ → ℕ → List ℕ → List ℕ → List ℕ → List ℕ
-unfolding sizeW countE
-written below m n offsets columns index =
-    cond (ltb (countE offsets columns m) below && leb (sizeW offsets columns m n) (length index)) (planWords offsets columns m n ++ drop (sizeW offsets columns m n) index) index
-
-pub record Counted (m n : ℕ) (offsets columns : List ℕ) (below : ℕ) (old new : List ℕ) (e s d : ℕ) : Type 0 where
-  pub sizes : Tallied offsets columns m e s d
-  pub words : new ≡ written below m n offsets columns old
 
 -- question 6 is answered, and the index memory is left so
 pub record Answered (m n : ℕ) (offsets columns old new : List ℕ) (v : Verdict) : Type 0 where

@@ -8,7 +8,7 @@ ghost use Rattle.lists.specs.Lists.{shape, planOf};
 ghost use Rattle.pattern.specs.Ready.{Ready};
 ghost use Rattle.csr.specs.Csr.{Accepted, maxPlaces};
 ghost use Rattle.pair_lists.specs.Kept.{Rows};
-ghost use Rattle.ipm_common.specs.Plan.{Room, Memories, toldPlan, planVerdict, planIndex, Answered, Tallied, Counted};
+ghost use Rattle.ipm_common.specs.Plan.{Room, Memories, toldPlan, planVerdict, planIndex, Answered, Tallied};
 ghost use Rattle.csr.specs.Questions.{maxRows, maxColumns, maxEntries};
 use csr::Asked;
 use csr::Refusal;
@@ -60,10 +60,10 @@ fn put_plan(
 }
 
 // E, S and D.
-pub struct Counts {
-    pub e: u32,
-    pub s: usize,
-    pub d: u32,
+struct Counts {
+    e: u32,
+    s: usize,
+    d: u32,
 }
 
 // E is a count of ones, S and D + E count what pairs of rows share, of the matrix and of the factor.
@@ -102,7 +102,13 @@ fn words(m: usize, n: usize, t: usize, counts: Counts) -> usize
     5 * e + 3 * counts.s + 2 * d + 3 * m + n + 2 * t + 5
 }
 
-// The counts of a matrix that is accepted, and the plan where E is below a bound and it has room; the memories are long enough.
+// The answer of plan: its words, or the first no.
+pub enum PlanAnswer {
+    Planned(usize),
+    Refused(Refusal),
+}
+
+// Question 6, and the plan of a matrix that is accepted; the memories are long enough.
 fn plan_in(
     m: usize,
     n: usize,
@@ -114,20 +120,17 @@ fn plan_in(
     next: &mut [u32],
     again: &mut [u32],
     index: &mut [u32],
-    below: usize,
-) -> Counts
+) -> PlanAnswer
     requires { ⌜ Accepted (now offsets) (now columns) m n × Memories m n (now lindptr) (now lindices) (now mark) (now next) (now again) ⌝ }
-    ensures { λ r. ⌜ Counted m n (now (offsets .entry)) (now (columns .entry)) below (now (index .entry)) (now (index .exit)) (r .e) (r .s) (r .d) ⌝ }
+    ensures { λ r. ⌜ Answered m n (now (offsets .entry)) (now (columns .entry)) (now (index .entry)) (now (index .exit)) (toldPlan r) ⌝ }
 {
     let mut p = [0u64; pattern::WORDS];
     pattern::pattern(offsets, columns, m, &mut p);
     pair_lists::list_rows(&p, m, lindptr, lindices);
     let t = count_all(m, n, offsets, columns, &p, lindptr, lindices, next);
-    if below <= t.e as usize {
-        return t;
-    }
-    if index.len() < words(m, n, columns.len(), t) {
-        return t;
+    let w = words(m, n, columns.len(), t);
+    if index.len() < w {
+        return PlanAnswer::Refused(Refusal::new(Refusal::INDEX_MEMORY, 0, 0));
     }
     put_plan(
         offsets,
@@ -142,31 +145,19 @@ fn plan_in(
         again,
         index,
     );
-    t
+    PlanAnswer::Planned(w)
 }
 
-// What is set to 0 before a plan is short where the matrix is small.
-const FEW_ROWS: usize = 16;
-
-const FEW_COLUMNS: usize = 32;
-
 // At most 16 rows and 32 columns.
-fn plan_few(
-    m: usize,
-    n: usize,
-    offsets: &[u32],
-    columns: &[u32],
-    index: &mut [u32],
-    below: usize,
-) -> Counts
+fn plan_few(m: usize, n: usize, offsets: &[u32], columns: &[u32], index: &mut [u32]) -> PlanAnswer
     requires { ⌜ Accepted (now offsets) (now columns) m n × (m ≤ 16) × (n ≤ 32) ⌝ }
-    ensures { λ r. ⌜ Counted m n (now (offsets .entry)) (now (columns .entry)) below (now (index .entry)) (now (index .exit)) (r .e) (r .s) (r .d) ⌝ }
+    ensures { λ r. ⌜ Answered m n (now (offsets .entry)) (now (columns .entry)) (now (index .entry)) (now (index .exit)) (toldPlan r) ⌝ }
 {
-    let mut lindptr = [0u32; FEW_ROWS + 1];
-    let mut lindices = [0u8; FEW_ROWS * (FEW_ROWS + 1) / 2];
-    let mut mark = [0u32; FEW_COLUMNS + 1];
-    let mut next = [0u32; FEW_COLUMNS + 1];
-    let mut again = [0u32; FEW_COLUMNS + 1];
+    let mut lindptr = [0u32; Plan::FEW_ROWS + 1];
+    let mut lindices = [0u8; Plan::FEW_ROWS * (Plan::FEW_ROWS + 1) / 2];
+    let mut mark = [0u32; Plan::FEW_COLUMNS + 1];
+    let mut next = [0u32; Plan::FEW_COLUMNS + 1];
+    let mut again = [0u32; Plan::FEW_COLUMNS + 1];
     plan_in(
         m,
         n,
@@ -178,21 +169,13 @@ fn plan_few(
         &mut next,
         &mut again,
         index,
-        below,
     )
 }
 
 // As many rows as there may be.
-fn plan_many(
-    m: usize,
-    n: usize,
-    offsets: &[u32],
-    columns: &[u32],
-    index: &mut [u32],
-    below: usize,
-) -> Counts
+fn plan_many(m: usize, n: usize, offsets: &[u32], columns: &[u32], index: &mut [u32]) -> PlanAnswer
     requires { ⌜ Accepted (now offsets) (now columns) m n ⌝ }
-    ensures { λ r. ⌜ Counted m n (now (offsets .entry)) (now (columns .entry)) below (now (index .entry)) (now (index .exit)) (r .e) (r .s) (r .d) ⌝ }
+    ensures { λ r. ⌜ Answered m n (now (offsets .entry)) (now (columns .entry)) (now (index .entry)) (now (index .exit)) (toldPlan r) ⌝ }
 {
     let mut lindptr = [0u32; Plan::MAX_ROWS + 1];
     let mut lindices = [0u8; Plan::MAX_ROWS * (Plan::MAX_ROWS + 1) / 2];
@@ -210,40 +193,11 @@ fn plan_many(
         &mut next,
         &mut again,
         index,
-        below,
     )
 }
 
-// E, S and D, and the plan where E is below a bound and the index memory has room.
-pub fn plan_below(
-    m: usize,
-    n: usize,
-    offsets: &[u32],
-    columns: &[u32],
-    index: &mut [u32],
-    below: usize,
-) -> Counts
-    requires { ⌜ Accepted (now offsets) (now columns) m n ⌝ }
-    ensures { λ r. ⌜ Counted m n (now (offsets .entry)) (now (columns .entry)) below (now (index .entry)) (now (index .exit)) (r .e) (r .s) (r .d) ⌝ }
-{
-    if m <= FEW_ROWS && n <= FEW_COLUMNS {
-        plan_few(m, n, offsets, columns, index, below)
-    } else {
-        plan_many(m, n, offsets, columns, index, below)
-    }
-}
-
-// The answer of plan: its words, or the first no.
-pub enum PlanAnswer {
-    Planned(usize),
-    Refused(Refusal),
-}
-
-// Above every E.
-const ANY_SIZE: usize = 65536;
-
 // Question 6, and the plan of a matrix that is accepted.
-fn plan_accepted(
+pub fn plan_accepted(
     m: usize,
     n: usize,
     offsets: &[u32],
@@ -253,12 +207,10 @@ fn plan_accepted(
     requires { ⌜ Accepted (now offsets) (now columns) m n ⌝ }
     ensures { λ r. ⌜ Answered m n (now (offsets .entry)) (now (columns .entry)) (now (index .entry)) (now (index .exit)) (toldPlan r) ⌝ }
 {
-    let t = plan_below(m, n, offsets, columns, index, ANY_SIZE);
-    let w = words(m, n, columns.len(), t);
-    if index.len() < w {
-        PlanAnswer::Refused(Refusal::new(Refusal::INDEX_MEMORY, 0, 0))
+    if m <= Plan::FEW_ROWS && n <= Plan::FEW_COLUMNS {
+        plan_few(m, n, offsets, columns, index)
     } else {
-        PlanAnswer::Planned(w)
+        plan_many(m, n, offsets, columns, index)
     }
 }
 

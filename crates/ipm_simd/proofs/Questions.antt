@@ -1,20 +1,18 @@
 -- What a yes at each of the questions says. Assumes nothing.
-use mathlib.Core.Path.{_≡_, refl, sym, _∙_}
+use mathlib.Core.Path.{_≡_, refl}
 use mathlib.Core.Bool.{true, _&&_}
-use Prim.Native.Nat.{ℕ, _+_, _-_, _*_, _/_, _≤_, _<_}
+use Prim.Native.Nat.{ℕ, _*_, _≤_}
 use native.Mathlib.Omega.{arith}
-use borrow.Author.Tests.{eqb-true, leb-true, le-leb, eq-eqb}
+use borrow.Author.Tests.{eqb-true, leb-true, eq-eqb}
 use lib.Dec.{eqb, leb}
 use Rattle.layout.specs.Layout.{workingSize}
 use Rattle.lanes.specs.Controls.{fractionsProper}
 use Rattle.lanes.specs.declared.Controls.{Controls}
-use Rattle.csr.specs.declared.Refusal.{Refusal}
-use Rattle.csr.specs.Verdict.{passed, refused, refusal}
+use Rattle.csr.specs.Verdict.{passed, refused}
 use Rattle.base.proofs.Bools.{and-left, and-right}
 use Rattle.machine.specs.Outcome.{largestLimit}
 use Rattle.ipm_simd.specs.declared.Lengths.{Lengths}
-use Rattle.ipm_simd.specs.Solve.{lengthsRight, sizesVerdict}
-use Rattle.ipm_simd.specs.Parts.{EntriesBelow}
+use Rattle.ipm_simd.specs.Solve.{lengthsRight, lengthsVerdict}
 use Rattle.csr.proofs.Yes.{asked}
 
 pub not-passed : (q p l : ℕ) → refused q p l ≡ passed → ⊥
@@ -49,8 +47,8 @@ lengths-of m n L h =
       prices-long = eqb-true _ _ (and-right (b && c && t && o) y h);
     }
 
--- questions 6 to 10 and 13
-pub record Sizes (W E m n s : ℕ) (L : Lengths) (k : Controls) : Type 0 where
+-- questions 6 to 10 and 13 got a yes
+pub record LengthsPassed (W E m n s : ℕ) (L : Lengths) (k : Controls) : Type 0 where
   pub index-long : W ≤ L .index
   pub slack : s ≤ m
   pub lengths : LengthsRight m n L
@@ -59,9 +57,9 @@ pub record Sizes (W E m n s : ℕ) (L : Lengths) (k : Controls) : Type 0 where
   pub upTo : k .limit ≤ largestLimit
   pub fractions : fractionsProper k ≡ true
 
-pub sizes-of : (W E m n s : ℕ) (L : Lengths) (k : Controls) → sizesVerdict W E m n s L k ≡ passed → Sizes W E m n s L k
-unfolding sizesVerdict
-sizes-of W E m n s L k h =
+pub lengths-passed : (W E m n s : ℕ) (L : Lengths) (k : Controls) → lengthsVerdict W E m n s L k ≡ passed → LengthsPassed W E m n s L k
+unfolding lengthsVerdict
+lengths-passed W E m n s L k h =
     let h6 = asked (leb W (L .index)) _ 6 0 0 h in
     let h7 = asked (leb s m) _ 7 0 0 (h6 .1) in
     let h8 = asked (lengthsRight m n L) _ 8 0 0 (h7 .1) in
@@ -77,29 +75,3 @@ sizes-of W E m n s L k h =
       upTo = leb-true (k .limit) largestLimit (and-right (leb 1 (k .limit)) (leb (k .limit) largestLimit) (h10 .0));
       fractions = h13 .0;
     }
-
-module _ (m n s : ℕ) (L : Lengths) (k : Controls) where
-  -- a yes for some W and E is one for any that fit
-  sized : {W E : ℕ} → Sizes W E m n s L k → (W′ E′ : ℕ) → W′ ≤ L .index → workingSize 4 m n s E′ ≤ L .work → sizesVerdict W′ E′ m n s L k ≡ passed
-  unfolding sizesVerdict
-  sized q W′ E′ i w =
-      let r = q .lengths in
-      let eight : lengthsRight m n L ≡ true = sym (lengths-last m n L (r .b-long) (r .c-long) (r .tolerances-long) (r .output-long)) ∙ eq-eqb _ _ (r .prices-long) in
-      simp (le-leb W′ (L .index) i, le-leb s m (q .slack), eight, le-leb (workingSize 4 m n s E′) (L .work) w, le-leb 1 (k .limit) (q .from), le-leb (k .limit) largestLimit (q .upTo), q .fractions)
-
-  -- what no words and no entries are told decides
-  pub below-some : passed ≡ sizesVerdict 0 0 m n s L k → EntriesBelow m n s L k ((L .work - workingSize 4 m n s 0) / 4 + 1)
-  below-some v =
-      let q = sizes-of 0 0 m n s L k (sym v) in
-      record {
-        yes = λ W E i e. sized q W E i (omega (arith, e, q .work-long));
-        under = λ W E h. omega (arith, sizes-of W E m n s L k h .work-long);
-      }
-
-  pub below-none : (r : Refusal) → refusal r ≡ sizesVerdict 0 0 m n s L k → EntriesBelow m n s L k 0
-  below-none r v = record {
-    yes = λ W E i e. absurd (omega (arith, e));
-    under = λ W E h.
-        let q = sizes-of W E m n s L k h in
-        absurd (not-passed (r .question) (r .place) (r .lane) (v ∙ sized q 0 0 (omega arith) (omega (arith, q .work-long))));
-  }

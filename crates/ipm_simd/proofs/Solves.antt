@@ -34,28 +34,21 @@ use Rattle.layout.specs.declared.Plan.{Plan}
 use Rattle.layout.specs.Layout.{lAt, workingSize}
 use Rattle.memory.specs.Numbers.{Lent}
 use Rattle.layout.specs.Lists.{wordsAt}
-use Rattle.memory.specs.Planned.{Planned, Counted}
+use Rattle.counts.proofs.Plans.{plannedSizes, words-are}
+use Rattle.memory.specs.Planned.{Planned}
 use Rattle.memory.specs.Calls.{callIn, memoryIn}
 use Rattle.memory.proofs.Calls.{lanes-all}
 use Rattle.outputs.specs.Outputs.{outputOf}
 use Rattle.step.specs.Steps.{Untouched}
 use Rattle.ipm_simd.specs.declared.SolveAnswer.{SolveAnswer}
 use Rattle.ipm_simd.specs.declared.SolveAnswer.the-variants as answers
-use Rattle.ipm_simd.specs.Solve.{Given, lent, controlsOf, call, words, room, priceCount, lengthsOf, plannedHas, toldSolve, outcomeVerdict, sizesVerdict, memoryVerdict, begun, solveVerdict, ifPassed, solveBuffers, Solved}
-use Rattle.ipm_simd.specs.Parts.{Asked10, EntriesBelow, Finished, Continued}
-use Rattle.ipm_common.specs.Plan.{written as indexed}
-use Rattle.ipm_common.proofs.Final.{written-yes, written-other}
-use Rattle.ipm_simd.proofs.Questions.{sizes-of, not-passed}
+use Rattle.ipm_simd.specs.Solve.{Given, lent, controlsOf, call, words, room, priceCount, lengthsOf, plannedHas, toldSolve, outcomeVerdict, lengthsVerdict, memoryVerdict, begun, solveVerdict, ifPassed, solveBuffers, Solved}
+use Rattle.ipm_simd.specs.Parts.{Asked10, Finished, Continued}
+use Rattle.ipm_simd.proofs.Questions.{lengths-passed, not-passed}
 
 -- the plan by value, of E, S and D
 abbrev pub planOf : Given → ℕ → ℕ → ℕ → Plan
 planOf a stored shared products = record { m = a .m; n = a .n; s = a .s; t = length (a .columns); stored = stored; shared = shared; products = products }
-
--- W, of E, S and D
-words-of : (off cols : List ℕ) (m n s stored shared products : ℕ) → Counted off cols m stored shared products
-    → wordsAt (record { m = m; n = n; s = s; t = length cols; stored = stored; shared = shared; products = products }) ≡ sizeW off cols m n
-unfolding sizeW
-words-of off cols m n s stored shared products c = omega (arith, c .stored, c .shared, c .products)
 
 -- F, of E
 room-of : (off cols : List ℕ) (m n s e : ℕ) → e ≡ countE off cols m → workingSize 4 m n s e ≡ sizeF off cols m n s
@@ -85,6 +78,35 @@ four = record { total = 4; first = 0 }
 
 -- ---- before and after the tests
 module _ (a : Given) {output prices work : List Float} {index : List ℕ} {stored shared products : ℕ} (Q : Asked10 a (lent output prices index work) stored shared products) where
+  -- the same once the plan is written
+  pub asked-on : {new : List ℕ} → length new ≡ length index → Asked10 a (lent output prices new work) stored shared products
+  asked-on e = record {
+    ok = Q .ok;
+    values = Q .values;
+    counts = Q .counts;
+    index = omega (arith, Q .index, e);
+    slack = Q .slack;
+    b-long = Q .b-long;
+    c-long = Q .c-long;
+    tol-long = Q .tol-long;
+    output = Q .output;
+    prices = Q .prices;
+    work = Q .work;
+    from = Q .from;
+    upTo = Q .upTo;
+  }
+
+  pub planned-on : {new : List ℕ} → new ≡ words a ++ drop (sizeW (a .offsets) (a .columns) (a .m) (a .n)) index → Planned (a .offsets) (a .columns) (a .values) (planOf a stored shared products) new
+  planned-on e = record {
+    ok = Q .ok;
+    values = Q .values;
+    entries = refl;
+    slack = Q .slack;
+    counts = Q .counts;
+    rest = drop (sizeW (a .offsets) (a .columns) (a .m) (a .n)) index;
+    plan = e;
+  }
+
   pub lent-four : Lent four 4 (a .m) (a .n) (a .s) (a .b) (a .c) (a .tolerances)
   lent-four = record {
     rows = Q .ok .csr .few;
@@ -155,78 +177,53 @@ module _ (a : Given) {output prices work : List Float} {index : List ℕ} {store
       all = λ i. record { output = x-out i; prices = y-out i; index = plan i; work = clear i }
 
 -- ---- questions 6 to 10 and 13
+-- the plan by value, with the matrix's E, S and D, and its W
+abbrev planFor : Given → Plan
+planFor a = plannedSizes (a .offsets) (a .columns) (a .m) (a .n) (a .s)
+
 module _ (a : Given) (B : Buffers) where
-  -- the verdict of questions 6 to 10 and 13, of the counted E, S and D
-  memory-is : (stored shared products : ℕ) → Counted (a .offsets) (a .columns) (a .m) stored shared products
-      → sizesVerdict (wordsAt (planOf a stored shared products)) stored (a .m) (a .n) (a .s) (lengthsOf a B) (controlsOf a) ≡ memoryVerdict a B
+  -- the questions put about this plan
+  pub asked-is : {v : Verdict} {w : ℕ} {p : Plan} → p ≡ planFor a → w ≡ wordsAt p → v ≡ lengthsVerdict w (p .stored) (p .m) (p .n) (p .s) (lengthsOf a B) (controlsOf a) → v ≡ memoryVerdict a B
   unfolding memoryVerdict
-  memory-is stored shared products c = rw (words-of (a .offsets) (a .columns) (a .m) (a .n) (a .s) stored shared products c, c .stored)
+  asked-is {v} {w} {p} ep ew e =
+      e
+      ∙ ap (λ (x : ℕ). lengthsVerdict x (p .stored) (p .m) (p .n) (p .s) (lengthsOf a B) (controlsOf a)) ew
+      ∙ ap (λ (q : Plan). lengthsVerdict (wordsAt q) (q .stored) (q .m) (q .n) (q .s) (lengthsOf a B) (controlsOf a)) ep
+      ∙ ap (λ (x : ℕ). lengthsVerdict x (planFor a .stored) (a .m) (a .n) (a .s) (lengthsOf a B) (controlsOf a)) (words-are (a .offsets) (a .columns) (a .m) (a .n) (a .s))
 
-  module _ (stored shared products : ℕ) (c : Counted (a .offsets) (a .columns) (a .m) stored shared products) where
-    abbrev verdict : Verdict
-    verdict = sizesVerdict (wordsAt (planOf a stored shared products)) stored (a .m) (a .n) (a .s) (lengthsOf a B) (controlsOf a)
-
-    pub asked-all : Accepted (a .offsets) (a .columns) (a .m) (a .n) → length (a .values) ≡ length (a .columns) → passed ≡ verdict → Asked10 a B stored shared products
-    asked-all ok values v =
-        let q = sizes-of _ stored (a .m) (a .n) (a .s) (lengthsOf a B) (controlsOf a) (sym v) in
-        record {
-          ok = ok;
-          values = values;
-          counts = c;
-          index = omega (arith, words-of (a .offsets) (a .columns) (a .m) (a .n) (a .s) stored shared products c, q .index-long);
-          slack = q .slack;
-          b-long = q .lengths .b-long;
-          c-long = q .lengths .c-long;
-          tol-long = q .lengths .tolerances-long;
-          output = q .lengths .output-long;
-          prices = q .lengths .prices-long;
-          work = omega (arith, q .work-long);
-          from = q .from;
-          upTo = q .upTo;
-        }
-
-    pub go-on : {B′ : Buffers} {r : SolveAnswer} → passed ≡ verdict → Finished a B B′ r → Continued a B B′ r
-    go-on {B′} {r} v F =
-        let z : memoryVerdict a B ≡ passed = sym (v ∙ memory-is stored shared products c) in
-        record {
-          answer = F .answer ∙ ap (λ (x : Verdict). andThen x (outcomeVerdict (priceCount a) (solved (call a) (a .limit)))) (sym z);
-          buffers = F .buffers ∙ ap (λ (x : Verdict). ifPassed a x (leaves (call a) (words a) (room a) (a .limit) B) B) (sym z);
-          demand3 = λ _. F .demand3;
-        }
-
-    pub refused-here : (r : Refusal) → refusal r ≡ verdict → Continued a B B (answers.Refused r)
-    refused-here r v =
-        let z : memoryVerdict a B ≡ refusal r = sym (v ∙ memory-is stored shared products c) in
-        record {
-          answer = ap (λ (x : Verdict). andThen x (outcomeVerdict (priceCount a) (solved (call a) (a .limit)))) (sym z);
-          buffers = ap (λ (x : Verdict). ifPassed a x (leaves (call a) (words a) (room a) (a .limit) B) B) (sym z);
-          demand3 = λ p. absurd (not-passed (r .question) (r .place) (r .lane) (sym z ∙ p));
-        }
-
-    module _ (below : ℕ) (bound : EntriesBelow (a .m) (a .n) (a .s) (lengthsOf a B) (controlsOf a) below) where
-      -- the index memory after the yeses, and after a no
-      pub index-planned : passed ≡ verdict → indexed below (a .m) (a .n) (a .offsets) (a .columns) (B .index) ≡ words a ++ drop (sizeW (a .offsets) (a .columns) (a .m) (a .n)) (B .index)
-      index-planned v =
-          let q = sizes-of _ stored (a .m) (a .n) (a .s) (lengthsOf a B) (controlsOf a) (sym v) in
-          written-yes (a .m) (a .n) (a .offsets) (a .columns) (B .index) below (omega (arith, c .stored, bound .under _ stored (sym v))) (omega (arith, words-of (a .offsets) (a .columns) (a .m) (a .n) (a .s) stored shared products c, q .index-long))
-
-      pub index-kept : (r : Refusal) → refusal r ≡ verdict → indexed below (a .m) (a .n) (a .offsets) (a .columns) (B .index) ≡ B .index
-      index-kept r v =
-          written-other (a .m) (a .n) (a .offsets) (a .columns) (B .index) below
-          (λ l w. not-passed (r .question) (r .place) (r .lane) (v ∙ bound .yes _ stored (omega (arith, words-of (a .offsets) (a .columns) (a .m) (a .n) (a .s) stored shared products c, w)) (omega (arith, c .stored, l))))
-
-      -- what the tests start from, where the index memory is as `plan_below` leaves it
-      pub planned-here : (ok : Accepted (a .offsets) (a .columns) (a .m) (a .n)) → length (a .values) ≡ length (a .columns) → {index : List ℕ} → index ≡ indexed below (a .m) (a .n) (a .offsets) (a .columns) (B .index)
-          → passed ≡ verdict → Planned (a .offsets) (a .columns) (a .values) (planOf a stored shared products) index
-      planned-here ok values i v = record {
+  pub asked-all : Accepted (a .offsets) (a .columns) (a .m) (a .n) → length (a .values) ≡ length (a .columns) → passed ≡ memoryVerdict a B → Asked10 a B (planFor a .stored) (planFor a .shared) (planFor a .products)
+  unfolding memoryVerdict
+  asked-all ok values v =
+      let q = lengths-passed _ _ (a .m) (a .n) (a .s) (lengthsOf a B) (controlsOf a) (sym v) in
+      record {
         ok = ok;
         values = values;
-        entries = refl;
-        slack = asked-all ok values v .slack;
-        counts = c;
-        rest = drop (sizeW (a .offsets) (a .columns) (a .m) (a .n)) (B .index);
-        plan = i ∙ index-planned v;
+        counts = record { stored = refl; shared = refl; products = refl };
+        index = q .index-long;
+        slack = q .slack;
+        b-long = q .lengths .b-long;
+        c-long = q .lengths .c-long;
+        tol-long = q .lengths .tolerances-long;
+        output = q .lengths .output-long;
+        prices = q .lengths .prices-long;
+        work = q .work-long;
+        from = q .from;
+        upTo = q .upTo;
       }
+
+  pub go-on : {B′ : Buffers} {r : SolveAnswer} → passed ≡ memoryVerdict a B → Finished a B B′ r → Continued a B B′ r
+  go-on v F = record {
+    answer = F .answer ∙ ap (λ (x : Verdict). andThen x (outcomeVerdict (priceCount a) (solved (call a) (a .limit)))) v;
+    buffers = F .buffers ∙ ap (λ (x : Verdict). ifPassed a x (leaves (call a) (words a) (room a) (a .limit) B) B) v;
+    demand3 = λ _. F .demand3;
+  }
+
+  pub refused-here : (r : Refusal) → refusal r ≡ memoryVerdict a B → Continued a B B (answers.Refused r)
+  refused-here r v = record {
+    answer = ap (λ (x : Verdict). andThen x (outcomeVerdict (priceCount a) (solved (call a) (a .limit)))) v;
+    buffers = ap (λ (x : Verdict). ifPassed a x (leaves (call a) (words a) (room a) (a .limit) B) B) v;
+    demand3 = λ p. absurd (not-passed (r .question) (r .place) (r .lane) (v ∙ p));
+  }
 
   -- ---- questions 1 to 5
   abbrev early : Verdict

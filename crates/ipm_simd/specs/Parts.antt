@@ -1,21 +1,18 @@
 -- What the parts of a solve start from, and what they leave. Definitions only.
 use mathlib.Core.Path.{_≡_}
 use mathlib.Core.List.{List, _++_}
-use Prim.Native.Nat.{ℕ, _*_, _<_, _≤_}
+use Prim.Native.Nat.{ℕ, _*_, _≤_}
 use lib.ListN.{length, drop}
 use lib.Ieee.{Float}
 use Rattle.layout.specs.Layout.{workingSize}
-use Rattle.lanes.specs.declared.Controls.{Controls}
 use Rattle.csr.specs.Csr.{Accepted}
-use Rattle.csr.specs.Counts.{sizeW}
+use Rattle.csr.specs.Counts.{sizeW, Counted}
 use Rattle.machine.specs.Outcome.{largestLimit, solved}
 use Rattle.machine.specs.Demand3.{Buffers, leaves, Demand3}
 use Rattle.csr.specs.Verdict.{passed, andThen}
 use Rattle.layout.specs.declared.Plan.{Plan}
-use Rattle.memory.specs.Planned.{Counted}
-use Rattle.ipm_simd.specs.declared.Lengths.{Lengths}
 use Rattle.ipm_simd.specs.declared.SolveAnswer.{SolveAnswer}
-use Rattle.ipm_simd.specs.Solve.{Given, lent, call, words, room, priceCount, plannedHas, toldSolve, outcomeVerdict, sizesVerdict, memoryVerdict, ifPassed}
+use Rattle.ipm_simd.specs.Solve.{Given, lent, call, words, room, priceCount, plannedHas, toldSolve, outcomeVerdict, memoryVerdict, ifPassed}
 
 -- questions 1 to 10 got a yes, and E, S and D are counted; the tests need nothing of 13
 pub record Asked10 (a : Given) (B : Buffers) (stored shared products : ℕ) : Type 0 where
@@ -32,11 +29,6 @@ pub record Asked10 (a : Given) (B : Buffers) (stored shared products : ℕ) : Ty
   pub work : workingSize 4 (a .m) (a .n) (a .s) stored ≤ length (B .work)
   pub from : 1 ≤ a .limit
   pub upTo : a .limit ≤ largestLimit
-
--- questions 7 to 10 and 13 get a yes just where E is below r
-pub record EntriesBelow (m n s : ℕ) (L : Lengths) (k : Controls) (r : ℕ) : Type 0 where
-  pub yes : (W E : ℕ) → W ≤ L .index → E < r → sizesVerdict W E m n s L k ≡ passed
-  pub under : (W E : ℕ) → sizesVerdict W E m n s L k ≡ passed → E < r
 
 -- the tests were made: the answer, the lent lists and demand 3
 pub record Finished (a : Given) (B B′ : Buffers) (r : SolveAnswer) : Type 0 where

@@ -9,7 +9,7 @@ use lib.Ieee.{Float}
 use Rattle.layout.specs.Layout.{workingSize}
 use Rattle.lanes.specs.Controls.{controls, fractionsProper}
 use Rattle.lanes.specs.declared.Controls.{Controls}
-use Rattle.csr.specs.Verdict.{Verdict, passed, planned, refused, accepted as acceptedAt, ask, andThen, refusal}
+use Rattle.csr.specs.Verdict.{Verdict, passed, told, refused, accepted as acceptedAt, ask, andThen, refusal}
 use Rattle.csr.specs.Questions.{firstNo}
 use Rattle.csr.specs.Counts.{countE, sizeW, sizeF}
 use Rattle.csr.specs.Pattern.{has, row}
@@ -62,12 +62,12 @@ lent output prices index work = record { output = output; prices = prices; index
 
 -- each case of the answer, by document 01's number and values
 abbrev pub toldSolve : SolveAnswer → Verdict
-toldSolve (Accepted k count) = acceptedAt k count
+toldSolve (Accepted k count) = told (acceptedAt k count)
 toldSolve (Refused r) = refusal r
 
 -- how the tests end, as an answer, where y has so many numbers: 'accepted and the test', with 'its length beside the test'; 11 with its test and its lane; 12 with N
 abbrev pub outcomeVerdict : ℕ → Outcome → Verdict
-outcomeVerdict count (accepted k) = acceptedAt k count
+outcomeVerdict count (accepted k) = told (acceptedAt k count)
 outcomeVerdict count (noAt11 k l) = refused 11 k l
 outcomeVerdict count (noAt12 k) = refused 12 k 0
 
@@ -76,8 +76,8 @@ abbrev pub lengthsRight : ℕ → ℕ → Lengths → Bool
 lengthsRight m n L = eqb (L .b) (4 * m) && eqb (L .c) (4 * n) && eqb (L .tolerances) 12 && eqb (L .output) (4 * n) && eqb (L .prices) (4 * m)
 
 -- questions 6 to 10, then 13, by W, E, the sizes, the lengths of the lists, and what the caller set
-unfoldable pub sizesVerdict : ℕ → ℕ → ℕ → ℕ → ℕ → Lengths → Controls → Verdict
-sizesVerdict W E m n s L k =
+unfoldable pub lengthsVerdict : ℕ → ℕ → ℕ → ℕ → ℕ → Lengths → Controls → Verdict
+lengthsVerdict W E m n s L k =
     ask (leb W (L .index))
     (ask (leb s m)
     (ask (lengthsRight m n L)
@@ -139,9 +139,9 @@ module _ (a : Given) where
 
   -- questions 6 to 10 and 13 of a matrix that has passed 1 to 5
   unfoldable pub memoryVerdict : Buffers → Verdict
-  unfolding sizesVerdict sizeW countE
+  unfolding lengthsVerdict sizeW countE
   memoryVerdict B =
-      sizesVerdict (sizeW (a .offsets) (a .columns) (a .m) (a .n)) (countE (a .offsets) (a .columns) (a .m)) (a .m) (a .n) (a .s) (lengthsOf B) controlsOf
+      lengthsVerdict (sizeW (a .offsets) (a .columns) (a .m) (a .n)) (countE (a .offsets) (a .columns) (a .m)) (a .m) (a .n) (a .s) (lengthsOf B) controlsOf
 
   -- questions 1 to 10 and 13
   unfoldable pub begun : Buffers → Verdict
@@ -156,8 +156,7 @@ module _ (a : Given) where
   -- 'A no at 1 to 10 changes no buffer.' And 13: 'no buffer changed'
   abbrev pub ifPassed : Verdict → Buffers → Buffers → Buffers
   ifPassed passed new old = new
-  ifPassed (planned w) new old = old
-  ifPassed (acceptedAt k count) new old = old
+  ifPassed (told v) new old = old
   ifPassed (refused q p l) new old = old
 
   unfoldable pub solveBuffers : Buffers → Buffers

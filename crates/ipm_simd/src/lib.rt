@@ -2,7 +2,7 @@
 ghost use mathlib.Core.Path.{_≡_};
 ghost use mathlib.Core.Bool.{_&&_};
 ghost use mathlib.Core.List.{_++_};
-ghost use Prim.Native.Nat.{ℕ, _+_, _<_, _≤_};
+ghost use Prim.Native.Nat.{ℕ, _<_, _≤_};
 ghost use lib.Dec.{leb};
 ghost use lib.ListN.{length, drop, replicate};
 ghost use Rattle.csr.specs.Csr.{Accepted, maxStored};
@@ -12,19 +12,18 @@ ghost use Rattle.lanes.specs.Controls.{controls};
 ghost use Rattle.machine.specs.declared.Outcome.the-variants.{NoAt11};
 ghost use Rattle.machine.specs.Outcome.{largestLimit};
 ghost use Rattle.memory.specs.Planned.{Planned};
-ghost use Rattle.ipm_simd.specs.Solve.{given, lent, toldSolve, outcomeVerdict, lengthsRight, sizesVerdict, Solved};
-ghost use Rattle.ipm_simd.specs.Parts.{Asked10, EntriesBelow, Ends, Continued};
+ghost use Rattle.ipm_simd.specs.Solve.{given, lent, toldSolve, outcomeVerdict, lengthsRight, lengthsVerdict, Solved};
+ghost use Rattle.ipm_simd.specs.Parts.{Asked10, Ends, Continued};
 ghost use Rattle.csr.specs.Questions.{maxRows, maxColumns};
 use csr::Asked;
 use csr::Refusal;
 use lanes::Controls;
 use layout::Block;
+use layout::LANES;
 use layout::Plan;
 use machine::Outcome;
 
 // The questions that solve adds to those of plan.
-const SLACK_ROWS: u32 = 7;
-
 const LENGTHS: u32 = 8;
 
 const WORKING_MEMORY: u32 = 9;
@@ -36,8 +35,6 @@ const SPOILT: u32 = 11;
 const NOT_DONE: u32 = 12;
 
 const FRACTIONS: u32 = 13;
-
-const LANES: usize = 4;
 
 // The tolerances of the lanes: primal, dual, optimality.
 const TOLERANCES: usize = 3 * LANES;
@@ -91,9 +88,9 @@ fn limit_right(limit: usize) -> bool
 }
 
 // Questions 6 to 10 and 13, by W, the plan's sizes, the lengths of the lists and what the caller set.
-fn ask_sizes(words: usize, plan: Plan, lengths: Lengths, controls: Controls) -> Asked
+fn ask_lengths(words: usize, plan: Plan, lengths: Lengths, controls: Controls) -> Asked
     requires { ⌜ (plan .m ≤ maxRows) × (plan .n ≤ maxColumns) × (plan .stored ≤ maxStored) ⌝ }
-    ensures { λ r. ⌜ toldAsked r ≡ sizesVerdict words (plan .stored) (plan .m) (plan .n) (plan .s) lengths controls ⌝ }
+    ensures { λ r. ⌜ toldAsked r ≡ lengthsVerdict words (plan .stored) (plan .m) (plan .n) (plan .s) lengths controls ⌝ }
 {
     let m = plan.m;
     let n = plan.n;
@@ -102,7 +99,7 @@ fn ask_sizes(words: usize, plan: Plan, lengths: Lengths, controls: Controls) -> 
         return Asked::Refused(Refusal::new(Refusal::INDEX_MEMORY, 0, 0));
     }
     if m < s {
-        return Asked::Refused(Refusal::new(SLACK_ROWS, 0, 0));
+        return Asked::Refused(Refusal::new(Refusal::SLACK_ROWS, 0, 0));
     }
     if !lengths_right(m, n, lengths) {
         return Asked::Refused(Refusal::new(LENGTHS, 0, 0));
@@ -187,19 +184,7 @@ fn solve_planned(
     answer(outcome, prices.len())
 }
 
-// How many stored entries the working memory has no room for: questions 7 to 10 and 13 get a yes just where E is below this.
-fn entries_below(m: usize, n: usize, s: usize, lengths: Lengths, controls: Controls) -> usize
-    requires { ⌜ (m ≤ maxRows) × (n ≤ maxColumns) ⌝ }
-    ensures { λ r. ⌜ EntriesBelow m n s lengths controls r ⌝ }
-{
-    let empty = Plan::new(m, n, s, 0, 0, 0, 0);
-    match ask_sizes(0, empty, lengths, controls) {
-        Asked::Refused(_) => 0,
-        Asked::Good => (lengths.work - empty.numbers(LANES)) / LANES + 1,
-    }
-}
-
-// Questions 6 to 10 and 13 of a matrix that has passed 1 to 5, and the solve. The plan is written where all of them get a yes.
+// Questions 6 to 10 and 13 of a matrix that has passed 1 to 5, and the solve. The plan is written once all of them got a yes.
 fn solve_accepted(
     m: usize,
     n: usize,
@@ -228,27 +213,27 @@ fn solve_accepted(
         prices: prices.len(),
         work: work.len(),
     };
-    let below = entries_below(m, n, s, lengths, controls);
-    let sizes = ipm_common::plan_below(m, n, offsets, columns, index, below);
-    let e = sizes.e as usize;
-    let d = sizes.d as usize;
-    let plan = Plan::new(m, n, s, columns.len(), e, sizes.s, d);
-    match ask_sizes(plan.words(), plan, lengths, controls) {
+    let plan = counts::plan_sizes(m, n, s, offsets, columns);
+    match ask_lengths(plan.words(), plan, lengths, controls) {
         Asked::Refused(r) => SolveAnswer::Refused(r),
-        Asked::Good => solve_planned(
-            plan,
-            offsets,
-            columns,
-            values,
-            b,
-            c,
-            tolerances,
-            controls,
-            output,
-            prices,
-            index,
-            work,
-        ),
+        Asked::Good => {
+            // Question 6 got a yes, so this writes the plan.
+            ipm_common::plan_accepted(m, n, offsets, columns, index);
+            solve_planned(
+                plan,
+                offsets,
+                columns,
+                values,
+                b,
+                c,
+                tolerances,
+                controls,
+                output,
+                prices,
+                index,
+                work,
+            )
+        }
     }
 }
 

@@ -20,8 +20,8 @@ use Rattle.lanes.proofs.Lists.{grow-length}
 use Rattle.csr.specs.Pattern.{row}
 use Rattle.csr.specs.Csr.{Csr, Accepted}
 use Rattle.csr.specs.Counts.{countE, countS, countD, sizeW}
-use Rattle.csr.specs.Verdict.{Verdict, passed, planned, accepted, refused, ask, andThen}
-use Rattle.csr.specs.Questions.{maxRows, maxColumns, firstFrom, empty, badRow, offsetsRight, firstNo}
+use Rattle.csr.specs.Verdict.{Verdict, passed, told, refused, ask, andThen}
+use Rattle.csr.specs.Questions.{maxColumns, firstFrom, empty, badRow, offsetsRight, rowsRight, firstNo}
 use Rattle.csr.proofs.Yes.{accepted-of}
 use Rattle.lists.proofs.Few.{pairs-16, triples-16, stored-few, products-few, shared-few}
 use Rattle.machine.specs.declared.Outcome.{Outcome}
@@ -29,7 +29,7 @@ use Rattle.machine.specs.declared.Outcome.the-variants as outcomes
 use Rattle.machine.specs.Outcome.{largestLimit, solved}
 use Rattle.machine.specs.Demand3.{Buffers}
 use Rattle.ipm_simd.specs.declared.Lengths.{Lengths}
-use Rattle.ipm_simd.specs.Solve.{lengthsRight, outcomeVerdict, sizesVerdict, controlsOf, call, priceCount, lengthsOf, memoryVerdict, begun, solveVerdict}
+use Rattle.ipm_simd.specs.Solve.{lengthsRight, outcomeVerdict, lengthsVerdict, controlsOf, call, priceCount, lengthsOf, memoryVerdict, begun, solveVerdict}
 use Rattle.ipm_simd.proofs.Questions.{lengths-last}
 use Rattle.record.specs.Little.{shorts, floats}
 use Rattle.record.specs.Record.{mOf, nOf, sOf, tOf, limitOf, offsetsOf, columnsOf, valuesOf, mostRows, mostColumns, mostEntries, wellFormed, columnsAt}
@@ -41,8 +41,7 @@ use Rattle.reading.proofs.Parts.{zeros-long, blank-long}
 -- ---- answers that are no refusal at 6, 8, 9 or 13
 fine : Verdict → Bool
 fine passed = true
-fine (planned w) = true
-fine (accepted k count) = true
+fine (told a) = true
 fine (refused q p l) = not (eqb q 6 || eqb q 8 || eqb q 9 || eqb q 13)
 
 fine-not : (q p l : ℕ) → fine (refused q p l) ≡ true → (q ≢ 6) × (q ≢ 8) × (q ≢ 9) × (q ≢ 13)
@@ -60,8 +59,7 @@ sure t next other e f = rw e f
 then-fine : (v w : Verdict) → fine v ≡ true → (v ≡ passed → fine w ≡ true) → fine (andThen v w) ≡ true
 unfolding fine
 then-fine passed w f g = g refl
-then-fine (planned k) w f g = refl
-then-fine (accepted k count) w f g = refl
+then-fine (told a) w f g = refl
 then-fine (refused q p l) w f g = f
 
 -- questions 1 to 5
@@ -70,7 +68,7 @@ unfolding fine firstNo
 early-fine m n off cols values =
     let e = firstFrom (empty off) 0 m in
     let b = firstFrom (λ (i : ℕ). badRow n (row off cols i)) 0 m in
-    either (leb 1 m && leb m maxRows) _ 1 0 0 refl
+    either (rowsRight m) _ 1 0 0 refl
     (λ _. either (leb 1 n && leb n maxColumns) _ 2 0 0 refl
     (λ _. either (offsetsRight m off (length cols) values) _ 3 0 0 refl
     (λ _. either (not (ltb e m)) _ 4 e 0 refl
@@ -78,10 +76,10 @@ early-fine m n off cols values =
     (λ _. refl)))))
 
 -- questions 6 to 10 and 13
-sizes-fine : (W E m n s : ℕ) (L : Lengths) (k : Controls) → W ≤ L .index → lengthsRight m n L ≡ true → (s ≤ m → workingSize 4 m n s E ≤ L .work) → fractionsProper k ≡ true
-    → fine (sizesVerdict W E m n s L k) ≡ true
-unfolding fine sizesVerdict
-sizes-fine W E m n s L k six eight nine proper =
+lengths-fine : (W E m n s : ℕ) (L : Lengths) (k : Controls) → W ≤ L .index → lengthsRight m n L ≡ true → (s ≤ m → workingSize 4 m n s E ≤ L .work) → fractionsProper k ≡ true
+    → fine (lengthsVerdict W E m n s L k) ≡ true
+unfolding fine lengthsVerdict
+lengths-fine W E m n s L k six eight nine proper =
     sure (leb W (L .index)) _ _ (le-leb W (L .index) six)
     (either (leb s m) _ 7 0 0 refl
     (λ t. sure (lengthsRight m n L) _ _ eight
@@ -134,7 +132,7 @@ module _ (s : List ℕ) (w : wellFormed s ≡ true) where
       let W = own-whole s w in
       let short : length (columnsOf s) ≤ mostEntries = omega (arith, shorts-long s (columnsAt (mOf s)) (tOf s), W .entries) in
       let L = lengthsOf (givenOf s) memories in
-      sizes-fine _ (countE (offsetsOf s) (columnsOf s) (mOf s)) (mOf s) (nOf s) (sOf s) L (controlsOf (givenOf s))
+      lengths-fine _ (countE (offsetsOf s) (columnsOf s) (mOf s)) (mOf s) (nOf s) (sOf s) L (controlsOf (givenOf s))
       (omega (arith, words-most (offsetsOf s) (columnsOf s) (mOf s) (nOf s) (ok .csr) (W .rows) (W .columns) short, zeros-long indexWords))
       (sym (lengths-last (mOf s) (nOf s) L (floats-long s _ _) (floats-long s _ _) (floats-long s _ _) (blank-long (4 * nOf s))) ∙ eq-eqb _ _ (blank-long (4 * mOf s)))
       (λ slack. omega (arith, numbers-most (offsetsOf s) (columnsOf s) (mOf s) (nOf s) (ok .csr) (W .rows) (W .columns) (sOf s) slack, blank-long workFloats))

@@ -6,18 +6,23 @@ use lib.ListN.{replicate}
 use lib.Ieee.{Float, binary64, ofBits}
 use Rattle.layout.specs.Layout.{workingSize}
 use Rattle.lanes.specs.Controls.{standardControls}
-use Rattle.csr.specs.Verdict.{Verdict, passed, planned, accepted, refused}
+use Rattle.csr.specs.Verdict.{Verdict, Told, passed, told, planned, accepted, sized, costs, refused}
 use Rattle.machine.specs.Demand3.{Buffers}
 use Rattle.ipm_simd.specs.Solve.{Given, given, lent, solveVerdict, solveBuffers}
 use Rattle.record.specs.Record.{mOf, nOf, sOf, limitOf, offsetsOf, columnsOf, valuesOf, tolerancesOf, bOf, cOf, wellFormed, mostRows, mostColumns, mostEntries}
 use Rattle.answer_text.specs.Text.{acceptedBytes, acceptedText, refusedText, inputText}
 
 -- the text of what a solve of n columns tells; it tells nothing else
+abbrev pub toldText : Told → List Float → ℕ → List ℕ
+toldText (accepted test count) x n = acceptedText test x n
+toldText (planned w) x n = []
+toldText (sized e s d w f) x n = []
+toldText (costs e d) x n = []
+
 abbrev pub verdictText : Verdict → List Float → ℕ → List ℕ
-verdictText (accepted test count) x n = acceptedText test x n
+verdictText (told a) x n = toldText a x n
 verdictText (refused question place lane) x n = refusedText question place lane
 verdictText passed x n = []
-verdictText (planned w) x n = []
 
 -- the text of a solve, by what is given and lent
 unfoldable pub solveText : Given → Buffers → List ℕ
