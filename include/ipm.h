@@ -32,10 +32,10 @@ enum { IPM_LANES = 4, IPM_ROWS_MOST = 256, IPM_COLUMNS_MOST = 1024, IPM_ENTRIES_
 #define IPM_DAMPING 0.9995
 
 /*
- * An answer is length * 2^48 + question * 2^40 + place * 2^8 + lane. Question 0 is a yes; its place is W (ipm_plan) or
- * the test at which all lanes were done, counted from 1 (ipm_solve). Any other question is the first that had a no.
- * Length is 4 m, the numbers written to `prices`, after a yes of ipm_solve. Length, place and lane are 0 where nothing
- * is said of them.
+ * An answer is length * 2^48 + question * 2^40 + place * 2^8 + lane. Question 0 is a yes; its place is W (ipm_sizes,
+ * ipm_plan) or the test at which all lanes were done, counted from 1 (ipm_solve). Any other question is the first that
+ * had a no. Length is 4 m, the numbers written to `prices`, after a yes of ipm_solve. Length, place and lane are 0
+ * where nothing is said of them.
  */
 enum {
     IPM_YES = 0,
@@ -60,17 +60,43 @@ static inline uint32_t ipm_place(uint64_t answer) { return (uint32_t)(answer >> 
 static inline unsigned ipm_lane(uint64_t answer) { return (unsigned)(answer & 0xff); }
 
 /*
+ * Says how much memory a matrix needs, without a plan: asks questions 1 to 5 in order, then 7. After six yeses it
+ * writes E, S, D, W and F (see 'Memory' below) and answers W as the place. A no leaves all five as they were. It is
+ * lent no memory, so this call also serves to ask about a matrix.
+ */
+uint64_t ipm_sizes(
+    size_t m,                                    /* rows, 1 to 256 */
+    size_t n,                                    /* columns, 1 to 1,024 */
+    size_t s,                                    /* rows 0 to s - 1 are <= b, the others = b; at most m */
+    const uint32_t *offsets, size_t offsets_len, /* m + 1: row i's entries are offsets[i] .. offsets[i + 1] - 1 */
+    const uint32_t *columns, size_t columns_len, /* t, at most 16,384: each entry's column, rising in each row */
+    uint64_t *e,                                 /* E: entries of the factor */
+    uint64_t *s_count,                           /* S: pairs of entries that share a column */
+    uint64_t *d,                                 /* D: products that the factor's entries take off */
+    uint64_t *w,                                 /* W: words of index memory */
+    uint64_t *f);                                /* F: numbers of working memory */
+
+/*
+ * The costliest pattern of m rows, one column shared by all: asks question 1 and, after a yes, writes its E and D. No
+ * matrix of m rows has more of either. A no leaves both as they were.
+ */
+uint64_t ipm_costliest(
+    size_t m,     /* rows, 1 to 256 */
+    uint64_t *e,  /* E: m (m + 1) / 2 */
+    uint64_t *d); /* D: (m - 1) m (m + 1) / 6 */
+
+/*
  * Plans the factor of a matrix: asks questions 1 to 6 in order and, after six yeses, writes the plan to the first W
  * words of `index`, leaves the rest and answers W as the place. A no changes nothing.
  *
- * ipm_solve plans for itself, so this call serves to learn W, to ask about a matrix, or to look at the lists.
+ * ipm_solve plans for itself, so this call serves to look at the lists.
  */
 uint64_t ipm_plan(
-    size_t m,                                  /* rows, 1 to 256 */
-    size_t n,                                  /* columns, 1 to 1,024 */
+    size_t m,                                    /* rows, 1 to 256 */
+    size_t n,                                    /* columns, 1 to 1,024 */
     const uint32_t *offsets, size_t offsets_len, /* m + 1: row i's entries are offsets[i] .. offsets[i + 1] - 1 */
     const uint32_t *columns, size_t columns_len, /* t, at most 16,384: each entry's column, rising in each row */
-    uint32_t *index, size_t index_len);          /* at least W words; see ipm_index_enough */
+    uint32_t *index, size_t index_len);          /* at least W words; see ipm_sizes */
 
 /*
  * Solves the four lanes: asks questions 1 to 10 in order, then 13, then 11 and 12 test by test. A no at 1 to 10 or 13
@@ -100,36 +126,44 @@ uint64_t ipm_solve(
     double damping,                              /* above 0 and below 1, for all lanes; IPM_DAMPING */
     double *output, size_t output_len,           /* 4 n: x, lane l of column e at 4 e + l */
     double *prices, size_t prices_len,           /* 4 m: y, lane l of row i at 4 i + l */
-    uint32_t *index, size_t index_len,           /* at least W words; see ipm_index_enough */
-    double *work, size_t work_len);              /* at least F numbers; see ipm_work_enough */
+    uint32_t *index, size_t index_len,           /* at least W words; see ipm_sizes */
+    double *work, size_t work_len);              /* at least F numbers; see ipm_sizes */
 
 /* The bits of the IEEE 754 square root of the binary64 number with these bits; NaN and below zero: 7FF8000000000000. */
 uint64_t ipm_root_bits(uint64_t bits);
 
 /*
- * Memory. With E entries of the factor, S pairs of entries that share a column and D products,
+ * Memory. With E entries of the factor, S pairs of entries that share a column (each entry with itself, too) and D
+ * products,
  *
  *     W = 5 E + 3 S + 2 D + 3 m + n + 2 t + 5     and     F = 4 (5 n + 3 m + 2 s + E).
  *
- * E, S and D depend on where the entries stand. The two functions below give enough for any matrix of a size, as
- * though the factor were full; a sparse matrix needs far less. To hold just W words, call ipm_plan once in memory
- * that is enough (or in memory that grows while the answer is IPM_INDEX) and take the place of its yes. Sizes beyond
- * the limits give 0: such a call is refused before memory is asked about.
+ * E, S and D depend on where the entries stand and not on their values.
+ *
+ * A matrix at hand: ipm_sizes gives its W and F. With just W words of `index` and F numbers of `work` a solve passes
+ * questions 6 and 9; with one less of either it does not.
+ *
+ * Before its entries are known: E and D are at most those of ipm_costliest, and S is at most t (m + 1) / 2, since r
+ * rows that hold one column make r (r + 1) / 2 pairs and r is at most m. The formulas above with these three give
+ * enough for any matrix of m rows, n columns and at most t entries: ipm_index_enough and ipm_work_enough. A sparse
+ * matrix needs far less.
+ *
+ * Sizes beyond the limits give 0: such a call is refused before memory is asked about.
  */
 static inline int ipm_size_right(size_t m, size_t n, size_t t) {
     return m <= IPM_ROWS_MOST && n <= IPM_COLUMNS_MOST && t <= IPM_ENTRIES_MOST;
 }
 
-/* At most 12,107,397 words. */
+/* W with these three, at most 12,107,397 words. */
 static inline size_t ipm_index_enough(size_t m, size_t n, size_t t) {
     if (!ipm_size_right(m, n, t)) return 0;
-    size_t stored = m * (m + 1) / 2;               /* E: all pairs of rows */
-    size_t shared = t * (m + 1) / 2;               /* S: all columns full */
-    size_t products = m * (m + 1) / 2 * (m + 2) / 3 - stored; /* D: all k < j <= i */
+    size_t stored = m * (m + 1) / 2;                 /* E of ipm_costliest */
+    size_t shared = t * (m + 1) / 2;                 /* S, as though every column were full */
+    size_t products = stored * (m + 2) / 3 - stored; /* D of ipm_costliest */
     return 5 * stored + 3 * shared + 2 * products + 3 * m + n + 2 * t + 5;
 }
 
-/* At most 157,184 numbers. */
+/* F with this E, at most 157,184 numbers. */
 static inline size_t ipm_work_enough(size_t m, size_t n, size_t s) {
     if (!ipm_size_right(m, n, 0) || s > m) return 0;
     return IPM_LANES * (5 * n + 3 * m + 2 * s + m * (m + 1) / 2);

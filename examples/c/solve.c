@@ -3,10 +3,12 @@
  *
  *     maximise 2 x0 + x1   where   x0 + x1 <= b0,  x0 <= b1,  x1 <= b2
  *
- * with right sides of its own in each lane; y0 to y2 are the prices of the rows. Then calls with a centring that is not
- * a number, which are refused. Ends with status 0 if every x is the known best one and b.y is c.x (what a lane gets is
- * the price of its limits), and if each refusal names its question.
+ * with right sides of its own in each lane; y0 to y2 are the prices of the rows. The memory is what ipm_sizes says, and
+ * no more. Then calls that are refused: with one number less of working memory, and with a centring that is not a
+ * number. Ends with status 0 if every x is the known best one and b.y is c.x (what a lane gets is the price of its
+ * limits), and if each refusal names its question.
  */
+#include <inttypes.h>
 #include <math.h>
 #include <stdio.h>
 #include <stdlib.h>
@@ -32,13 +34,13 @@ static const double tolerances[3 * IPM_LANES] = {
 static const double best[IPM_LANES * N] = {3.0, 3.0, 2.0, 1.0, 1.0, 2.0, 0.0, 1.0};
 static const double near = 1e-6;
 
-/* The memory lent to every solve. */
+/* The memory lent to every solve: W words of index and F numbers of work. */
 struct memory {
     double x[IPM_LANES * N], prices[IPM_LANES * M];
     uint32_t *index;
-    size_t index_len;
+    uint64_t index_len;
     double *work;
-    size_t work_len;
+    uint64_t work_len;
 };
 
 static uint64_t solve(size_t b_len, size_t limit, double centring, struct memory *lent) {
@@ -62,10 +64,16 @@ static int is_refused_at(unsigned question, uint64_t answer) {
     return ipm_question(answer) == question;
 }
 
-/* Whether a centring that is not a number is refused, and at an earlier question if that has a no too. */
+/*
+ * Whether one number less of working memory is refused; and a centring that is not a number, at an earlier question if
+ * that has a no too.
+ */
 static int refuses(struct memory *lent) {
     size_t b_len = IPM_LANES * M;
-    int right = is_refused_at(IPM_FRACTIONS, solve(b_len, LIMIT, NAN, lent));
+    struct memory less = *lent;
+    less.work_len--;
+    int right = is_refused_at(IPM_WORK, solve(b_len, LIMIT, IPM_CENTRING, &less));
+    right = is_refused_at(IPM_FRACTIONS, solve(b_len, LIMIT, NAN, lent)) && right;
     right = is_refused_at(IPM_LIMIT, solve(b_len, 0, NAN, lent)) && right;
     return is_refused_at(IPM_LENGTHS, solve(b_len - 1, LIMIT, NAN, lent)) && right;
 }
@@ -103,14 +111,15 @@ static int show(uint64_t answer, const struct memory *lent) {
 }
 
 int main(void) {
-    struct memory lent = {.index_len = ipm_index_enough(M, N, T), .work_len = ipm_work_enough(M, N, S)};
+    struct memory lent = {.index = NULL};
+    uint64_t e, s, d;
+    uint64_t answer = ipm_sizes(M, N, S, offsets, M + 1, columns, T, &e, &s, &d, &lent.index_len, &lent.work_len);
+    if (ipm_question(answer) != IPM_YES) return failed(answer);
+    printf("E %" PRIu64 ", S %" PRIu64 ", D %" PRIu64 ": %" PRIu64 " index words, %" PRIu64 " working numbers\n", e,
+           s, d, lent.index_len, lent.work_len);
     lent.index = malloc(lent.index_len * sizeof *lent.index);
     lent.work = malloc(lent.work_len * sizeof *lent.work);
     if (!lent.index || !lent.work) return EXIT_FAILURE;
-
-    uint64_t answer = ipm_plan(M, N, offsets, M + 1, columns, T, lent.index, lent.index_len);
-    if (ipm_question(answer) != IPM_YES) return failed(answer);
-    printf("the plan takes %u words of %zu lent\n", (unsigned)ipm_place(answer), lent.index_len);
 
     answer = solve(IPM_LANES * M, LIMIT, IPM_CENTRING, &lent);
     int status = ipm_question(answer) == IPM_YES ? show(answer, &lent) : failed(answer);

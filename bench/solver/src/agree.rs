@@ -1,8 +1,11 @@
-//! Before anything is timed: the same lists, the same test and the same bits of x and y.
+//! Before anything is timed: the same lists, the sizes that they have, the same test and the same bits of x and y.
 
 use std::panic::{AssertUnwindSafe, catch_unwind};
 
+use ipm::library::Sizes;
+
 use crate::ours::Ours;
+use crate::plan::{Lists, listed_counts, work_numbers};
 use crate::problem::Problem;
 use crate::rust::{self, Solved};
 
@@ -14,9 +17,6 @@ pub struct Counts {
     pub tests: usize,
 }
 
-/// The list whose length is the number of stored entries.
-const LINDICES: usize = 9;
-
 fn bits(numbers: &[f64]) -> Vec<u64> {
     numbers.iter().map(|number| number.to_bits()).collect()
 }
@@ -27,14 +27,30 @@ fn rust_solved(problem: &Problem, limit: usize) -> Option<Solved> {
     catch_unwind(AssertUnwindSafe(|| rust::solve_with(&mut rust::solver(&problem), &problem))).ok()
 }
 
+/// E, S, D and W as the Rust's lists have them, and F by its formula.
+fn listed_sizes(problem: &Problem, lists: &Lists) -> Sizes {
+    let counts = listed_counts(lists);
+    Sizes {
+        stored: counts.stored,
+        shared: counts.shared,
+        products: counts.products,
+        words: lists.iter().map(Vec::len).sum(),
+        numbers: work_numbers(&problem.matrix, problem.s, counts),
+    }
+}
+
 /// The two sides beside each other; what differs is the error.
 pub fn check(problem: &Problem) -> Result<(Ours, Counts), String> {
     let lists = rust::lists(&problem.matrix);
-    let (stored, rust_words) = (lists[LINDICES].len(), lists.concat());
-    let mut ours = Ours::new(problem, rust_words.len(), stored);
+    let listed = listed_sizes(problem, &lists);
+    let mut ours = Ours::new(problem, listed);
     let planned = ours.plan();
-    if (planned.question, planned.place as usize) != (0, rust_words.len()) || ours.words() != rust_words {
+    if (planned.question, planned.place as usize) != (0, listed.words) || ours.words() != lists.concat() {
         return Err(format!("the plans differ: {planned:?}"));
+    }
+    let sizes = ours.sizes();
+    if sizes != Ok(listed) {
+        return Err(format!("the sizes differ: {sizes:?}, not {listed:?}"));
     }
     let solved = ours.solve(problem.limit);
     if solved.question != 0 {
@@ -51,5 +67,5 @@ pub fn check(problem: &Problem) -> Result<(Ours, Counts), String> {
     if tests > 1 && rust_solved(problem, tests - 1).is_some() {
         return Err(format!("the Rust is done before test {tests}"));
     }
-    Ok((ours, Counts { stored, words: rust_words.len(), tests }))
+    Ok((ours, Counts { stored: listed.stored, words: listed.words, tests }))
 }

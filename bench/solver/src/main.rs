@@ -1,10 +1,11 @@
-//! Times plan and solve, ours and the unchanged Rust, in one run on the same inputs.
+//! Times plan and solve, ours and the unchanged Rust, in one run on the same inputs; and sizes, ours alone.
 //!
 //! - plan: the Rust checks the lists, makes its thirteen and the transpose; ours is `ipm_plan`.
 //! - solve: from the lists to x. The Rust is `from_data` and `solve`; ours is `ipm_solve`, which plans for itself.
 //! - test: one test with its step. The Rust is `solve` over the number of tests; ours is `ipm_solve` less `ipm_plan`
 //!   over the same number.
 //! - again: the Rust's `solve` on a solver made before; ours is `ipm_solve`, which plans every time.
+//! - sizes: ours is `ipm_sizes`, beside our own `ipm_plan`. The Rust has no such call.
 //!
 //! Both sides accept at the same test: the limit is that test, so nothing panics under the clock. What the Rust is
 //! given by value is cloned before the clock starts, and what it made is dropped after it stops.
@@ -50,6 +51,7 @@ struct Times {
     rust_setup: Time,
     rust_solve: Time,
     our_solve: Time,
+    our_sizes: Time,
 }
 
 fn rust_plan(problem: &Problem) -> Piece<'_> {
@@ -83,15 +85,29 @@ fn timed(problem: &Problem, ours: Ours, budget: Duration) -> Times {
         rust_setup(problem),
         Piece::new(|| (), |()| solver.solve(&sides.b, &sides.c, &sides.tolerances, sides.limit)[0]),
         Piece::new(|| (), |()| ours.borrow_mut().solve(problem.limit)),
+        Piece::new(|| (), |()| ours.borrow().sizes()),
     ];
     sample_in_turn(&mut pieces, budget);
-    let [rust_plan, our_plan, rust_setup, rust_solve, our_solve] = pieces.map(Piece::time);
-    Times { rust_plan, our_plan, rust_setup, rust_solve, our_solve }
+    let [rust_plan, our_plan, rust_setup, rust_solve, our_solve, our_sizes] = pieces.map(Piece::time);
+    Times { rust_plan, our_plan, rust_setup, rust_solve, our_solve, our_sizes }
 }
 
 /// Ours, the Rust's and the ratio, in microseconds.
 fn pair(ours: f64, rust: f64) -> String {
     format!("{:>9.1} {:>9.1} {:>5.2} |", 1e6 * ours, 1e6 * rust, ours / rust)
+}
+
+/// Ours and its ratio to our own plan, in microseconds.
+fn beside_plan(times: &Times) -> String {
+    let (sizes, plan) = (times.our_sizes.best, times.our_plan.best);
+    format!("{:>9.2} {:>5.2} |", 1e6 * sizes, sizes / plan)
+}
+
+/// How much slower the middle sample is than the best, for the worst of the pieces.
+fn worst_spread(times: &Times) -> f64 {
+    let Times { rust_plan, our_plan, rust_setup, rust_solve, our_solve, our_sizes } = times;
+    let all = [rust_plan, our_plan, rust_setup, rust_solve, our_solve, our_sizes];
+    all.iter().map(|time| time.spread()).fold(0.0, f64::max)
 }
 
 fn row(case: &Case, counts: Counts, times: &Times) -> String {
@@ -105,26 +121,27 @@ fn row(case: &Case, counts: Counts, times: &Times) -> String {
         counts.words,
         counts.tests
     );
-    let all = [&times.rust_plan, &times.our_plan, &times.rust_setup, &times.rust_solve, &times.our_solve];
-    let spread = all.iter().map(|time| time.spread()).fold(0.0, f64::max);
     format!(
-        "| {:<18} | {sizes} |{}{}{}{} {spread:>4.0} |",
+        "| {:<18} | {sizes} |{}{}{}{}{} {:>4.0} |",
         case.name,
         pair(times.our_plan.best, times.rust_plan.best),
         pair(times.our_solve.best, times.rust_setup.best + times.rust_solve.best),
         pair((times.our_solve.best - times.our_plan.best) / tests, times.rust_solve.best / tests),
         pair(times.our_solve.best, times.rust_solve.best),
+        beside_plan(times),
+        worst_spread(times),
     )
 }
 
 fn header() {
     println!("Times in microseconds, the best of many samples: ours, the Rust's, ours over the Rust's.");
+    println!("sizes: ours, and ours over our own plan, since the Rust has no such call.");
     println!(
-        "spread: how much slower the middle sample is than the best, in percent, the worst of the five pieces timed."
+        "spread: how much slower the middle sample is than the best, in percent, the worst of the six pieces timed."
     );
     println!();
-    println!("| case | m, n, t, E, W, tests | plan | solve | test | again | spread |");
-    println!("|---|---|---|---|---|---|---|");
+    println!("| case | m, n, t, E, W, tests | plan | solve | test | again | sizes | spread |");
+    println!("|---|---|---|---|---|---|---|---|");
 }
 
 fn run(seconds: f64, names: &[String]) -> Result<(), String> {
@@ -139,7 +156,7 @@ fn run(seconds: f64, names: &[String]) -> Result<(), String> {
         println!("{}", row(&case, counts, &times));
     }
     println!();
-    println!("Plans, tests and bits of x and y agree in every case.");
+    println!("Plans, sizes, tests and bits of x and y agree in every case.");
     Ok(())
 }
 

@@ -1,6 +1,6 @@
 //! The static library, with memory lent once for all calls.
 
-use ipm::library::{self, Answer, Lent, Sides};
+use ipm::library::{self, Answer, Lent, Sides, Sizes};
 
 use crate::problem::{LANES, Problem};
 
@@ -14,10 +14,9 @@ pub struct Ours {
 }
 
 impl Ours {
-    /// Lends exactly W words and F numbers; `words` is W and `stored` is E.
-    pub fn new(problem: &Problem, words: usize, stored: usize) -> Self {
+    /// Lends exactly W words and F numbers.
+    pub fn new(problem: &Problem, sizes: Sizes) -> Self {
         let matrix = &problem.matrix;
-        let work = LANES * (5 * matrix.n + 3 * matrix.m + 2 * problem.s + stored);
         Ours {
             matrix: library::Matrix {
                 m: matrix.m,
@@ -30,9 +29,13 @@ impl Ours {
             problem: problem.clone(),
             output: vec![0.0; LANES * matrix.n],
             prices: vec![0.0; LANES * matrix.m],
-            index: vec![0; words],
-            work: vec![0.0; work],
+            index: vec![0; sizes.words],
+            work: vec![0.0; sizes.numbers],
         }
+    }
+
+    pub fn sizes(&self) -> Result<Sizes, Answer> {
+        library::sizes(&self.matrix)
     }
 
     pub fn plan(&mut self) -> Answer {

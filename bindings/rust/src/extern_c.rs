@@ -1,6 +1,23 @@
 //! The functions of the static library as C has them; `include/ipm.h` says what each is.
 
 unsafe extern "C" {
+    pub fn ipm_sizes(
+        m: usize,
+        n: usize,
+        s: usize,
+        offsets: *const u32,
+        offsets_len: usize,
+        columns: *const u32,
+        columns_len: usize,
+        e: &mut u64,
+        s_count: &mut u64,
+        d: &mut u64,
+        w: &mut u64,
+        f: &mut u64,
+    ) -> u64;
+
+    pub safe fn ipm_costliest(m: usize, e: &mut u64, d: &mut u64) -> u64;
+
     pub fn ipm_plan(
         m: usize,
         n: usize,

@@ -3,8 +3,11 @@
 
 use crate::{CENTRING, DAMPING, extern_c};
 
-/// An answer taken apart. Question 0 is a yes, and its place is W or the test. Length is that of y after an accepted
-/// solve, and 0 otherwise.
+/// The question of a yes.
+pub const YES: u32 = 0;
+
+/// An answer taken apart. Question 0 is a yes, and its place is W, the test, or 0 for [`costliest`]. Length is that of
+/// y after an accepted solve, and 0 otherwise.
 #[derive(Clone, Copy, Debug, PartialEq, Eq)]
 pub struct Answer {
     pub length: u16,
@@ -18,6 +21,11 @@ impl Answer {
     fn from_code(code: u64) -> Self {
         let question = (code >> 40) as u8;
         Answer { length: (code >> 48) as u16, question: question.into(), place: (code >> 8) as u32, lane: code as u8 }
+    }
+
+    /// What a call tells after a yes, or the no.
+    fn after_yes<T>(self, told: T) -> Result<T, Answer> {
+        if self.question == YES { Ok(told) } else { Err(self) }
     }
 }
 
@@ -49,10 +57,66 @@ pub struct Lent<'a> {
     pub work: &'a mut [f64],
 }
 
-/// Questions 1 to 6 and the plan.
-pub fn plan(matrix: &Matrix, index: &mut [u32]) -> Answer {
+/// What a matrix needs.
+#[derive(Clone, Copy, Debug, PartialEq, Eq)]
+pub struct Sizes {
+    /// E: entries of the factor.
+    pub stored: usize,
+    /// S: pairs of entries that share a column, each entry with itself, too.
+    pub shared: usize,
+    /// D: products that the factor's entries take off.
+    pub products: usize,
+    /// W: words of index memory.
+    pub words: usize,
+    /// F: numbers of working memory.
+    pub numbers: usize,
+}
+
+/// The most that any matrix of so many rows has.
+#[derive(Clone, Copy, Debug, PartialEq, Eq)]
+pub struct Costliest {
+    /// E: entries of the factor.
+    pub stored: usize,
+    /// D: products that the factor's entries take off.
+    pub products: usize,
+}
+
+/// Questions 1 to 5 and 7, and what the matrix needs, or the no. Values are not asked about.
+pub fn sizes(matrix: &Matrix) -> Result<Sizes, Answer> {
+    let mut counts = [0; 5];
+    let [e, s, d, w, f] = &mut counts;
     // Safety: every pointer comes with the length of its own slice, and slices of Rust that are written do not overlap
     // others.
+    let answer = Answer::from_code(unsafe {
+        extern_c::ipm_sizes(
+            matrix.m,
+            matrix.n,
+            matrix.s,
+            matrix.offsets.as_ptr(),
+            matrix.offsets.len(),
+            matrix.columns.as_ptr(),
+            matrix.columns.len(),
+            e,
+            s,
+            d,
+            w,
+            f,
+        )
+    });
+    let [stored, shared, products, words, numbers] = counts.map(|count| count as usize);
+    answer.after_yes(Sizes { stored, shared, products, words, numbers })
+}
+
+/// Question 1, and the most that any m rows have, which is what m rows of one column have, or the no.
+pub fn costliest(m: usize) -> Result<Costliest, Answer> {
+    let (mut e, mut d) = (0, 0);
+    let answer = Answer::from_code(extern_c::ipm_costliest(m, &mut e, &mut d));
+    answer.after_yes(Costliest { stored: e as usize, products: d as usize })
+}
+
+/// Questions 1 to 6 and the plan.
+pub fn plan(matrix: &Matrix, index: &mut [u32]) -> Answer {
+    // Safety: as for `sizes`.
     Answer::from_code(unsafe {
         extern_c::ipm_plan(
             matrix.m,
@@ -74,7 +138,7 @@ pub fn solve(matrix: &Matrix, sides: Sides<'_>, lent: Lent<'_>) -> Answer {
 
 /// Questions 1 to 10, then 13, then 11 and 12 test by test; x and y.
 pub fn solve_with(matrix: &Matrix, sides: Sides<'_>, lent: Lent<'_>, centring: f64, damping: f64) -> Answer {
-    // Safety: as for `plan`.
+    // Safety: as for `sizes`.
     Answer::from_code(unsafe {
         extern_c::ipm_solve(
             matrix.m,

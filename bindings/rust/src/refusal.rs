@@ -2,7 +2,7 @@
 
 use std::fmt;
 
-use crate::library::Answer;
+use crate::library::{Answer, YES};
 
 /// The first question that had a no. The cases stand in the order in which the questions are asked.
 #[derive(Clone, Copy, Debug, PartialEq, Eq)]
@@ -60,9 +60,13 @@ impl Refusal {
 
     /// The place of a yes, or the refusal.
     pub(crate) fn unless_yes(answer: Answer) -> Result<usize, Refusal> {
-        let place = answer.place as usize;
-        Err(match answer.question {
-            0 => return Ok(place),
+        if answer.question == YES { Ok(answer.place as usize) } else { Err(Refusal::of(answer)) }
+    }
+
+    /// The refusal that a no tells.
+    pub(crate) fn of(no: Answer) -> Refusal {
+        let place = no.place as usize;
+        match no.question {
             1 => Refusal::Rows,
             2 => Refusal::Columns,
             3 => Refusal::Lists,
@@ -73,11 +77,11 @@ impl Refusal {
             8 => Refusal::Lengths,
             9 => Refusal::WorkingMemory,
             10 => Refusal::Limit,
-            11 => Refusal::Spoilt { test: place, lane: answer.lane.into() },
+            11 => Refusal::Spoilt { test: place, lane: no.lane.into() },
             12 => Refusal::NotDone { limit: place },
             13 => Refusal::Fractions,
             question => Refusal::Unknown { question },
-        })
+        }
     }
 }
 

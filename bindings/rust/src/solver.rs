@@ -5,12 +5,8 @@ use std::num::NonZeroUsize;
 use crate::library::{self, Lent, Matrix, Sides};
 use crate::{CENTRING, DAMPING, LANES, Refusal};
 
-const MOST_ROWS: usize = 256;
-const MOST_COLUMNS: usize = 1024;
-const MOST_ENTRIES: usize = 16384;
-
-/// The question that follows 1 to 7.
-const LENGTHS: u32 = 8;
+/// The question that follows 1 to 5.
+const INDEX_MEMORY: u32 = 6;
 
 /// What each lane's residuals have to stay below.
 #[derive(Clone, Copy, Debug, PartialEq)]
@@ -76,7 +72,7 @@ pub struct Solver {
 
 impl Solver {
     /// Takes a matrix in compressed rows; its first `num_inequality_constraints` rows are inequalities. Refuses what
-    /// any solve would refuse: questions 1 to 7.
+    /// any solve would refuse: questions 1 to 5 and 7.
     pub fn from_data(
         num_rows: usize,
         num_cols: usize,
@@ -93,13 +89,10 @@ impl Solver {
             columns: words(&col_indices),
             values,
         };
-        let mut index = vec![0; index_enough(&matrix)];
-        ask_about(&matrix, &mut index)?;
-        let plan_words = Refusal::unless_yes(library::plan(&matrix, &mut index))?;
-        index.truncate(plan_words);
-        index.shrink_to_fit();
+        ask_about_lists(&matrix)?;
+        let sizes = library::sizes(&matrix).map_err(Refusal::of)?;
         let (output, prices) = (vec![[0.0; LANES]; matrix.n], vec![[0.0; LANES]; matrix.m]);
-        let work = vec![0.0; work_enough(&matrix)];
+        let (index, work) = (vec![0; sizes.words], vec![0.0; sizes.numbers]);
         Ok(Solver { matrix, output, prices, index, work })
     }
 
@@ -168,35 +161,11 @@ fn together(lanes: [&[f64]; LANES], length: usize) -> Result<Vec<[f64; LANES]>, 
     Ok((0..length).map(|k| lanes.map(|lane| lane[k])).collect())
 }
 
-/// Questions 1 to 7. A solve that is lent no b has a no at 8 once these have a yes, and changes nothing.
-fn ask_about(matrix: &Matrix, index: &mut [u32]) -> Result<(), Refusal> {
+/// Questions 1 to 5, with the number of values, which `sizes` does not ask about. A solve that is lent no memory has a
+/// no at 6 once these have a yes.
+fn ask_about_lists(matrix: &Matrix) -> Result<(), Refusal> {
     let sides = Sides { b: &[], c: &[], tolerances: &[], limit: 1 };
-    let lent = Lent { output: &mut [], prices: &mut [], index, work: &mut [] };
+    let lent = Lent { output: &mut [], prices: &mut [], index: &mut [], work: &mut [] };
     let answer = library::solve(matrix, sides, lent);
-    if answer.question == LENGTHS {
-        return Ok(());
-    }
-    Refusal::unless_yes(answer).map(|_| ())
-}
-
-/// The entries of a full factor: all pairs of rows.
-fn full_factor(m: usize) -> usize {
-    m * (m + 1) / 2
-}
-
-/// Index words that are enough, as though the factor were full. Sizes that are refused anyway need none.
-fn index_enough(matrix: &Matrix) -> usize {
-    let (m, n, t) = (matrix.m, matrix.n, matrix.columns.len());
-    if m > MOST_ROWS || n > MOST_COLUMNS || t > MOST_ENTRIES {
-        return 0;
-    }
-    let stored = full_factor(m);
-    let shared = t * (m + 1) / 2;
-    let products = stored * (m + 2) / 3 - stored;
-    5 * stored + 3 * shared + 2 * products + 3 * m + n + 2 * t + 5
-}
-
-/// Working numbers that are enough for a matrix whose sizes have been accepted.
-fn work_enough(matrix: &Matrix) -> usize {
-    LANES * (5 * matrix.n + 3 * matrix.m + 2 * matrix.s + full_factor(matrix.m))
+    if answer.question == INDEX_MEMORY { Ok(()) } else { Err(Refusal::of(answer)) }
 }

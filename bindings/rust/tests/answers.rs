@@ -2,6 +2,8 @@
 
 #[path = "answers/fractions.rs"]
 mod fractions;
+#[path = "answers/sizes.rs"]
+mod sizes;
 
 use std::num::NonZeroUsize;
 
@@ -206,6 +208,33 @@ fn matrices_are_refused_at_once() {
     assert_eq!(refusal(1, 1, &[0, 1], &[1 << 32], 1, 0), Some(Refusal::ColumnOrder { row: 0 }));
     assert_eq!(refusal(1, 1, &[0, 1], &[0], 1, 2), Some(Refusal::SlackRows));
     assert_eq!(refusal(1, 1, &[0, 1], &[0], 1, 1), None);
+}
+
+/// A wrong number of values is a no at 3, after 1 and 2 and before 4, 5 and 7.
+#[test]
+fn a_wrong_number_of_values_is_refused_in_its_turn() {
+    let refusal = |m, n, offsets: &[usize], columns: &[usize], s| {
+        let values = vec![1.0; columns.len() + 1];
+        Solver::from_data(m, n, offsets.to_vec(), columns.to_vec(), values, s).err()
+    };
+    assert_eq!(refusal(0, 1, &[0], &[], 0), Some(Refusal::Rows));
+    assert_eq!(refusal(1, 0, &[0, 0], &[], 0), Some(Refusal::Columns));
+    assert_eq!(refusal(2, 1, &[0, 0, 1], &[0], 0), Some(Refusal::Lists));
+    assert_eq!(refusal(1, 2, &[0, 2], &[1, 1], 0), Some(Refusal::Lists));
+    assert_eq!(refusal(1, 1, &[0, 1], &[0], 2), Some(Refusal::Lists));
+    assert_eq!(refusal(1, 1, &[0, 1], &[0], 1), Some(Refusal::Lists));
+}
+
+#[test]
+fn more_inequalities_than_rows_are_refused_last() {
+    let refusal = |offsets: &[usize], columns: &[usize]| {
+        let values = vec![1.0; columns.len()];
+        Solver::from_data(2, 2, offsets.to_vec(), columns.to_vec(), values, usize::MAX).err()
+    };
+    assert_eq!(refusal(&[0, 2], &[0, 1]), Some(Refusal::Lists));
+    assert_eq!(refusal(&[0, 2, 2], &[0, 1]), Some(Refusal::EmptyRow { row: 1 }));
+    assert_eq!(refusal(&[0, 1, 3], &[0, 1, 1]), Some(Refusal::ColumnOrder { row: 1 }));
+    assert_eq!(refusal(&[0, 1, 3], &[0, 0, 1]), Some(Refusal::SlackRows));
 }
 
 #[test]

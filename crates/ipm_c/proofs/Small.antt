@@ -2,18 +2,19 @@
 use mathlib.Core.Path.{_≡_, refl, _∙_, ap}
 use mathlib.Core.Bool.{Bool, true, false, not, cond, _&&_, _||_}
 use mathlib.Core.List.{List}
-use Prim.Native.Nat.{ℕ, zero, suc, _+_, _-_, _*_, _^_, _≤_, _<_}
+use Prim.Native.Nat.{ℕ, zero, suc, _+_, _*_, _^_, _≤_, _<_}
 use native.Mathlib.Omega.{arith}
 use lib.Dec.{eqb, leb, ltb}
 use borrow.Author.Tests.{leb-true}
 use lib.ListN.{length}
 use Rattle.csr.specs.Counts.{countE, sizeW}
 use Rattle.csr.specs.Pattern.{row}
-use Rattle.csr.specs.Verdict.{Verdict, passed, planned, accepted, refused, ask, andThen}
-use Rattle.csr.specs.Questions.{firstFrom, empty, badRow, offsetsRight, firstNo}
+use Rattle.csr.specs.Verdict.{Verdict, Told, passed, told, planned, accepted, sized, costs, refused, ask, andThen}
+use Rattle.csr.specs.Questions.{firstFrom, empty, badRow, offsetsRight, rowsRight, firstNo}
 use Rattle.csr.specs.Csr.{Accepted}
 use Rattle.base.proofs.Bools.{and-right}
 use Rattle.csr.proofs.Yes.{accepted-of}
+use Rattle.sizes.specs.Sizes.{slackVerdict, sizesVerdict, costliestVerdict}
 use Rattle.lanes.specs.Lists.{first}
 use Rattle.lanes.specs.Controls.{fractionsProper}
 use Rattle.lanes.specs.declared.Controls.{Controls}
@@ -26,26 +27,33 @@ use Rattle.machine.specs.Outcome.{isSpoilt, lowestSpoilt, someSpoilt, allDone, 
 use Rattle.machine.specs.Demand3.{Buffers}
 use Rattle.ipm_simd.specs.declared.Lengths.{Lengths}
 use Rattle.ipm_simd.specs.declared.SolveAnswer.{SolveAnswer}
-use Rattle.ipm_simd.specs.Solve.{Given, controlsOf, call, priceCount, lengthsOf, toldSolve, Solved, outcomeVerdict, lengthsRight, sizesVerdict, memoryVerdict, begun, solveVerdict}
-use Rattle.ipm_simd.proofs.Questions.{sizes-of}
+use Rattle.ipm_simd.specs.Solve.{Given, controlsOf, call, priceCount, lengthsOf, toldSolve, Solved, outcomeVerdict, lengthsRight, lengthsVerdict, memoryVerdict, begun, solveVerdict}
+use Rattle.ipm_simd.proofs.Questions.{lengths-passed}
 use Rattle.ipm_c.specs.Packed.{packed, SolvedInOne}
 use Rattle.lists.proofs.Few.{few-stored, few-shared, few-products}
 
 -- what packing asks of an answer
+abbrev SmallTold : Told → Type 0
+SmallTold (planned w) = w < 2 ^ 32
+SmallTold (accepted k count) = (k < 2 ^ 32) × (count < 2 ^ 16)
+SmallTold (sized e s d w f) = w < 2 ^ 32
+SmallTold (costs e d) = Unit {0}
+
 abbrev pub Small : Verdict → Type 0
 Small passed = Unit {0}
-Small (planned w) = w < 2 ^ 32
-Small (accepted k count) = (k < 2 ^ 32) × (count < 2 ^ 16)
+Small (told a) = SmallTold a
 Small (refused q p l) = (q ≤ 13) × (p < 2 ^ 32) × (l < 2 ^ 8)
 
 small-ask : (t : Bool) (v w : Verdict) → (t ≡ true → Small v) → Small w → Small (ask t v w)
 small-ask true v w h g = h refl
 small-ask false v w h g = g
 
+small-no : (q : ℕ) → q ≤ 13 → Small (refused q 0 0)
+small-no q h = (h, omega arith, omega arith)
+
 small-then : (v w : Verdict) → Small v → (v ≡ passed → Small w) → Small (andThen v w)
 small-then passed w h g = g refl
-small-then (planned k) w h g = h
-small-then (accepted k count) w h g = h
+small-then (told a) w h g = h
 small-then (refused q p l) w h g = h
 
 -- W is below 2 ^ 32
@@ -70,7 +78,7 @@ small-first m n off cols values =
     let e = firstFrom (empty off) 0 m in
     let bad : ℕ → Bool = λ (i : ℕ). badRow n (row off cols i) in
     let b = firstFrom bad 0 m in
-    small-ask (leb 1 m && leb m 256) _ (refused 1 0 0)
+    small-ask (rowsRight m) _ (refused 1 0 0)
     (λ h.
     let few = leb-true m 256 (and-right (leb 1 m) (leb m 256) h) in
     small-ask (leb 1 n && leb n 1024) _ (refused 2 0 0)
@@ -90,9 +98,21 @@ unfolding planVerdict roomVerdict
 small-plan m n off cols words =
     small-then (firstNo m n off cols (length cols)) _ (small-first m n off cols (length cols))
     (λ h.
-    small-ask (leb (sizeW off cols m n) words) (planned (sizeW off cols m n)) (refused 6 0 0)
+    small-ask (leb (sizeW off cols m n) words) (told (planned (sizeW off cols m n))) (refused 6 0 0)
     (λ _. words-small off cols m n (accepted-of m n off cols (length cols) h))
     (omega arith, omega arith, omega arith))
+
+-- QUESTIONS 1 TO 5 AND 7
+pub small-matrix : (m n s : ℕ) (off cols : List ℕ) → Small (sizesVerdict m n s off cols)
+unfolding sizesVerdict slackVerdict
+small-matrix m n s off cols =
+    small-then (firstNo m n off cols (length cols)) _ (small-first m n off cols (length cols))
+    (λ h. small-ask (leb s m) _ (refused 7 0 0) (λ _. words-small off cols m n (accepted-of m n off cols (length cols) h)) (small-no 7 (omega arith)))
+
+-- QUESTION 1
+pub small-costliest : (m : ℕ) → Small (costliestVerdict m)
+unfolding costliestVerdict
+small-costliest m = small-ask (rowsRight m) _ (refused 1 0 0) (λ _. tt) (small-no 1 (omega arith))
 
 -- ---- the tests
 
@@ -113,12 +133,9 @@ small-outcome K says N count few limit short =
     (omega arith, omega (arith, limit, upTo), omega (arith, few, lane)) (omega (arith, limit, upTo), short))
 
 -- QUESTIONS 6 TO 10 AND 13
-small-no : (q : ℕ) → q ≤ 13 → Small (refused q 0 0)
-small-no q h = (h, omega arith, omega arith)
-
-small-sizes : (W E m n s : ℕ) (L : Lengths) (k : Controls) → Small (sizesVerdict W E m n s L k)
-unfolding sizesVerdict
-small-sizes W E m n s L k =
+small-lengths : (W E m n s : ℕ) (L : Lengths) (k : Controls) → Small (lengthsVerdict W E m n s L k)
+unfolding lengthsVerdict
+small-lengths W E m n s L k =
     let q7 = leb s m in
     let q8 = lengthsRight m n L in
     let q9 = leb (4 * (5 * n + 3 * m + 2 * s + E)) (L .work) in
@@ -139,8 +156,7 @@ small-sizes W E m n s L k =
 -- a pass of two parts is a pass of each
 passes : (v w : Verdict) → andThen v w ≡ passed → (v ≡ passed) × (w ≡ passed)
 passes passed w e = (refl, e)
-passes (planned k) w e = let z : _≡_ {A = ℕ} 0 1 = cc in absurd (omega arith)
-passes (accepted k count) w e = let z : _≡_ {A = ℕ} 0 1 = cc in absurd (omega arith)
+passes (told a) w e = let z : _≡_ {A = ℕ} 0 1 = cc in absurd (omega arith)
 passes (refused q p l) w e = let z : _≡_ {A = ℕ} 0 1 = cc in absurd (omega arith)
 
 -- QUESTIONS 1 TO 13
@@ -151,12 +167,12 @@ small-solve a B =
     let E = countE (a .offsets) (a .columns) (a .m) in
     let first5 = firstNo (a .m) (a .n) (a .offsets) (a .columns) (length (a .values)) in
     small-then (andThen first5 (memoryVerdict a B)) _
-    (small-then first5 _ (small-first (a .m) (a .n) (a .offsets) (a .columns) (length (a .values))) (λ _. small-sizes W E (a .m) (a .n) (a .s) (lengthsOf a B) (controlsOf a)))
+    (small-then first5 _ (small-first (a .m) (a .n) (a .offsets) (a .columns) (length (a .values))) (λ _. small-lengths W E (a .m) (a .n) (a .s) (lengthsOf a B) (controlsOf a)))
     (λ e.
     let both = passes first5 (memoryVerdict a B) e in
     let ok = accepted-of (a .m) (a .n) (a .offsets) (a .columns) (length (a .values)) (both .0) in
-    let sizes = sizes-of W E (a .m) (a .n) (a .s) (lengthsOf a B) (controlsOf a) (both .1) in
-    small-outcome 4 (laneStatus (call a)) (a .limit) (priceCount a) (omega arith) (sizes .upTo) (omega (arith, ok .csr .few)))
+    let asked = lengths-passed W E (a .m) (a .n) (a .s) (lengthsOf a B) (controlsOf a) (both .1) in
+    small-outcome 4 (laneStatus (call a)) (a .limit) (priceCount a) (omega arith) (asked .upTo) (omega (arith, ok .csr .few)))
 
 -- what solve promises of its answer holds of the number
 pub in-one : {a : Given} {B B′ : Buffers} {r : SolveAnswer} {code : ℕ} → Solved a B B′ r → code ≡ packed (toldSolve r) → SolvedInOne a B B′ code

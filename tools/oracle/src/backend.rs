@@ -1,5 +1,6 @@
 //! Those who answer: the reference, the unchanged Rust, and the programs under test.
 
+use crate::plan::Measured;
 use crate::problem::{Answer, LANES, Matrix, Planned, Problem};
 
 /// What each test of a run said in each lane.
@@ -48,4 +49,5 @@ pub trait Backend {
     fn name(&self) -> &'static str;
     fn solve(&mut self, problem: &Problem) -> Result<Option<Told>, String>;
     fn plan(&mut self, matrix: &Matrix) -> Result<Option<Planned>, String>;
+    fn sizes(&mut self, matrix: &Matrix, s: usize) -> Result<Option<Measured>, String>;
 }

@@ -1,13 +1,14 @@
 //! The comparison: every answer of the reference beside every other backend's, at scale.
 
 use std::collections::BTreeMap;
+use std::fmt::Debug;
 
 use crate::backend::Backend;
 use crate::generate;
 use crate::machine::factor_pattern;
 use crate::plan::pattern;
 use crate::problem::{Answer, LANES, MOST_COLUMNS, MOST_ENTRIES, MOST_ROWS, MOST_TESTS, Matrix, Problem};
-use crate::questions::Room;
+use crate::questions::{Room, ask_plan};
 use crate::random::Random;
 use crate::reference::{self, Run};
 
@@ -148,7 +149,7 @@ impl Comparison {
         }
     }
 
-    /// One matrix: the lists, and the pattern by the rule and by chains.
+    /// One matrix: the lists, the pattern by the rule and by chains, and what it needs.
     pub fn plan(&mut self, kind: &str, matrix: &Matrix) {
         let wanted = reference::plan(matrix, usize::MAX);
         self.count(format!("plans, kind: {kind}"));
@@ -156,20 +157,57 @@ impl Comparison {
         if wanted.is_ok() && pattern(matrix) != factor_pattern(&problem) {
             self.differ(format!("rule and chains: {matrix:?}"));
         }
+        self.ask_each("plans", &wanted, matrix, |backend| backend.plan(matrix));
+        self.sizes(kind, matrix);
+    }
+
+    /// What one matrix needs, with few slack rows, with all and with too many.
+    pub fn sizes(&mut self, kind: &str, matrix: &Matrix) {
+        let counted = ask_plan(matrix, usize::MAX);
+        for s in slack_rows(matrix.m) {
+            let wanted = counted.and_then(|counts| reference::sizes(matrix, s, counts));
+            self.count(format!("sizes, kind: {kind}"));
+            self.count(match wanted {
+                Ok(_) => "sizes, answers: yes".into(),
+                Err(no) => format!("sizes, answers: refused {:02}", no.question),
+            });
+            self.ask_each("sizes", &wanted, (s, matrix), |backend| backend.sizes(matrix, s));
+        }
+    }
+
+    /// What every backend that takes the input tells, beside what is wanted.
+    fn ask_each<T: Debug + PartialEq>(
+        &mut self,
+        what: &str,
+        wanted: &T,
+        input: impl Debug,
+        ask: impl Fn(&mut dyn Backend) -> Result<Option<T>, String>,
+    ) {
         let mut faults = Vec::new();
         for backend in &mut self.backends {
             let name = backend.name();
-            match backend.plan(matrix) {
+            match ask(backend.as_mut()) {
                 Ok(None) => {}
-                Ok(Some(told)) if told == wanted => {
-                    *self.counts.entry(format!("plans compared: {name}")).or_insert(0) += 1;
+                Ok(Some(told)) if told == *wanted => {
+                    *self.counts.entry(format!("{what} compared: {name}")).or_insert(0) += 1;
                 }
-                Ok(Some(told)) => faults.push(format!("{name}: {told:?}, wanted {wanted:?}: {matrix:?}")),
-                Err(fault) => faults.push(format!("{name}: {fault}: {matrix:?}")),
+                Ok(Some(told)) => faults.push(format!("{name}: {told:?}, wanted {wanted:?}: {input:?}")),
+                Err(fault) => faults.push(format!("{name}: {fault}: {input:?}")),
             }
         }
         faults.into_iter().for_each(|fault| self.differ(fault));
     }
+}
+
+/// Up to so many rows, every number of slack rows is tried.
+const FEW_ROWS: usize = 20;
+/// Numbers of slack rows, or of rows, that are far too large.
+pub const FAR: [usize; 5] = [1 << 16, 1 << 32, (1 << 32) + 1, 1 << 63, usize::MAX];
+
+/// Numbers of slack rows up to m + 1 and far above; all up to m + 1 where rows are few.
+fn slack_rows(m: usize) -> Vec<usize> {
+    let few = if m <= FEW_ROWS { (0..=m + 1).collect() } else { vec![0, 1, m / 2, m - 1, m, m.saturating_add(1)] };
+    [few, FAR.to_vec()].concat()
 }
 
 fn at_most(number: usize, bounds: &[usize]) -> String {

@@ -2,18 +2,19 @@
 //! libipm_c.a. It also looks at every buffer: what a no must leave, and what 11, 12 and acceptance must leave.
 
 use crate::backend::{Backend, Told};
-use crate::extern_c::{ipm_plan, ipm_solve};
-use crate::plan::{plan_words, work_numbers};
+use crate::extern_c::{ipm_costliest, ipm_plan, ipm_sizes, ipm_solve};
+use crate::plan::{Counts, Measured, Sizes, plan_words, work_numbers};
 use crate::problem::{Answer, LANES, Matrix, Planned, Problem, Refusal, all_settled_bits};
 use crate::questions::{Room, ask_plan};
 use crate::reference;
 
-/// What unwritten memory holds, and how much is lent past the need.
+/// What unwritten memory and results hold, and how much is lent past the need.
 const WORD: u32 = 0xdead_beef;
 const NUMBER: f64 = -7.25;
+const RESULT: u64 = 0xdead_beef_dead_beef;
 const SPARE: usize = 3;
 
-/// The library's answer taken apart. Question 0 is a yes: the place is the test, or W for a plan.
+/// The library's answer taken apart. Question 0 is a yes: the place is the test, W for a plan and sizes, or 0.
 struct Code {
     length: usize,
     told: Refusal,
@@ -61,6 +62,27 @@ fn call_plan(matrix: &Matrix, index: &mut [u32]) -> Code {
             columns.len(),
             index.as_mut_ptr(),
             index.len(),
+        )
+    })
+}
+
+fn call_sizes(matrix: &Matrix, s: usize, [e, s_count, d, w, f]: &mut [u64; 5]) -> Code {
+    let (offsets, columns) = (&matrix.offsets, &matrix.columns);
+    // Safety: every pointer comes with the length of its own slice, which outlives the call.
+    Code::new(unsafe {
+        ipm_sizes(
+            matrix.m,
+            matrix.n,
+            s,
+            offsets.as_ptr(),
+            offsets.len(),
+            columns.as_ptr(),
+            columns.len(),
+            e,
+            s_count,
+            d,
+            w,
+            f,
         )
     })
 }
@@ -172,6 +194,50 @@ pub fn plan_in(matrix: &Matrix, index: usize) -> Result<Planned, String> {
     Ok(Ok(words))
 }
 
+/// The most E and D that so many rows have.
+#[derive(Clone, Copy, Debug, PartialEq, Eq)]
+pub struct Most {
+    pub stored: usize,
+    pub products: usize,
+}
+
+/// What the library says that m rows have at most, and a look at both results.
+pub fn costliest(m: usize) -> Result<Result<Most, Refusal>, String> {
+    let (mut e, mut d) = (RESULT, RESULT);
+    let Code { length, told } = Code::new(ipm_costliest(m, &mut e, &mut d));
+    check(length == 0, "the costliest has a length")?;
+    if told.question != 0 {
+        check([e, d] == [RESULT; 2], "a refusal changed a result")?;
+        return Ok(Err(told));
+    }
+    check(told == Refusal::at(0, 0), "the costliest has a place or a lane")?;
+    Ok(Ok(Most { stored: e as usize, products: d as usize }))
+}
+
+/// No matrix has more E and D than the costliest of as many rows, and its S is at most t (m + 1) / 2: on this the
+/// header's memory for a size rests.
+fn check_most(matrix: &Matrix, counts: Counts) -> Result<(), String> {
+    let most = costliest(matrix.m)?.map_err(|no| format!("no costliest: {no:?}"))?;
+    check(counts.stored <= most.stored && counts.products <= most.products, "more than the costliest")?;
+    check(counts.shared <= matrix.entries() * (matrix.m + 1) / 2, "more pairs than full columns have")
+}
+
+/// What the library says that a matrix needs, and a look at every result.
+fn measure(matrix: &Matrix, s: usize) -> Result<Measured, String> {
+    let mut results = [RESULT; 5];
+    let Code { length, told } = call_sizes(matrix, s, &mut results);
+    check(length == 0, "sizes have a length")?;
+    if told.question != 0 {
+        check(results == [RESULT; 5], "a refusal changed a result")?;
+        return Ok(Err(told));
+    }
+    let [stored, shared, products, words, numbers] = results.map(|result| result as usize);
+    check(told == Refusal::at(0, words), "the place of a yes is not W")?;
+    let counts = Counts { stored, shared, products };
+    check_most(matrix, counts)?;
+    Ok(Ok(Sizes { counts, words, numbers }))
+}
+
 pub struct Library;
 
 impl Backend for Library {
@@ -186,5 +252,9 @@ impl Backend for Library {
     fn plan(&mut self, matrix: &Matrix) -> Result<Option<Planned>, String> {
         let index = ask_plan(matrix, usize::MAX).map_or(0, |counts| plan_words(matrix, counts));
         plan_in(matrix, index + SPARE).map(Some)
+    }
+
+    fn sizes(&mut self, matrix: &Matrix, s: usize) -> Result<Option<Measured>, String> {
+        measure(matrix, s).map(Some)
     }
 }

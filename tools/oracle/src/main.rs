@@ -26,6 +26,8 @@ mod rooms;
 mod roots;
 mod rubbish;
 mod rust;
+#[cfg(ipm_c)]
+mod sizes;
 mod unchanged;
 
 use std::io::{Read, Write};
@@ -143,6 +145,7 @@ fn compare(seed: u64, scale: usize) -> Result<(), String> {
         rooms::compare(&mut comparison, &mut random::Random::new(seed), 10 * scale);
         fractions::compare(&mut comparison, &mut random::Random::new(seed), scale);
         roots::compare(&mut comparison, &mut random::Random::new(seed), scale);
+        sizes::compare(&mut comparison, &mut random::Random::new(seed), 10 * scale);
     }
     if comparison.report() { Ok(()) } else { Err("there are differences".into()) }
 }

@@ -1,6 +1,6 @@
 //! Pattern, counts and the sixteen lists, from document 01's sentences alone.
 
-use crate::problem::{LANES, Matrix};
+use crate::problem::{LANES, Matrix, Refusal};
 
 /// The names of the sixteen lists, in order.
 pub const NAMES: [&str; 16] = [
@@ -31,6 +31,17 @@ pub struct Counts {
     pub shared: usize,
     pub products: usize,
 }
+
+/// E, S, D, W and F.
+#[derive(Clone, Copy, Debug, PartialEq, Eq)]
+pub struct Sizes {
+    pub counts: Counts,
+    pub words: usize,
+    pub numbers: usize,
+}
+
+/// What a matrix needs, or a no.
+pub type Measured = Result<Sizes, Refusal>;
 
 /// The places of an entry of row i and one of row j in each column that both hold, columns rising.
 pub fn shared_places(matrix: &Matrix, i: usize, j: usize) -> Vec<(usize, usize)> {
@@ -78,6 +89,15 @@ pub fn counts(matrix: &Matrix) -> Counts {
         shared: pairs.iter().map(|(i, j, _)| shared_places(matrix, *i, *j).len()).sum(),
         products: pairs.iter().map(|(_, _, rows)| rows.len()).sum(),
     }
+}
+
+/// E, S and D as the lengths of the lists that have a word for each.
+pub fn listed_counts(lists: &Lists) -> Counts {
+    let length = |name: &str| {
+        let list = NAMES.iter().position(|&other| other == name).expect("a list of this name");
+        lists[list].len()
+    };
+    Counts { stored: length("lindices"), shared: length("anorm_indices"), products: length("ldecomp_indptr_i") }
 }
 
 /// W, the words that a plan takes.

@@ -42,9 +42,14 @@ fn row_right(matrix: &Matrix, i: usize) -> bool {
     row.windows(2).all(|pair| pair[0] < pair[1]) && row.iter().all(|&column| (column as usize) < matrix.n)
 }
 
+/// Question 1.
+pub fn ask_rows(m: usize) -> Result<(), Refusal> {
+    no_unless((1..=MOST_ROWS).contains(&m), 1)
+}
+
 /// Questions 1 to 5; `values` is how many values were given, for a solve.
 pub fn ask_matrix(matrix: &Matrix, values: Option<usize>) -> Result<(), Refusal> {
-    no_unless((1..=MOST_ROWS).contains(&matrix.m), 1)?;
+    ask_rows(matrix.m)?;
     no_unless((1..=MOST_COLUMNS).contains(&matrix.n), 2)?;
     no_unless(offsets_right(matrix) && values.is_none_or(|count| count == matrix.entries()), 3)?;
     no_at((0..matrix.m).find(|&i| matrix.row(i).is_empty()), 4)?;
@@ -59,6 +64,11 @@ pub fn ask_plan(matrix: &Matrix, index: usize) -> Result<Counts, Refusal> {
     Ok(counts)
 }
 
+/// Question 7.
+pub fn ask_slack_rows(matrix: &Matrix, s: usize) -> Result<(), Refusal> {
+    no_unless(s <= matrix.m, 7)
+}
+
 /// Above 0 and below 1. NaN is neither.
 fn is_proper(number: f64) -> bool {
     0.0 < number && number < 1.0
@@ -69,7 +79,7 @@ pub fn ask_solve(problem: &Problem, room: Room) -> Result<(), Refusal> {
     let matrix = &problem.matrix;
     ask_matrix(matrix, Some(problem.values.len()))?;
     let counts = ask_plan(matrix, room.index)?;
-    no_unless(problem.s <= matrix.m, 7)?;
+    ask_slack_rows(matrix, problem.s)?;
     let (of_rows, of_columns) = (LANES * matrix.m, LANES * matrix.n);
     let lengths = [problem.b.len(), problem.c.len(), problem.tolerances.len(), room.output, room.prices];
     no_unless(lengths == [of_rows, of_columns, 3 * LANES, of_columns, of_rows], 8)?;

@@ -4,6 +4,7 @@ use std::io::Write;
 use std::process::{Command, Stdio};
 
 use crate::backend::{Backend, Told};
+use crate::plan::Measured;
 use crate::problem::{Answer, Fractions, LANES, Matrix, Planned, Problem, Refusal};
 use crate::record::{READING, read, write};
 
@@ -66,6 +67,10 @@ impl Backend for ReadingProgram {
     }
 
     fn plan(&mut self, _: &Matrix) -> Result<Option<Planned>, String> {
+        Ok(None)
+    }
+
+    fn sizes(&mut self, _: &Matrix, _: usize) -> Result<Option<Measured>, String> {
         Ok(None)
     }
 }

@@ -2,9 +2,9 @@
 
 use crate::backend::{Backend, Test, Told, Trace};
 use crate::machine::{Machine, Shape, Verdict};
-use crate::plan::{lists, plan_words};
+use crate::plan::{Counts, Measured, Sizes, lists, plan_words, work_numbers};
 use crate::problem::{Answer, LANES, Matrix, Planned, Problem, Refusal, settled_bits};
-use crate::questions::{Room, ask_plan, ask_solve};
+use crate::questions::{Room, ask_plan, ask_slack_rows, ask_solve};
 
 /// A run of the four machines: its answer, how it came about, and the lanes that were spoilt by their wait.
 pub struct Run {
@@ -77,6 +77,12 @@ pub fn plan(matrix: &Matrix, index: usize) -> Planned {
     Ok(words)
 }
 
+/// What a matrix needs that has a yes at 1 to 5 and these counts.
+pub fn sizes(matrix: &Matrix, s: usize, counts: Counts) -> Measured {
+    ask_slack_rows(matrix, s)?;
+    Ok(Sizes { counts, words: plan_words(matrix, counts), numbers: work_numbers(matrix, s, counts) })
+}
+
 pub struct Reference;
 
 impl Backend for Reference {
@@ -91,5 +97,9 @@ impl Backend for Reference {
 
     fn plan(&mut self, matrix: &Matrix) -> Result<Option<Planned>, String> {
         Ok(Some(plan(matrix, usize::MAX)))
+    }
+
+    fn sizes(&mut self, matrix: &Matrix, s: usize) -> Result<Option<Measured>, String> {
+        Ok(Some(ask_plan(matrix, usize::MAX).and_then(|counts| sizes(matrix, s, counts))))
     }
 }

@@ -8,6 +8,7 @@ use ipm_simd::{PathFollowingDirectSimdSolver, inside};
 use wide::watch;
 
 use crate::backend::{Backend, Numbers, Test, Told, Trace};
+use crate::plan::{Measured, Sizes, listed_counts, work_numbers};
 use crate::problem::{Answer, Fractions, Matrix, Planned, Problem, Refusal, all_settled_bits, settled_bits};
 use crate::questions::{Room, ask_matrix, ask_solve};
 use crate::rust::{Solved, lists, solve_with, solver};
@@ -97,5 +98,16 @@ impl Backend for Unchanged {
             return Ok(None);
         }
         Ok(Some(Ok(lists(matrix).concat())))
+    }
+
+    /// Lengths of the lists, which do not depend on s: they are made once, where all rows are slack. F is of their E.
+    fn sizes(&mut self, matrix: &Matrix, s: usize) -> Result<Option<Measured>, String> {
+        if ask_matrix(matrix, None).is_err() || s != matrix.m {
+            return Ok(None);
+        }
+        let lists = lists(matrix);
+        let counts = listed_counts(&lists);
+        let words = lists.iter().map(Vec::len).sum();
+        Ok(Some(Ok(Sizes { counts, words, numbers: work_numbers(matrix, s, counts) })))
     }
 }
