@@ -5,6 +5,7 @@ use Prim.Native.Nat.{ℕ, _+_, _-_, _*_}
 use native.Mathlib.Omega.{arith}
 use Rattle.csr.specs.Verdict.{told, costs, refused, ask}
 use Rattle.csr.specs.Questions.{rowsRight}
+use Rattle.parents.proofs.Examples as parents
 use Rattle.sizes.specs.Costliest.{fullE, fullD}
 use Rattle.sizes.specs.Sizes.{costliestVerdict}
 use Rattle.sizes.specs.Examples.{rows, answer, Hold}
@@ -23,4 +24,4 @@ refused-at m h = ap (λ (t : Bool). ask t (told (costs (fullE m) (fullD m))) (re
 
 pub examples-hold : Hold
 unfolding rows answer
-examples-hold = (refl, refused-at 0 refl, costs-are 1 1 0 refl refl refl, costs-are 3 6 4 refl refl refl, costs-are 256 32896 2796160 refl refl refl, refused-at 257 refl)
+examples-hold = (refl, parents.examples-hold, refused-at 0 refl, costs-are 1 1 0 refl refl refl, costs-are 3 6 4 refl refl refl, costs-are 256 32896 2796160 refl refl refl, refused-at 257 refl)

@@ -4,6 +4,7 @@ use mathlib.Core.List.{List, [], _∷_, map}
 use Prim.Native.Nat.{ℕ}
 use Rattle.csr.specs.Verdict.{Verdict, told, sized, costs, refused}
 use Rattle.csr.specs.Examples.{Matrix, single, star, late, four, gap, twice}
+use Rattle.parents.specs.Examples as parents
 use Rattle.sizes.specs.Sizes.{sizesVerdict, costliestVerdict}
 
 -- a matrix, its slack rows, and the answer of `sizes`
@@ -31,9 +32,11 @@ unfoldable pub answer : Row → Verdict
 unfolding sizesVerdict
 answer e = sizesVerdict (e .of .m) (e .of .n) (e .slack) (e .of .offsets) (e .of .columns)
 
+-- the parents of the first four stand in parents/specs/Examples.antt
 abbrev pub Hold : Type 0
 Hold =
     (map answer rows ≡ map (λ (e : Row). e .says) rows)
+    × parents.Hold
     × (costliestVerdict 0 ≡ refused 1 0 0)
     × (costliestVerdict 1 ≡ told (costs 1 0))
     × (costliestVerdict 3 ≡ told (costs 6 4))
