@@ -1,21 +1,21 @@
 -- What the memories of the counting hold while row i is met along parents. Definitions only.
 use mathlib.Core.Path.{_≡_}
 use mathlib.Core.Logic.{_⊎_}
-use mathlib.Core.Bool.{Bool, true, _&&_, cond}
+use mathlib.Core.Bool.{Bool, true, cond}
 use mathlib.Core.List.{List}
 use Prim.Native.Nat.{ℕ, suc, _+_, _*_, _≤_, _<_}
-use lib.Dec.{eqb, ltb}
+use lib.Dec.{eqb}
 use lib.ListN.{length, getD}
 use Rattle.base.specs.Sums.{sum, one}
 use Rattle.csr.specs.Questions.{maxRows}
 use Rattle.csr.specs.Csr.{maxPlaces}
 use Rattle.pattern.specs.Links.{orElse}
-use Rattle.parents.specs.Parent.{parentOf}
+use Rattle.parents.specs.Parent.{laterEntry, parentOf}
 
 -- the entries of column k below the diagonal in the rows below i
 unfoldable pub entriesIn : (ℕ → ℕ → Bool) → ℕ → ℕ → ℕ
 unfolding sum
-entriesIn st i k = sum i (λ r. one (ltb k r && st r k))
+entriesIn st i k = sum i (λ r. one (laterEntry st k r))
 
 -- row k is marked as met by row i
 abbrev pub met : List ℕ → ℕ → ℕ → Bool

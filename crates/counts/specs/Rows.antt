@@ -17,7 +17,7 @@ unfoldable pub rowsWith : List ℕ → List ℕ → ℕ → ℕ → ℕ
 unfolding sum row has
 rowsWith off cols i c = sum i (λ r. one (has (row off cols r) c))
 
--- more than one row adds to S
+-- what one row adds to S is below this
 abbrev pub mostOfRow : ℕ
 mostOfRow = (maxRows + 1) * maxEntries
 

@@ -34,7 +34,7 @@ module _ (off cols : List ℕ) (m n : ℕ) (p lindptr lindices : List ℕ) (read
 -- W, from E, S and D
 pub words-are : (off cols : List ℕ) (m n e s d : ℕ) → Tallied off cols m e s d → 5 * e + 3 * s + 2 * d + 3 * m + n + 2 * length cols + 5 ≡ sizeW off cols m n
 unfolding sizeW
-words-are off cols m n e s d t = omega (arith, t .stored, t .shared, t .products)
+words-are off cols m n e s d t = omega (arith, t .counts .stored, t .counts .shared, t .counts .products)
 
 -- question 6 of a memory that is too short, and of one that is long enough
 module _ (m n : ℕ) (off cols index : List ℕ) where

@@ -7,7 +7,7 @@ use lib.ListN.{length, drop}
 use Rattle.base.specs.Sums.{sum}
 use Rattle.csr.specs.Verdict.{Verdict, passed, told, planned, refused, ask, andThen, refusal}
 use Rattle.csr.specs.Questions.{firstNo, maxRows}
-use Rattle.csr.specs.Counts.{countE, countS, countD, sizeW}
+use Rattle.csr.specs.Counts.{sizeW, Counted}
 use Rattle.lists.specs.Lists.{planWords}
 use Rattle.ipm_common.specs.declared.PlanAnswer.{PlanAnswer}
 use Rattle.ipm_common.specs.declared.PlanAnswer.the-variants.{Planned, Refused}
@@ -56,11 +56,9 @@ pub record Memories (m n : ℕ) (lindptr lindices mark next again : List ℕ) : 
   pub counts : Room m n next
   pub firsts : Room m n again
 
--- E, S and D
+-- E, S and D, and S is not too large to work with
 pub record Tallied (offsets columns : List ℕ) (m e s d : ℕ) : Type 0 where
-  pub stored : e ≡ countE offsets columns m
-  pub shared : s ≡ countS offsets columns m
-  pub products : d ≡ countD offsets columns m
+  pub counts : Counted offsets columns m e s d
   pub few : s ≤ maxRows * maxPlaces
 
 -- question 6 is answered, and the index memory is left so

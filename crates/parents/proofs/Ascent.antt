@@ -23,7 +23,7 @@ pub record Filled (st near : ℕ → ℕ → Bool) : Type 0 where
 
 module _ (st near : ℕ → ℕ → Bool) (fills : Filled st near) where
   -- what is met along parents is stored: one step of the rule
-  pub along-stored : (i k : ℕ) → Along st near i k → (k < i) × (st i k ≡ true)
+  along-stored : (i k : ℕ) → Along st near i k → (k < i) × (st i k ≡ true)
   along-stored i k (from l e) = (l, fills .seeds i k l e)
   along-stored i k (up {k = c} a p l) =
       let w = along-stored i c a in
@@ -72,11 +72,11 @@ module _ (nb : ℕ → ℕ → Bool) where
       go (inl e) = absurd (omega arith)
       go (inr t) = t
 
-  pub filled : Filled (stored nb) nb
+  filled : Filled (stored nb) nb
   filled = record { seeds = by-rule nb; joins = λ i j k l. meets nb i j k (omega arith); rule = ruled }
 
 module _ (off cols : List ℕ) where
-  pub filled-near : Filled (isStored off cols) (neighbours off cols)
+  filled-near : Filled (isStored off cols) (neighbours off cols)
   unfolding isStored
   filled-near = filled (neighbours off cols)
 

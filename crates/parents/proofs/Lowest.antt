@@ -46,22 +46,11 @@ found-low : (p : ℕ → Bool) (b x r : ℕ) → Found p b x → x ≡ suc r →
 found-low p b zero r h e = absurd (omega arith)
 found-low p b (suc x) r h e = let z : x ≡ r = omega arith in rw z at h
 
-found-none : (p : ℕ → Bool) (b x : ℕ) → Found p b x → x ≡ 0 → (q : ℕ) → q < b → p q ≡ false
-found-none p b zero h e = h
-found-none p b (suc x) h e = absurd (omega arith)
-
-pub lowest-low : (p : ℕ → Bool) (b r : ℕ) → lowest p b ≡ suc r → Low p b r
+lowest-low : (p : ℕ → Bool) (b r : ℕ) → lowest p b ≡ suc r → Low p b r
 lowest-low p b r e = found-low p b (lowest p b) r (found p b) e
 
-pub lowest-some : (p : ℕ → Bool) (b r : ℕ) → p r ≡ true → r < b → (f : ℕ) × (lowest p b ≡ suc f) × (f ≤ r)
+lowest-some : (p : ℕ → Bool) (b r : ℕ) → p r ≡ true → r < b → (f : ℕ) × (lowest p b ≡ suc f) × (f ≤ r)
 lowest-some p b r e l = found-is p b (lowest p b) (found p b) r e l
-
-pub lowest-none : (p : ℕ → Bool) (b : ℕ) → ((q : ℕ) → q < b → p q ≡ false) → lowest p b ≡ 0
-lowest-none p b h = go (lowest p b) refl
-  where
-    go : (x : ℕ) → lowest p b ≡ x → x ≡ 0
-    go zero e = refl
-    go (suc r) e = let w = lowest-low p b r e in absurd (false≢true (sym (h r (w .inside)) ∙ w .holds))
 
 -- ---- parents
 false-and : (a b : Bool) → a ≡ true → a && b ≡ false → b ≡ false

@@ -52,9 +52,11 @@ returns c =
     let e = count-E (a .offsets .now) (a .columns .now) (a .p .now) (a .m) (s .pre .0 .csr .few) (s .pre .1 .rows) in
     let d = factor-pairs (a .offsets .now) (a .columns .now) (a .m) (a .p .now) (a .lindptr .now) (a .lindices .now) (s .pre .1) (s .pre .2) in
     record {
-      stored = c .before .before .before .before .before .before .before .before .before .before .before .before .before .before .before .before .count .ensures ∙ e;
-      shared = c .before .before .before .before .before .before .before .before .before .before .count-rows .ensures .1;
-      products = omega (arith, c .before .before .before .before .before .before .before .before .before .before .before .before .before .before .before .before .count .ensures, e, c .before .before .count-rows2 .ensures .1, d);
+      counts = record {
+        stored = c .before .before .before .before .before .before .before .before .before .before .before .before .before .before .before .before .count .ensures ∙ e;
+        shared = c .before .before .before .before .before .before .before .before .before .before .count-rows .ensures .1;
+        products = omega (arith, c .before .before .before .before .before .before .before .before .before .before .before .before .before .before .before .before .count .ensures, e, c .before .before .count-rows2 .ensures .1, d);
+      };
       few = c .before .before .before .before .before .before .before .before .before .before .count-rows .ensures .2;
     }
 
