@@ -1,0 +1,6 @@
+pub mod Bytes
+pub mod Records
+pub mod Tables
+pub mod Verdicts
+pub mod Written
+pub mod Matrix
