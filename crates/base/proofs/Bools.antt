@@ -54,6 +54,11 @@ and-left a b e = and-out a b e .0
 pub and-right : (a b : Bool) → a && b ≡ true → b ≡ true
 and-right a b e = and-out a b e .1
 
+-- the second is what fails
+pub and-second : (a b : Bool) → a ≡ true → a && b ≡ false → b ≡ false
+and-second true b h e = e
+and-second false b h e = absurd (false≢true h)
+
 pub and-false : (a : Bool) → a && false ≡ false
 and-false true = refl
 and-false false = refl

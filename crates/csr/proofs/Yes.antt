@@ -14,16 +14,12 @@ use Rattle.csr.specs.Verdict.{Verdict, passed, refused, ask}
 use Rattle.csr.specs.Questions.{maxEntries, firstFrom, falls, empty, badAt, badRow, offsetsRight, rowsRight, firstNo}
 use Rattle.csr.proofs.First.{none-below}
 use Rattle.csr.proofs.Right.{right, within}
-use Rattle.base.proofs.Bools.{and-left, and-right, or-none}
+use Rattle.base.proofs.Bools.{and-left, and-right, and-second, or-none}
 
 -- a question before a pass got a yes
 pub asked : (t : Bool) (next : Verdict) (q p l : ℕ) → ask t next (refused q p l) ≡ passed → (t ≡ true) × (next ≡ passed)
 asked true next q p l e = (refl, e)
 asked false next q p l e = let z : _≡_ {A = ℕ} 0 1 = cc in absurd (omega arith)
-
-and-second : (a b : Bool) → a ≡ true → a && b ≡ false → b ≡ false
-and-second true b h e = e
-and-second false b h e = let z : false ≡ true = h in cc
 
 -- question 3 asks for as many values as there are columns listed
 pub values-of : (m n : ℕ) (off cols : List ℕ) (values : ℕ) → firstNo m n off cols values ≡ passed → values ≡ length cols

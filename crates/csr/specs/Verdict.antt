@@ -15,6 +15,8 @@ pub data Told : Type 0 where
   sized : ℕ → ℕ → ℕ → ℕ → ℕ → Told
   -- costliest: E and D
   costs : ℕ → ℕ → Told
+  -- write_plan: the bytes of the file
+  written : ℕ → Told
 
 pub data Verdict : Type 0 where
   -- every question that was asked got a yes

@@ -1,7 +1,7 @@
 -- An answer as one number, for callers in other languages. Definitions only.
 use mathlib.Core.Path.{_≡_}
 use Prim.Native.Nat.{ℕ, _+_, _*_, _^_}
-use Rattle.csr.specs.Verdict.{Verdict, Told, passed, told, planned, accepted, sized, costs, refused}
+use Rattle.csr.specs.Verdict.{Verdict, Told, passed, told, planned, accepted, sized, costs, written, refused}
 use Rattle.machine.specs.declared.Outcome.{Outcome}
 use Rattle.machine.specs.Demand3.{Buffers, Demand3}
 use Rattle.ipm_simd.specs.Solve.{Given, call, words, room, priceCount, plannedHas, outcomeVerdict, begun, solveVerdict, solveBuffers}
@@ -10,12 +10,13 @@ use Rattle.ipm_simd.specs.Solve.{Given, call, words, room, priceCount, plannedH
 abbrev pub inOne : ℕ → ℕ → ℕ → ℕ → ℕ
 inOne length question place lane = length * 2 ^ 48 + question * 2 ^ 40 + place * 2 ^ 8 + lane
 
--- question 0 is a yes, and its place is W, or the test with the number of y's numbers as its length; costliest names no place
+-- question 0 is a yes, and its place is W, or the bytes of a file, or the test with the number of y's numbers as its length; costliest names no place
 abbrev pub packedTold : Told → ℕ
 packedTold (planned w) = inOne 0 0 w 0
 packedTold (accepted k count) = inOne count 0 k 0
 packedTold (sized e s d w f) = inOne 0 0 w 0
 packedTold (costs e d) = inOne 0 0 0 0
+packedTold (written k) = inOne 0 0 k 0
 
 abbrev pub packed : Verdict → ℕ
 packed passed = inOne 0 0 0 0

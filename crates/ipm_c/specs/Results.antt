@@ -1,6 +1,6 @@
 -- The results that calls write through pointers: what each holds after the call. Definitions only.
 use Prim.Native.Nat.{ℕ}
-use Rattle.csr.specs.Verdict.{Verdict, Told, passed, told, planned, accepted, sized, costs, refused}
+use Rattle.csr.specs.Verdict.{Verdict, Told, passed, told, planned, accepted, sized, costs, written, refused}
 
 -- what the five results of sizes hold
 pub record Results : Type 0 where
@@ -19,6 +19,7 @@ resultsTold (sized e s d w f) old = results e s d w f
 resultsTold (planned w) old = old
 resultsTold (accepted k count) old = old
 resultsTold (costs e d) old = old
+resultsTold (written k) old = old
 
 abbrev pub resultsLeft : Verdict → Results → Results
 resultsLeft (told a) old = resultsTold a old
@@ -39,6 +40,7 @@ costsTold (costs e d) old = costsOf e d
 costsTold (planned w) old = old
 costsTold (accepted k count) old = old
 costsTold (sized e s d w f) old = old
+costsTold (written k) old = old
 
 abbrev pub costsLeft : Verdict → Costs → Costs
 costsLeft (told a) old = costsTold a old

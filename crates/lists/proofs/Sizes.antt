@@ -23,6 +23,7 @@ use Rattle.lists.specs.declared.Which.{Which}
 use Rattle.lists.specs.declared.Which.the-variants.{AnormIndptr, AnormIndptrI, AnormIndptrJ, AnormIndices, LdecompIndptr, LdecompIndptrI, LdecompIndptrJ, Lindptr, LdiagIndptr, Lindices}
 use Rattle.lists.specs.declared.Side.{Side}
 use Rattle.lists.specs.declared.Side.the-variants.{Factor, Matrix}
+use Rattle.lists.specs.declared.What.{What}
 use Rattle.lists.specs.declared.What.the-variants.{Numbers, Places}
 use Rattle.base.proofs.Write.{length-cat, length-pick}
 use Rattle.lists.proofs.Merge.{length-both}
@@ -126,6 +127,10 @@ unfolding columnEnds
 length-ends mem m n =
     omega (arith, length-cat n (λ e. sum (suc e) (inColumn mem m) ∷ []), sum-ext n (λ e. length (sum (suc e) (inColumn mem m) ∷ [])) (λ e. 1) (λ k l. refl), sum-ones n)
 
+pub size-ends : (off cols : List ℕ) (s : Side) (m n : ℕ) → length (endsOf (shape off cols) s m n) ≡ n + 1
+unfolding endsOf
+size-ends off cols s m n = length-ends (holds (shape off cols) s) m n
+
 -- a rising row below n has each of its columns once
 row-ones : (n : ℕ) (xs : List ℕ) → Rising xs → Below n xs → sum n (λ e. one (has xs e)) ≡ length xs
 unfolding has
@@ -166,6 +171,14 @@ module _ (off cols : List ℕ) (m n : ℕ) (ok : Accepted off cols m n) where
           (sum-ext (suc i) (λ e. one ((shape off cols) .held i e)) (λ j. one (isStored off cols i j)) (λ j k. held-one off cols m i j (omega arith)))
           (sum-zero (m - suc i) (λ k. one ((shape off cols) .held i (suc i + k))) (λ k h. ap (λ (t : Bool). one (t && isStored off cols i (suc i + k))) (lt-leb (suc i + k) i (omega arith))))
           ∙ omega arith
+
+  pub size-factor : (v : What) → length (columnsOf (shape off cols) Factor v m m) ≡ countE off cols m
+  unfolding columnsOf
+  size-factor v = length-columns (holds (shape off cols) Factor) (entry (shape off cols) Factor v) m m ∙ factor-entries
+
+  pub size-matrix : (v : What) → length (columnsOf (shape off cols) Matrix v m n) ≡ length cols
+  unfolding columnsOf
+  size-matrix v = length-columns (holds (shape off cols) Matrix) (entry (shape off cols) Matrix v) m n ∙ matrix-entries
 
   size-side : (s : Side) (c t : ℕ) → sum m (λ i. sum c (λ e. one (holds (shape off cols) s i e))) ≡ t → length (sideOf (shape off cols) s m c) ≡ c + 1 + t + t
   unfolding endsOf columnsOf

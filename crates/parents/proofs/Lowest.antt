@@ -6,7 +6,7 @@ use native.Mathlib.Omega.{arith}
 use native.Mathlib.Decide.{ℕ-discrete, decLt}
 use borrow.Author.Tests.{lt-ltb, ltb-true}
 use lib.Dec.{ltb}
-use Rattle.base.proofs.Bools.{and-in, and-out}
+use Rattle.base.proofs.Bools.{and-in, and-out, and-second}
 use Rattle.pattern.specs.Links.{orElse}
 use Rattle.parents.specs.Parent.{lowest, laterEntry, parentOf, Parent, ParentOf}
 
@@ -53,10 +53,6 @@ lowest-some : (p : ℕ → Bool) (b r : ℕ) → p r ≡ true → r < b → (f :
 lowest-some p b r e l = found-is p b (lowest p b) (found p b) r e l
 
 -- ---- parents
-false-and : (a b : Bool) → a ≡ true → a && b ≡ false → b ≡ false
-false-and true b h e = e
-false-and false b h e = absurd (false≢true h)
-
 module _ (st : ℕ → ℕ → Bool) where
   -- a parent that is found is the parent, and below the bound
   pub parent-is : (b k r : ℕ) → parentOf st b k ≡ suc r → Parent st k r × (r < b)
@@ -67,7 +63,7 @@ module _ (st : ℕ → ℕ → Bool) where
         record {
           later = ltb-true k r (s .0);
           entry = s .1;
-          lowestOne = λ q l u. false-and (ltb k q) (st q k) (lt-ltb k q l) (w .before q u);
+          lowestOne = λ q l u. and-second (ltb k q) (st q k) (lt-ltb k q l) (w .before q u);
         },
         w .inside,
       )

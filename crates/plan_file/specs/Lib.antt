@@ -4,3 +4,4 @@ pub mod Tables
 pub mod Verdicts
 pub mod Written
 pub mod Matrix
+pub mod Promises

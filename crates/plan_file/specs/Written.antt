@@ -1,10 +1,10 @@
 -- The file that the writing call makes. Definitions only.
 use mathlib.Core.List.{List, [], _∷_, _++_}
-use Prim.Native.Nat.{ℕ, zero, suc, _+_, _-_}
-use lib.ListN.{length, getD, take, drop}
-use Rattle.base.specs.Sums.{sum}
+use Prim.Native.Nat.{ℕ, zero, suc, _+_, _^_, _<_, _≤_}
+use lib.ListN.{length}
 use Rattle.plan_file.specs.Bytes.{words}
 use Rattle.plan_file.specs.Records.{recordOf}
+use Rattle.plan_file.specs.Tables.{firstNote}
 
 -- the kind and the width that list k is written with
 pub record Writer : Type 0 where
@@ -26,11 +26,16 @@ writtenFrom wr lists k (suc n) =
 abbrev pub writtenFile : Writer → (ℕ → List ℕ) → List ℕ
 writtenFile wr lists = writtenFrom wr lists 1 16
 
+-- 'whatever whole notes a newer writer adds around its records': the records from list number k on, with whole notes anywhere around them
+pub data Noted (wr : Writer) (lists : ℕ → List ℕ) : ℕ → List ℕ → Type 0 where
+  last : Noted wr lists 17 []
+  note : {k : ℕ} {file : List ℕ} (kind : ℕ) (body : List ℕ)
+      → firstNote ≤ kind → kind < 2 ^ 16 → 2 + length body < 2 ^ 32
+      → Noted wr lists k file → Noted wr lists k (recordOf kind body ++ file)
+  next : {k : ℕ} {file : List ℕ}
+      → Noted wr lists (suc k) file → Noted wr lists k (recordOf (wr .kind k) (words (wr .width k) (lists k)) ++ file)
+
 -- the words of n lists, from number k on
 unfoldable pub wordsIn : (ℕ → List ℕ) → ℕ → ℕ → ℕ
 wordsIn lists k zero = 0
 wordsIn lists k (suc n) = length (lists k) + wordsIn lists (suc k) n
-
--- list number k of lists that stand one after the other, by their sizes
-abbrev pub partOf : List ℕ → List ℕ → ℕ → List ℕ
-partOf sizes words k = take (getD sizes (k - 1) 0) (drop (sum (k - 1) (λ i. getD sizes i 0)) words)

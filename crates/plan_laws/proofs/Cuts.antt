@@ -1,107 +1,21 @@
 -- The sixteen lists stand one after the other in the index memory: each is cut out between its bounds. Assumes nothing.
-use mathlib.Core.Path.{_≡_, refl, sym, ap, _∙_}
-use mathlib.Core.List.{List, [], _∷_, _++_, append-assoc, append-nil}
-use Prim.Native.Nat.{ℕ, _+_, _-_, _≤_}
+use mathlib.Core.Path.{_≡_}
+use mathlib.Core.List.{List, _++_}
+use Prim.Native.Nat.{_+_, _≤_}
 use native.Mathlib.Omega.{arith}
-use lib.ListN.{length, take, drop}
-use lib.Seq.{take-at, drop-at, drop-drop}
+use lib.ListN.{length}
 use lib.Ieee.{Float}
 use Rattle.csr.specs.Counts.{countE, countS, countD}
-use Rattle.lists.specs.Lists.{Shape, shape, holds, entry, listOf, endsOf, columnsOf, planOf, planWords}
+use Rattle.lists.specs.Lists.{shape, listOf, endsOf, columnsOf, planWords}
 use Rattle.csr.specs.Csr.{Accepted}
 use Rattle.lists.specs.declared.Which.the-variants.{AnormIndptr, AnormIndptrI, AnormIndptrJ, AnormIndices, LdecompIndptr, LdecompIndptrI, LdecompIndptrJ, Lindptr, LdiagIndptr, Lindices}
-use Rattle.lists.specs.declared.Side.{Side}
 use Rattle.lists.specs.declared.Side.the-variants.{Factor, Matrix}
-use Rattle.lists.specs.declared.What.{What}
 use Rattle.lists.specs.declared.What.the-variants.{Numbers, Places}
-use Rattle.lists.proofs.Sizes.{size-list, length-ends, length-columns, matrix-entries, factor-entries}
-use Rattle.base.specs.Numbers.{cut}
+use Rattle.lists.proofs.Sizes.{size-list, size-ends, size-factor, size-matrix}
+use Rattle.lists.proofs.Joined.{first-is, behind, plan-from}
 use Rattle.layout.specs.declared.Plan.{Plan}
 use Rattle.layout.specs.Lists.{anormIndptrAt, anormIndptrIAt, anormIndptrJAt, anormIndicesAt, ldecompIndptrAt, ldecompIndptrIAt, ldecompIndptrJAt, lindptrAt, ldiagIndptrAt, lindicesAt, ltindptrAt, ltindicesAt, ltmapAt, atindptrAt, atindicesAt, atmapAt, wordsAt}
 use Rattle.plan_laws.specs.Prepared.{Prepared}
-
--- ---- how long the lists by column are
-
-pub size-ends : (off cols : List ℕ) (s : Side) (m n : ℕ) → length (endsOf (shape off cols) s m n) ≡ n + 1
-unfolding endsOf
-size-ends off cols s m n = length-ends (holds (shape off cols) s) m n
-
-module _ (off cols : List ℕ) (m n : ℕ) (ok : Accepted off cols m n) where
-  pub size-factor : (v : What) → length (columnsOf (shape off cols) Factor v m m) ≡ countE off cols m
-  unfolding columnsOf
-  size-factor v = length-columns (holds (shape off cols) Factor) (entry (shape off cols) Factor v) m m ∙ factor-entries off cols m n ok
-
-  pub size-matrix : (v : What) → length (columnsOf (shape off cols) Matrix v m n) ≡ length cols
-  unfolding columnsOf
-  size-matrix v = length-columns (holds (shape off cols) Matrix) (entry (shape off cols) Matrix v) m n ∙ matrix-entries off cols m n ok
-
--- ---- one list of many
-
--- lists one after the other
-abbrev pub join : List (List ℕ) → List ℕ
-join [] = []
-join (x ∷ xs) = x ++ join xs
-
--- the lists xs stand in a memory from place b on
-pub record From (index : List ℕ) (b : ℕ) (xs : List (List ℕ)) : Type 0 where
-  pub rest : List ℕ
-  pub is : drop b index ≡ join xs ++ rest
-
-module _ {index : List ℕ} {b : ℕ} {x : List ℕ} {xs : List (List ℕ)} (f : From index b (x ∷ xs)) (e : ℕ) (q : e ≡ b + length x) where
-  regrouped : drop b index ≡ x ++ (join xs ++ f .rest)
-  regrouped = f .is ∙ append-assoc x (join xs) (f .rest)
-
-  -- THE CUT: the first of them stands between its bounds
-  pub first-is : cut b e index ≡ x
-  first-is = ap (take (e - b)) regrouped ∙ take-at x (join xs ++ f .rest) (e - b) (omega arith)
-
-  -- and the others from there on
-  pub behind : From index e xs
-  behind = record {
-    rest = f .rest;
-    is = ap (λ (k : ℕ). drop k index) q ∙ sym (drop-drop (length x) b index) ∙ ap (drop (length x)) regrouped ∙ drop-at x (join xs ++ f .rest) (length x) refl;
-  }
-
--- ---- the sixteen
-
-regroup : (a0 a1 a2 a3 a4 a5 a6 a7 a8 a9 a10 a11 a12 a13 a14 a15 : List ℕ)
-    → a0 ++ a1 ++ a2 ++ a3 ++ a4 ++ a5 ++ a6 ++ a7 ++ a8 ++ a9 ++ a10 ++ a11 ++ a12 ++ a13 ++ a14 ++ a15
-    ≡ join (a0 ∷ a1 ∷ a2 ∷ a3 ∷ a4 ∷ a5 ∷ a6 ∷ a7 ∷ a8 ∷ a9 ∷ a10 ∷ a11 ∷ a12 ∷ a13 ∷ a14 ∷ a15 ∷ [])
-regroup a0 a1 a2 a3 a4 a5 a6 a7 a8 a9 a10 a11 a12 a13 a14 a15 = simp (append-assoc, append-nil)
-
-module _ (off cols : List ℕ) (m n : ℕ) where
-  abbrev g : Shape
-  g = shape off cols
-
-  abbrev pub sixteen : List (List ℕ)
-  sixteen =
-      listOf g AnormIndptr m
-      ∷ listOf g AnormIndptrI m
-      ∷ listOf g AnormIndptrJ m
-      ∷ listOf g AnormIndices m
-      ∷ listOf g LdecompIndptr m
-      ∷ listOf g LdecompIndptrI m
-      ∷ listOf g LdecompIndptrJ m
-      ∷ listOf g Lindptr m
-      ∷ listOf g LdiagIndptr m
-      ∷ listOf g Lindices m
-      ∷ endsOf g Factor m m
-      ∷ columnsOf g Factor Numbers m m
-      ∷ columnsOf g Factor Places m m
-      ∷ endsOf g Matrix m n
-      ∷ columnsOf g Matrix Numbers m n
-      ∷ columnsOf g Matrix Places m n
-      ∷ []
-
-  plan-joined : planWords off cols m n ≡ join sixteen
-  unfolding planOf
-  plan-joined =
-      regroup (listOf g AnormIndptr m) (listOf g AnormIndptrI m) (listOf g AnormIndptrJ m) (listOf g AnormIndices m) (listOf g LdecompIndptr m) (listOf g LdecompIndptrI m) (listOf g LdecompIndptrJ m) (listOf g Lindptr m) (listOf g LdiagIndptr m) (listOf g Lindices m)
-      (endsOf g Factor m m) (columnsOf g Factor Numbers m m) (columnsOf g Factor Places m m)
-      (endsOf g Matrix m n) (columnsOf g Matrix Numbers m n) (columnsOf g Matrix Places m n)
-
-  pub plan-from : (index rest : List ℕ) → index ≡ planWords off cols m n ++ rest → From index 0 sixteen
-  plan-from index rest e = record { rest = rest; is = e ∙ ap (λ (l : List ℕ). l ++ rest) plan-joined }
 
 -- THE PREPARED LISTS: the parts of an index memory that starts with the plan
 pub prepared-of : {off cols : List ℕ} {vals : List Float} {p : Plan} {index : List ℕ} (rest : List ℕ)

@@ -4,7 +4,7 @@ use Prim.Native.Nat.{ℕ, _≤_}
 use native.Mathlib.Omega.{arith}
 use lib.ListN.{length}
 use lib.Ieee.{Float}
-use Rattle.csr.specs.Verdict.{Verdict, Told, passed, told, planned, accepted, sized, costs, refused}
+use Rattle.csr.specs.Verdict.{Verdict, Told, passed, told, planned, accepted, sized, costs, written, refused}
 use Rattle.machine.specs.Demand3.{Buffers}
 use Rattle.ipm_simd.specs.Solve.{Given, solveVerdict, solveBuffers}
 use Rattle.record.specs.Record.{mostColumns}
@@ -16,6 +16,7 @@ told-length (accepted k count) x n h = omega (arith, accepted-length k n x, h)
 told-length (planned w) x n h = omega arith
 told-length (sized e s d w f) x n h = omega arith
 told-length (costs e d) x n h = omega arith
+told-length (written k) x n h = omega arith
 
 verdict-length : (v : Verdict) (x : List Float) (n : ℕ) → n ≤ mostColumns → length (verdictText v x n) ≤ answerBytes
 verdict-length passed x n h = omega arith

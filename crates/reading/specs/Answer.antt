@@ -6,7 +6,7 @@ use lib.ListN.{replicate}
 use lib.Ieee.{Float, binary64, ofBits}
 use Rattle.layout.specs.Layout.{workingSize}
 use Rattle.lanes.specs.Controls.{standardControls}
-use Rattle.csr.specs.Verdict.{Verdict, Told, passed, told, planned, accepted, sized, costs, refused}
+use Rattle.csr.specs.Verdict.{Verdict, Told, passed, told, planned, accepted, sized, costs, written, refused}
 use Rattle.machine.specs.Demand3.{Buffers}
 use Rattle.ipm_simd.specs.Solve.{Given, given, lent, solveVerdict, solveBuffers}
 use Rattle.record.specs.Record.{mOf, nOf, sOf, limitOf, offsetsOf, columnsOf, valuesOf, tolerancesOf, bOf, cOf, wellFormed, mostRows, mostColumns, mostEntries}
@@ -18,6 +18,7 @@ toldText (accepted test count) x n = acceptedText test x n
 toldText (planned w) x n = []
 toldText (sized e s d w f) x n = []
 toldText (costs e d) x n = []
+toldText (written k) x n = []
 
 abbrev pub verdictText : Verdict → List Float → ℕ → List ℕ
 verdictText (told a) x n = toldText a x n

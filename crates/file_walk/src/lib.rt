@@ -1,0 +1,7 @@
+// Questions 14 and 15, over the records of a lent file.
+mod kinds;
+mod walk;
+
+pub use kinds::wide_meaning;
+pub use walk::is_ordered;
+pub use walk::is_whole;

@@ -1,0 +1,57 @@
+// Questions 14 and 15, over a lent file.
+ghost use mathlib.Core.Path.{_≡_};
+ghost use mathlib.Core.Bool.{true};
+ghost use Prim.Native.Nat.{_+_, _≤_};
+ghost use lib.ListN.{length};
+ghost use Rattle.plan_file.specs.Tables.{wide};
+ghost use Rattle.plan_file.specs.Verdicts.{wholeFile, orderedFile};
+use crate::kinds;
+
+const LENGTH_BYTES: usize = 4;
+
+const KIND_BYTES: usize = 2;
+
+// Question 14: is no record cut short, none shorter than its kind, and each list's body whole?
+pub fn is_whole(file: &[u8]) -> bool
+    ensures { λ r. ⌜ r ≡ wholeFile wide (now (file .entry)) ⌝ }
+{
+    let mut at = 0;
+    while at < file.len() {
+        let rest = file.len() - at;
+        if rest < LENGTH_BYTES {
+            return false;
+        }
+        let size = record::le32(file, at);
+        if size > rest - LENGTH_BYTES {
+            return false;
+        }
+        if size < KIND_BYTES {
+            return false;
+        }
+        let m = kinds::wide_meaning(record::le16(file, at + LENGTH_BYTES));
+        if !kinds::is_whole_body(m, size - KIND_BYTES) {
+            return false;
+        }
+        at = at + LENGTH_BYTES + size;
+    }
+    true
+}
+
+// Question 15, after a yes at 14: is each record the next list or a note, and the sixteenth list there?
+pub fn is_ordered(file: &[u8]) -> bool
+    requires { ⌜ wholeFile wide (now file) ≡ true ⌝ }
+    ensures { λ r. ⌜ r ≡ orderedFile wide 1 (now (file .entry)) ⌝ }
+{
+    let mut at = 0;
+    let mut next = 1;
+    while at < file.len() {
+        let size = record::le32(file, at);
+        let m = kinds::wide_meaning(record::le16(file, at + LENGTH_BYTES));
+        if !kinds::is_next(m, next) {
+            return false;
+        }
+        next = kinds::after_one(m, next);
+        at = at + LENGTH_BYTES + size;
+    }
+    next == kinds::LISTS + 1
+}

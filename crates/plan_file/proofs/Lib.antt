@@ -1,0 +1,7 @@
+pub mod Numbers
+pub mod Parse
+pub mod Yes
+pub mod Files
+pub mod Bounds
+pub mod Cuts
+pub mod Plans

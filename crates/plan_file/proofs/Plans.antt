@@ -1,0 +1,59 @@
+-- The files of a matrix: what is promised of them. Assumes nothing.
+use mathlib.Core.Path.{_≡_, refl, sym, ap, _∙_}
+use mathlib.Core.List.{List, _++_}
+use Prim.Native.Nat.{ℕ, zero, suc, _+_, _*_, _<_}
+use native.Mathlib.Omega.{arith}
+use lib.ListN.{length, length-append}
+use Rattle.base.specs.Cat.{join}
+use Rattle.csr.specs.Csr.{Accepted}
+use Rattle.csr.specs.Counts.{sizeW}
+use Rattle.lists.specs.Lists.{planWords}
+use Rattle.lists.proofs.Joined.{From, plan-from, plan-joined}
+use Rattle.lists.proofs.Sizes.{plan-size}
+use Rattle.plan_file.specs.Tables.{wide}
+use Rattle.plan_file.specs.Verdicts.{listsFrom}
+use Rattle.plan_file.specs.Written.{wideWriter, wordsIn}
+use Rattle.plan_file.specs.Matrix.{matrixLists}
+use Rattle.plan_file.specs.Promises.{planFile, Files}
+use Rattle.plan_file.proofs.Yes.{passes-gives, passes-iff}
+use Rattle.plan_file.proofs.Files.{size-wide, wide-sound, wide-writes, written-noted, noted-passes}
+use Rattle.plan_file.proofs.Bounds.{wide-fits}
+use Rattle.plan_file.proofs.Cuts.{cut-refused, other-refused}
+
+words-joined : (lists : ℕ → List ℕ) (n k : ℕ) → wordsIn lists k n ≡ length (join (listsFrom lists k n))
+unfolding listsFrom wordsIn
+words-joined lists zero k = refl
+words-joined lists (suc n) k =
+    ap (λ (x : ℕ). length (lists k) + x) (words-joined lists n (suc k)) ∙ sym (length-append (lists k) (join (listsFrom lists (suc k) n)))
+
+module _ (off cols : List ℕ) (m n : ℕ) where
+  -- the sixteen lists, one after the other, are the plan's words
+  pub joined-plan : join (listsFrom (matrixLists off cols m n) 1 16) ≡ planWords off cols m n
+  unfolding listsFrom
+  joined-plan = sym (plan-joined off cols m n)
+
+  -- and stand so at the start of a memory that begins with the plan
+  pub lists-from : (index rest : List ℕ) → index ≡ planWords off cols m n ++ rest → From index 0 (listsFrom (matrixLists off cols m n) 1 16)
+  unfolding listsFrom
+  lists-from index rest e = plan-from off cols m n index rest e
+
+  module _ (ok : Accepted off cols m n) where
+    plan-words : wordsIn (matrixLists off cols m n) 1 16 ≡ sizeW off cols m n
+    plan-words = words-joined (matrixLists off cols m n) 16 1 ∙ ap length joined-plan ∙ plan-size off cols m n ok
+
+    -- '4W + 96 bytes'
+    pub file-bytes : length (planFile off cols m n) ≡ 4 * sizeW off cols m n + 96
+    file-bytes = size-wide (matrixLists off cols m n) ∙ omega (arith, plan-words)
+
+    -- THE FILES OF A MATRIX
+    pub files : Files off cols m n
+    files = record {
+      exactly = λ file b. passes-iff wide (matrixLists off cols m n) wide-sound file b (wide-fits off cols m n ok);
+      yes = noted-passes wide wideWriter (matrixLists off cols m n) wide-sound (wide-fits off cols m n ok) wide-writes;
+      plain = written-noted wide wideWriter (matrixLists off cols m n);
+      gives = passes-gives wide (matrixLists off cols m n);
+      words = joined-plan;
+      bytes = file-bytes;
+      cuts = cut-refused wide wideWriter (matrixLists off cols m n) wide-sound (wide-fits off cols m n ok) wide-writes (matrixLists off cols m n);
+      others = λ lists fit. other-refused wide wideWriter lists wide-sound fit wide-writes (matrixLists off cols m n);
+    }
