@@ -12,7 +12,7 @@ use lib.ListN.{length, getD, set, take, length-append}
 use lib.Seq.{take-suc}
 use Rattle.io.specs.Digits.{glyph, digits, Fewest}
 use Rattle.base.specs.Cat.{Wrote}
-use Rattle.base.proofs.Write.{wrote-join, wrote-as, wrote-length}
+use Rattle.base.proofs.Write.{wrote-join, then-written, same-text}
 use Rattle.answer_text.specs.Text.{decimalTo, hexText}
 
 pub length-digits : (b k n : ℕ) → length (digits b k n) ≡ k
@@ -69,18 +69,9 @@ hex-is k b h f = let e : k ≡ 16 = omega (arith, f .0) in ap (λ (j : ℕ). dig
 
 -- ---- texts written one after the other
 
-pub join : {a b c : List ℕ} {at r s : ℕ} {t u : List ℕ} → Wrote a b at t r → Wrote b c r u s → Wrote a c at (t ++ u) s
-join p q = wrote-join _ _ _ _ _ _ _ _ p q
-
-pub same-text : {a b : List ℕ} {at r : ℕ} {t u : List ℕ} → t ≡ u → Wrote a b at t r → Wrote a b at u r
-same-text e p = wrote-as _ _ _ _ _ _ e p
-
-pub same-long : {a b : List ℕ} {at r : ℕ} {t : List ℕ} → Wrote a b at t r → length b ≡ length a
-same-long p = wrote-length _ _ _ _ _ p
-
 -- a text, and one byte after it
 pub then-byte : {a b c : List ℕ} {at r s : ℕ} {t u : List ℕ} {x : ℕ} → t ≡ u → Wrote a b at t r → Wrote b c r (x ∷ []) s → Wrote a c at (u ++ (x ∷ [])) s
-then-byte e p q = join (same-text e p) q
+then-byte e p q = then-written (same-text e p) q
 
 -- one byte more of a text
 pub copied : (a b : List ℕ) (at i : ℕ) (s : List ℕ) → i < length s → Wrote a b at (take i s) (at + i)

@@ -36,6 +36,16 @@ wrote-as a b at r vs ws e p = subst (λ (l : List ℕ). Wrote a b at l r) e p
 pub wrote-length : (a b : List ℕ) (at r : ℕ) (vs : List ℕ) → Wrote a b at vs r → length b ≡ length a
 wrote-length a b at r vs p = ap length (p .is) ∙ length-sets a at vs
 
+-- the same, where the lists are found
+pub then-written : {a b c : List ℕ} {at r s : ℕ} {t u : List ℕ} → Wrote a b at t r → Wrote b c r u s → Wrote a c at (t ++ u) s
+then-written p q = wrote-join _ _ _ _ _ _ _ _ p q
+
+pub same-text : {a b : List ℕ} {at r : ℕ} {t u : List ℕ} → t ≡ u → Wrote a b at t r → Wrote a b at u r
+same-text e p = wrote-as _ _ _ _ _ _ e p
+
+pub same-long : {a b : List ℕ} {at r : ℕ} {t : List ℕ} → Wrote a b at t r → length b ≡ length a
+same-long p = wrote-length _ _ _ _ _ p
+
 -- ---- joined lists
 
 pub cat-next : (n : ℕ) (f : ℕ → List ℕ) → cat (n + 1) f ≡ cat n f ++ f n

@@ -1,5 +1,5 @@
 -- The lists of the index memory: where each begins. The names are the Rust's fields, and the last three are the matrix's columns. Definitions only.
-use mathlib.Core.List.{List}
+use mathlib.Core.List.{List, [], _∷_}
 use Prim.Native.Nat.{ℕ, _+_, _*_, _≤_}
 use lib.ListN.{length}
 use Rattle.base.specs.Numbers.{cut}
@@ -80,6 +80,27 @@ startsOf p =
       atmap = atmapAt p;
       words = wordsAt p;
     }
+
+-- how many words each list has
+abbrev pub sizesOf : Plan → List ℕ
+sizesOf p =
+    (p .stored + 1)
+    ∷ p .shared
+    ∷ p .shared
+    ∷ p .shared
+    ∷ (p .stored + 1)
+    ∷ p .products
+    ∷ p .products
+    ∷ (p .m + 1)
+    ∷ p .m
+    ∷ p .stored
+    ∷ (p .m + 1)
+    ∷ p .stored
+    ∷ p .stored
+    ∷ (p .n + 1)
+    ∷ p .t
+    ∷ p .t
+    ∷ []
 
 -- each list, cut out of an index memory
 

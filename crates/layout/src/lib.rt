@@ -4,7 +4,7 @@ ghost use Prim.Native.Nat.{_*_, _≤_};
 ghost use lib.ListN.{length};
 ghost use Rattle.base.specs.Numbers.{cut};
 ghost use Rattle.layout.specs.Layout.{planOf, lIn, topIn, numbersOf, regionsOf, topWord};
-ghost use Rattle.layout.specs.Lists.{startsOf, wordsAt, anormIndptrIn, anormIndptrIIn, anormIndptrJIn, anormIndicesIn, ldecompIndptrIn, ldecompIndptrIIn, ldecompIndptrJIn, lindptrIn, ldiagIndptrIn, lindicesIn, ltindptrIn, ltindicesIn, ltmapIn, atindptrIn, atindicesIn, atmapIn, Indexed};
+ghost use Rattle.layout.specs.Lists.{startsOf, sizesOf, wordsAt, anormIndptrIn, anormIndptrIIn, anormIndptrJIn, anormIndicesIn, ldecompIndptrIn, ldecompIndptrIIn, ldecompIndptrJIn, lindptrIn, ldiagIndptrIn, lindicesIn, ltindptrIn, ltindicesIn, ltmapIn, atindptrIn, atindicesIn, atmapIn, Indexed};
 
 // The lanes of a call.
 pub const LANES: usize = 4;
@@ -79,6 +79,8 @@ impl Plan {
     pub const MAX_COLUMNS: usize = 1024;
 
     pub const MAX_ENTRIES: usize = 16384;
+
+    pub const LISTS: usize = 16;
 
     // Up to these sizes a call has small memories of its own: there is less to clear.
     pub const FEW_ROWS: usize = 16;
@@ -192,6 +194,36 @@ impl Plan {
             atmap,
             words,
         }
+    }
+
+    // How many words each list has.
+    pub fn sizes(self) -> [usize; Plan::LISTS]
+        requires { ⌜ wordsAt self ≤ topWord ⌝ }
+        ensures { λ r. ⌜ r ≡ sizesOf self ⌝ }
+    {
+        let m = self.m;
+        let t = self.t;
+        let stored = self.stored;
+        let shared = self.shared;
+        let products = self.products;
+        [
+            stored + 1,
+            shared,
+            shared,
+            shared,
+            stored + 1,
+            products,
+            products,
+            m + 1,
+            m,
+            stored,
+            m + 1,
+            stored,
+            stored,
+            self.n + 1,
+            t,
+            t,
+        ]
     }
 
     // W: how many words the plan has.

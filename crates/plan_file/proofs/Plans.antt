@@ -20,7 +20,7 @@ use Rattle.plan_file.proofs.Files.{size-wide, wide-sound, wide-writes, 
 use Rattle.plan_file.proofs.Bounds.{wide-fits}
 use Rattle.plan_file.proofs.Cuts.{cut-refused, other-refused}
 
-words-joined : (lists : ℕ → List ℕ) (n k : ℕ) → wordsIn lists k n ≡ length (join (listsFrom lists k n))
+pub words-joined : (lists : ℕ → List ℕ) (n k : ℕ) → wordsIn lists k n ≡ length (join (listsFrom lists k n))
 unfolding listsFrom wordsIn
 words-joined lists zero k = refl
 words-joined lists (suc n) k =

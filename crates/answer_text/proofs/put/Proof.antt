@@ -4,7 +4,8 @@ use lib.ListN.{length, take}
 use Rattle.base.specs.Cat.{Wrote}
 use mathlib.Core.Path.{refl}
 use lib.Seq.{take-all}
-use Rattle.answer_text.proofs.Texts.{same-text, same-long, copied}
+use Rattle.base.proofs.Write.{same-text, same-long}
+use Rattle.answer_text.proofs.Texts.{copied}
 use Rattle.answer_text.proofs.put.Statement.{statement}
 use Rattle.answer_text.proofs.put.Tie as tie
 

@@ -1,7 +1,7 @@
 use borrow.Author.Needs.{needs}
 use native.Mathlib.Omega.{arith}
 use Rattle.answer_text.specs.Text.{lineText}
-use Rattle.answer_text.proofs.Texts.{join}
+use Rattle.base.proofs.Write.{then-written}
 use Rattle.answer_text.proofs.put_line.Statement.{statement}
 use Rattle.answer_text.proofs.put_line.Tie as tie
 
@@ -12,7 +12,7 @@ returns c =
     let second = c .before .before .before .before .before .before .before .before .before .before .before .before .put-float2 .ensures in
     let third = c .before .before .before .before .before .before .before .put-float3 .ensures in
     let fourth = c .before .before .put-float4 .ensures in (
-      join (first .0) (join (second .0) (join (third .0) (fourth .0))),
+      then-written (first .0) (then-written (second .0) (then-written (third .0) (fourth .0))),
       omega (arith, first .1, second .1, third .1, fourth .1),
     )
 

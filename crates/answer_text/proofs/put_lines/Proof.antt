@@ -2,9 +2,8 @@ use Prim.Native.Nat.{ℕ, _+_, _*_, _-_, _≤_}
 use mathlib.Core.Path.{_≡_, sym, ap}
 use native.Mathlib.Omega.{arith}
 use Rattle.base.specs.Cat.{cat, Wrote}
-use Rattle.base.proofs.Write.{wrote-none, cat-next}
 use Rattle.answer_text.specs.Text.{lineText}
-use Rattle.answer_text.proofs.Texts.{join, same-text, same-long}
+use Rattle.base.proofs.Write.{wrote-none, cat-next, then-written, same-text, same-long}
 use Rattle.answer_text.proofs.put_lines.Statement.{statement}
 use Rattle.answer_text.proofs.put_lines.Tie as tie
 
@@ -34,7 +33,7 @@ loop-again c =
     let inv = c .before .before .before .before .before .loop .inv in
     let line = c .before .before .put-line .ensures in (
       omega arith,
-      (omega (arith, line .1), same-text (sym (cat-next _ _)) (join (inv .1 .1) (line .0))),
+      (omega (arith, line .1), same-text (sym (cat-next _ _)) (then-written (inv .1 .1) (line .0))),
     )
 
 same-length : tie.Need-same-length Inv-loop μ-loop
