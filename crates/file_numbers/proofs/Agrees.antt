@@ -82,10 +82,6 @@ pub record Looked (s : List ℕ) (at : ℕ) (l : List ℕ) (k bad : ℕ) : Type 
   pub each : bad ≡ 0 → Each s at l k
   pub other : 0 < bad → (words : ℕ) → k ≤ words → words ≤ length l → false ≡ agree s at (take words l)
 
-pub one-few : (b : Bool) → one b ≤ 1
-one-few true = omega arith
-one-few false = omega arith
-
 module _ (s : List ℕ) (at : ℕ) (l : List ℕ) where
   pub looked-none : Looked s at l 0 0
   looked-none = record { most = omega arith; each = λ e j h. absurd (omega arith); other = λ h w a b. absurd (omega arith) }

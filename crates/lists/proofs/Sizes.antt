@@ -127,7 +127,7 @@ length-ends mem m n =
     omega (arith, length-cat n (λ e. sum (suc e) (inColumn mem m) ∷ []), sum-ext n (λ e. length (sum (suc e) (inColumn mem m) ∷ [])) (λ e. 1) (λ k l. refl), sum-ones n)
 
 -- a rising row below n has each of its columns once
-row-ones : (n : ℕ) (xs : List ℕ) → Rising xs → Below n xs → sum n (λ e. one (has xs e)) ≡ length xs
+pub row-ones : (n : ℕ) (xs : List ℕ) → Rising xs → Below n xs → sum n (λ e. one (has xs e)) ≡ length xs
 unfolding has
 row-ones n [] h b = sum-zero n (λ e. 0) (λ k l. refl)
 row-ones n (x ∷ xs) h b =

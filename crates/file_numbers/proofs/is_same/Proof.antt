@@ -4,7 +4,8 @@ use Prim.Native.Nat.{_≤_, _-_}
 use mathlib.Core.Bool.{not}
 use lib.Dec.{eqb}
 use Rattle.file_numbers.specs.Agree.{numbersOf}
-use Rattle.file_numbers.proofs.Agrees.{Looked, looked-none, looked-more, looked-all, one-few, few-numbers}
+use Rattle.file_numbers.proofs.Agrees.{Looked, looked-none, looked-more, looked-all, few-numbers}
+use Rattle.base.proofs.Sums.{one-le}
 use Rattle.file_numbers.proofs.is_same.Statement.{statement}
 use Rattle.file_numbers.proofs.is_same.Tie as tie
 
@@ -42,7 +43,7 @@ differs-requires : tie.Need-differs-requires Inv-loop μ-loop
 differs-requires c κs = tt
 
 add-bad : tie.Need-add-bad Inv-loop μ-loop
-add-bad c = omega (arith, c .before .before .before .before .before .before .before .before .pre, c .before .before .before .before .loop-test .taken, c .differs .ensures, one-few (not (eqb (c .before .before .before .number-at .result) (c .before .of-word .result))), c .before .before .before .before .before .loop .inv .1 .most)
+add-bad c = omega (arith, c .before .before .before .before .before .before .before .before .pre, c .before .before .before .before .loop-test .taken, c .differs .ensures, one-le (not (eqb (c .before .before .before .number-at .result) (c .before .of-word .result))), c .before .before .before .before .before .loop .inv .1 .most)
 
 add-k : tie.Need-add-k Inv-loop μ-loop
 add-k c = omega (arith, c .before .before .before .before .before .before .before .before .pre, c .before .before .before .before .loop-test .taken)
