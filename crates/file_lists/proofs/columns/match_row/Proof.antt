@@ -1,88 +1,134 @@
+-- `file_lists::columns::match_row` meets its contract. Assumes nothing.
+use native.Mathlib.Omega.{arith}
+use Prim.Native.Nat.{ℕ, _≤_, _-_}
+use mathlib.Core.Path.{_≡_, refl, ap, ap₂, _∙_}
+use lib.Dec.{eqb}
+use lib.ListN.{length, getD}
+use Rattle.transpose.specs.Bins.{roomOf, inRow, colsOf}
+use Rattle.file_numbers.specs.Agree.{numbersOf}
+use Rattle.file_lists.specs.Matched.{Matched, entriesOf}
+use Rattle.file_lists.proofs.Matches as law
 use Rattle.file_lists.proofs.columns.match_row.Statement.{statement}
 use Rattle.file_lists.proofs.columns.match_row.Tie as tie
-use Rattle.file_lists.proofs.columns.match_row.Reads as reads
-use Rattle.file_lists.proofs.columns.match_row.Lts as lts
-use Rattle.base.proofs.word_at.Reads as word-at-reads
-use Rattle.file_lists.proofs.columns.step.Reads as step-reads
-use Rattle.file_numbers.proofs.both.Reads as both-reads
-use Rattle.file_numbers.proofs.number_at.Reads as number-at-reads
-use Rattle.file_numbers.proofs.of_word.Reads as of-word-reads
-use Rattle.transpose.proofs.column_at.Reads as column-at-reads
-use Rattle.transpose.proofs.of_entry.Reads as of-entry-reads
 
 abbrev Inv-loop : tie.InvT-loop
-Inv-loop side what off cols bytes m n i next₀ body was a b good₀ k₀ next good k = ?
+Inv-loop side what off cols bytes m n i next₀ body was a b good₀ k₀ next good k = 
+    (getD off i 0 ≤ k) × (length next ≡ length next₀) × Matched (numbersOf body) (entriesOf off (colsOf side cols bytes) what m n) next n (roomOf off (colsOf side cols bytes) m) (inRow off (colsOf side cols bytes) what i (k - getD off i 0)) good
 
 abbrev μ-loop : tie.MeasureT-loop
-μ-loop side what off cols bytes m n i next₀ body was a b good₀ k₀ next good k = ?
+μ-loop side what off cols bytes m n i next₀ body was a b good₀ k₀ next good k = b - k
 
--- src/columns.rt:48:9
 word-at-requires : tie.Need-word-at-requires Inv-loop μ-loop
-word-at-requires c κs = ?
+word-at-requires c κs =
+    let s = c .before .before .before .before .before in
+    let a = s .args in
+    let cols = colsOf (a .side) (a .cols .now) (a .bytes .now) in
+    let h = law.row-fits (a .off .now) cols (a .m) (a .n) (s .pre .0) (a .what) (a .i) (s .pre .1) (numbersOf (a .body .now)) (s .pre .3) (a .next .now) (s .pre .2) (a .was) (s .pre .4) in
+    omega (arith, h .1)
 
--- src/columns.rt:49:26
 add-word-at : tie.Need-add-word-at Inv-loop μ-loop
-add-word-at c = ?
+add-word-at c =
+    let s = c .before .before .before .before .before .before in
+    let a = s .args in
+    let cols = colsOf (a .side) (a .cols .now) (a .bytes .now) in
+    let h = law.row-fits (a .off .now) cols (a .m) (a .n) (s .pre .0) (a .what) (a .i) (s .pre .1) (numbersOf (a .body .now)) (s .pre .3) (a .next .now) (s .pre .2) (a .was) (s .pre .4) in
+    omega (arith, h .0)
 
--- src/columns.rt:49:9
 word-at-requires-2 : tie.Need-word-at-requires-2 Inv-loop μ-loop
-word-at-requires-2 c κs = ?
+word-at-requires-2 c κs =
+    let s = c .before .before .before .before .before .before in
+    let a = s .args in
+    let cols = colsOf (a .side) (a .cols .now) (a .bytes .now) in
+    let h = law.row-fits (a .off .now) cols (a .m) (a .n) (s .pre .0) (a .what) (a .i) (s .pre .1) (numbersOf (a .body .now)) (s .pre .3) (a .next .now) (s .pre .2) (a .was) (s .pre .4) in
+    h .1
 
--- src/columns.rt:52:5
 loop-holds : tie.Need-loop-holds Inv-loop μ-loop
-loop-holds c = ?
+loop-holds c =
+    let s = c .before .before .before .before .before .before .before in
+    let a = s .args in
+    let cols = colsOf (a .side) (a .cols .now) (a .bytes .now) in
+    (omega (arith, c .before .word-at .ensures), refl, law.match-start (a .off .now) cols (a .m) (a .n) (s .pre .0) (a .what) (a .i) (s .pre .1) (numbersOf (a .body .now)) (s .pre .3) (a .next .now) (s .pre .2) (a .was) (s .pre .4) (c .before .word-at .result) (c .before .word-at .ensures))
 
--- src/columns.rt:53:13
 column-at-requires : tie.Need-column-at-requires Inv-loop μ-loop
-column-at-requires c κs = ?
+column-at-requires c κs =
+    let s = c .before .before .before .before .before .before .before .before .before in
+    let a = s .args in
+    let cols = colsOf (a .side) (a .cols .now) (a .bytes .now) in
+    let h = law.row-fits (a .off .now) cols (a .m) (a .n) (s .pre .0) (a .what) (a .i) (s .pre .1) (numbersOf (a .body .now)) (s .pre .3) (a .next .now) (s .pre .2) (a .was) (s .pre .4) in
+    omega (arith, c .loop-test .taken, c .before .before .word-at2 .ensures, h .2)
 
--- src/columns.rt:54:51
 cast-of-entry : tie.Need-cast-of-entry Inv-loop μ-loop
-cast-of-entry c = ?
+cast-of-entry c =
+    let s = c .before .before .before .before .before .before .before .before .before .before in
+    let a = s .args in
+    let cols = colsOf (a .side) (a .cols .now) (a .bytes .now) in
+    let h = law.row-fits (a .off .now) cols (a .m) (a .n) (s .pre .0) (a .what) (a .i) (s .pre .1) (numbersOf (a .body .now)) (s .pre .3) (a .next .now) (s .pre .2) (a .was) (s .pre .4) in
+    omega (arith, h .0)
 
--- src/columns.rt:54:61
 cast-of-entry-2 : tie.Need-cast-of-entry-2 Inv-loop μ-loop
-cast-of-entry-2 c = ?
+cast-of-entry-2 c =
+    let s = c .before .before .before .before .before .before .before .before .before .before in
+    let a = s .args in
+    let cols = colsOf (a .side) (a .cols .now) (a .bytes .now) in
+    let h = law.row-fits (a .off .now) cols (a .m) (a .n) (s .pre .0) (a .what) (a .i) (s .pre .1) (numbersOf (a .body .now)) (s .pre .3) (a .next .now) (s .pre .2) (a .was) (s .pre .4) in
+    omega (arith, c .before .loop-test .taken, c .before .before .before .word-at2 .ensures, h .2, h .3)
 
--- src/columns.rt:54:25
 of-entry-requires : tie.Need-of-entry-requires Inv-loop μ-loop
-of-entry-requires c κs = ?
+of-entry-requires c κs = tt
 
--- src/columns.rt:54:13
 of-word-requires : tie.Need-of-word-requires Inv-loop μ-loop
-of-word-requires c κs = ?
+of-word-requires c κs = tt
 
--- src/columns.rt:55:13
 step-requires : tie.Need-step-requires Inv-loop μ-loop
-step-requires c κs = ?
+step-requires c κs =
+    let s = c .before .before .before .before .before .before .before .before .before .before .before .before .before in
+    let a = s .args in
+    let cols = colsOf (a .side) (a .cols .now) (a .bytes .now) in
+    let asks = law.match-asks (a .off .now) cols (a .m) (a .n) (s .pre .0) (a .what) (a .i) (s .pre .1) (numbersOf (a .body .now)) (s .pre .3) (a .next .now) (s .pre .2) (a .was) (s .pre .4) (c .before .before .before .before .before .loop .k) (c .before .before .before .column-at .result) (c .before .before .of-entry .result) (c .before .before .before .before .before .loop .inv .0) (omega (arith, c .before .before .before .before .loop-test .taken, c .before .before .before .before .before .before .word-at2 .ensures)) (c .before .before .before .column-at .ensures) (c .before .before .of-entry .ensures) (c .before .before .before .before .before .loop .next) (c .before .before .before .before .before .loop .inv .1) (c .before .before .before .before .before .loop .good) (c .before .before .before .before .before .loop .inv .2) in
+    (asks .0, asks .1)
 
--- src/columns.rt:56:27
 number-at-requires : tie.Need-number-at-requires Inv-loop μ-loop
-number-at-requires c κs = ?
+number-at-requires c κs =
+    let s = c .before .before .before .before .before .before .before .before .before .before .before .before .before .before .before .before in
+    let a = s .args in
+    let cols = colsOf (a .side) (a .cols .now) (a .bytes .now) in
+    let asks = law.match-asks (a .off .now) cols (a .m) (a .n) (s .pre .0) (a .what) (a .i) (s .pre .1) (numbersOf (a .body .now)) (s .pre .3) (a .next .now) (s .pre .2) (a .was) (s .pre .4) (c .before .before .before .before .before .before .before .before .loop .k) (c .before .before .before .before .before .before .column-at .result) (c .before .before .before .before .before .of-entry .result) (c .before .before .before .before .before .before .before .before .loop .inv .0) (omega (arith, c .before .before .before .before .before .before .before .loop-test .taken, c .before .before .before .before .before .before .before .before .before .word-at2 .ensures)) (c .before .before .before .before .before .before .column-at .ensures) (c .before .before .before .before .before .of-entry .ensures) (c .before .before .before .before .before .before .before .before .loop .next) (c .before .before .before .before .before .before .before .before .loop .inv .1) (c .before .before .before .before .before .before .before .before .loop .good) (c .before .before .before .before .before .before .before .before .loop .inv .2) in
+    omega (arith, asks .2, c .before .before .step .ensures .0)
 
--- src/columns.rt:56:9
 both-requires : tie.Need-both-requires Inv-loop μ-loop
-both-requires c κs = ?
+both-requires c κs = tt
 
--- src/columns.rt:57:9
 add-k : tie.Need-add-k Inv-loop μ-loop
-add-k c = ?
+add-k c =
+    let s = c .before .before .before .before .before .before .before .before .before .before .before .before .before .before .before .before .before .before in
+    let a = s .args in
+    let cols = colsOf (a .side) (a .cols .now) (a .bytes .now) in
+    let h = law.row-fits (a .off .now) cols (a .m) (a .n) (s .pre .0) (a .what) (a .i) (s .pre .1) (numbersOf (a .body .now)) (s .pre .3) (a .next .now) (s .pre .2) (a .was) (s .pre .4) in
+    omega (arith, c .before .before .before .before .before .before .before .before .before .loop-test .taken, c .before .before .before .before .before .before .before .before .before .before .before .word-at2 .ensures, h .2, h .3)
 
--- src/columns.rt:52:5
 loop-less : tie.Need-loop-less Inv-loop μ-loop
-loop-less c = ?
+loop-less c = omega (arith, c .before .before .before .before .before .before .before .before .before .loop-test .taken)
 
--- src/columns.rt:52:5
 loop-again : tie.Need-loop-again Inv-loop μ-loop
-loop-again c = ?
+loop-again c =
+    let s = c .before .before .before .before .before .before .before .before .before .before .before .before .before .before .before .before .before .before in
+    let a = s .args in
+    let cols = colsOf (a .side) (a .cols .now) (a .bytes .now) in
+    (
+      omega (arith, c .before .before .before .before .before .before .before .before .before .before .loop .inv .0),
+      c .before .before .before .before .step .kept .0 ∙ c .before .before .before .before .before .before .before .before .before .before .loop .inv .1,
+      law.match-turn (a .off .now) cols (a .m) (a .n) (s .pre .0) (a .what) (a .i) (s .pre .1) (numbersOf (a .body .now)) (s .pre .3) (a .next .now) (s .pre .2) (a .was) (s .pre .4) (c .before .before .before .before .before .before .before .before .before .before .loop .k) (c .before .before .before .before .before .before .before .before .column-at .result) (c .before .before .before .before .before .before .before .of-entry .result) (c .before .before .before .before .before .before .before .before .before .before .loop .inv .0) (omega (arith, c .before .before .before .before .before .before .before .before .before .loop-test .taken, c .before .before .before .before .before .before .before .before .before .before .before .word-at2 .ensures)) (c .before .before .before .before .before .before .before .before .column-at .ensures) (c .before .before .before .before .before .before .before .of-entry .ensures) (c .before .before .before .before .before .before .before .before .before .before .loop .next) (c .before .before .before .before .before .before .before .before .before .before .loop .inv .1) (c .before .before .before .before .before .before .before .before .before .before .loop .good) (c .before .before .before .before .before .before .before .before .before .before .loop .inv .2) (eqb (c .before .number-at .result) (c .before .before .before .before .before .before .of-word .result)) (c .both .result) (c .before .before .before .before .step .last .0) (ap₂ eqb (c .before .number-at .ensures ∙ ap (λ (q : ℕ). getD (numbersOf (a .body .now)) q 0) (c .before .before .before .before .step .ensures .0)) (c .before .before .before .before .before .before .of-word .ensures)) (c .both .ensures) (c .before .before .before .before .step .ensures .1),
+    )
 
--- src/columns.rt:32:1
 same-length : tie.Need-same-length Inv-loop μ-loop
-same-length c = ?
+same-length c = c .before .loop .inv .1
 
--- src/columns.rt:32:1
 returns : tie.Need-returns Inv-loop μ-loop
-returns c = ?
+returns c =
+    let s = c .before .before .before .before .before .before .before .before .before in
+    let a = s .args in
+    let cols = colsOf (a .side) (a .cols .now) (a .bytes .now) in
+    law.match-end (a .off .now) cols (a .m) (a .n) (s .pre .0) (a .what) (a .i) (s .pre .1) (numbersOf (a .body .now)) (s .pre .3) (a .next .now) (s .pre .2) (a .was) (s .pre .4) (c .before .loop .k) (c .before .loop .next) (c .before .loop .good) (omega (arith, c .loop-test .left, c .before .before .word-at2 .ensures)) (c .before .loop .inv .2)
 
 pub match-row-spec : {M : Type 1} → statement M
 match-row-spec =
