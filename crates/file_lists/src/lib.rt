@@ -14,6 +14,7 @@ ghost use Rattle.plan_file.specs.Verdicts.{same};
 ghost use Rattle.file_numbers.specs.Agree.{numbersOf};
 ghost use Rattle.file_lists.specs.Known.{Known};
 ghost use Rattle.file_lists.specs.Sizes.{whatOf, sideList};
+
 mod columns;
 mod pairs;
 
@@ -205,5 +206,16 @@ pub fn is_list(
         );
     }
     let which = lists::which_field(k - 1);
-    is_pair_list(which, body, off, cols, plan, p, lindptr, lindices, next, made)
+    is_pair_list(
+        which,
+        body,
+        off,
+        cols,
+        plan,
+        p,
+        lindptr,
+        lindices,
+        next,
+        made,
+    )
 }

@@ -13,7 +13,6 @@ use Rattle.record.specs.Little.{le4}
 use Rattle.base.specs.Sums.{one}
 use Rattle.base.proofs.Bools.{and-false}
 use Rattle.base.proofs.Numbers.{length-takes}
-use Rattle.plan_file.specs.Bytes.{number}
 use Rattle.plan_file.specs.Verdicts.{same}
 use Rattle.file_numbers.specs.Agree.{numbersOf, agree}
 use Rattle.file_numbers.proofs.Numbers.{length-numbers, number-at, length-is}

@@ -136,7 +136,13 @@ fn swap(next: &mut [u32], e: usize, x: u32) -> u32
 }
 
 // From the counts of n columns: their ends to the index memory, and their starts to two memories.
-pub fn put_ends(n: usize, index: &mut [u32], next: &mut [u32], again: &mut [u32], start: usize) -> usize
+pub fn put_ends(
+    n: usize,
+    index: &mut [u32],
+    next: &mut [u32],
+    again: &mut [u32],
+    start: usize,
+) -> usize
     requires { ⌜ (n < length (now next)) × (n < length (now again)) × (n ≤ maxColumns) × ((c : ℕ) → c < n → getD (now next) c 0 ≤ maxRows) × (start + n + 1 ≤ length (now index)) ⌝ }
     ensures ends { λ r. ⌜ Wrote (now (index .entry)) (now (index .exit)) start (endsFrom (λ c. getD (now (next .entry)) c 0) n) r ⌝ }
     ensures starts { λ r. ⌜ Starts (now (next .exit)) n (λ c. getD (now (next .entry)) c 0) × Starts (now (again .exit)) (n + 1) (λ c. getD (now (next .entry)) c 0) ⌝ }

@@ -1,6 +1,6 @@
 -- `file_lists::is_list` meets its contract. Assumes nothing.
 use native.Mathlib.Omega.{arith}
-use mathlib.Core.Path.{refl, ap, _∙_}
+use mathlib.Core.Path.{ap, _∙_}
 use Rattle.plan_file.specs.Verdicts.{same}
 use Rattle.file_numbers.specs.Agree.{numbersOf}
 use Rattle.file_lists.proofs.Numbered.{ten-list}

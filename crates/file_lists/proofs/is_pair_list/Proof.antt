@@ -36,8 +36,7 @@ same-list-requires c κs =
     let s = c .before .before .before .before .before .before .before .before .before .before .before .before .before .before .before .before .before in
     let a = s .args in
     let grid = accepted-grid (a .off .now) (a .cols .now) (a .plan .m) (a .plan .n) (s .pre .0 .accepted) in
-    let z : length (numbersOf (a .body .now)) ≡ length (listOf (shape (a .off .now) (a .cols .now)) (a .which) (a .plan .m)) = sym (c .before .before .before .before .before .before .before .before .count .ensures) ∙ c .before .before .before .before .before .before .if1 .left ∙ c .before .before .before .before .before .before .before .words-of .ensures (a .off .now) (a .cols .now) (s .pre .0 .counts) in
-    (
+    let z : length (numbersOf (a .body .now)) ≡ length (listOf (shape (a .off .now) (a .cols .now)) (a .which) (a .plan .m)) = sym (c .before .before .before .before .before .before .before .before .count .ensures) ∙ c .before .before .before .before .before .before .if1 .left ∙ c .before .before .before .before .before .before .before .words-of .ensures (a .off .now) (a .cols .now) (s .pre .0 .counts) in (
       record {
         wide = a .plan .n;
         listing = record { ready = s .pre .0 .ready; rows = s .pre .0 .rows; grid = grid };

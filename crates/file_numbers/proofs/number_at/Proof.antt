@@ -12,7 +12,7 @@ mul-le32 c =
 le32-requires : tie.Need-le32-requires
 le32-requires c κs =
     let s = c .before in
-    number-room (s .args .body .now) (s .args .k) (s .pre)
+    omega (arith, number-room (s .args .body .now) (s .args .k) (s .pre))
 
 returns : tie.Need-returns
 returns c =

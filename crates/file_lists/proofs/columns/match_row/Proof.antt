@@ -12,7 +12,7 @@ use Rattle.file_lists.proofs.columns.match_row.Statement.{statement}
 use Rattle.file_lists.proofs.columns.match_row.Tie as tie
 
 abbrev Inv-loop : tie.InvT-loop
-Inv-loop side what off cols bytes m n i next₀ body was a b good₀ k₀ next good k = 
+Inv-loop side what off cols bytes m n i next₀ body was a b good₀ k₀ next good k =
     (getD off i 0 ≤ k) × (length next ≡ length next₀) × Matched (numbersOf body) (entriesOf off (colsOf side cols bytes) what m n) next n (roomOf off (colsOf side cols bytes) m) (inRow off (colsOf side cols bytes) what i (k - getD off i 0)) good
 
 abbrev μ-loop : tie.MeasureT-loop
@@ -113,8 +113,7 @@ loop-again : tie.Need-loop-again Inv-loop μ-loop
 loop-again c =
     let s = c .before .before .before .before .before .before .before .before .before .before .before .before .before .before .before .before .before .before in
     let a = s .args in
-    let cols = colsOf (a .side) (a .cols .now) (a .bytes .now) in
-    (
+    let cols = colsOf (a .side) (a .cols .now) (a .bytes .now) in (
       omega (arith, c .before .before .before .before .before .before .before .before .before .before .loop .inv .0),
       c .before .before .before .before .step .kept .0 ∙ c .before .before .before .before .before .before .before .before .before .before .loop .inv .1,
       law.match-turn (a .off .now) cols (a .m) (a .n) (s .pre .0) (a .what) (a .i) (s .pre .1) (numbersOf (a .body .now)) (s .pre .3) (a .next .now) (s .pre .2) (a .was) (s .pre .4) (c .before .before .before .before .before .before .before .before .before .before .loop .k) (c .before .before .before .before .before .before .before .before .column-at .result) (c .before .before .before .before .before .before .before .of-entry .result) (c .before .before .before .before .before .before .before .before .before .before .loop .inv .0) (omega (arith, c .before .before .before .before .before .before .before .before .before .loop-test .taken, c .before .before .before .before .before .before .before .before .before .before .before .word-at2 .ensures)) (c .before .before .before .before .before .before .before .before .column-at .ensures) (c .before .before .before .before .before .before .before .of-entry .ensures) (c .before .before .before .before .before .before .before .before .before .before .loop .next) (c .before .before .before .before .before .before .before .before .before .before .loop .inv .1) (c .before .before .before .before .before .before .before .before .before .before .loop .good) (c .before .before .before .before .before .before .before .before .before .before .loop .inv .2) (eqb (c .before .number-at .result) (c .before .before .before .before .before .before .of-word .result)) (c .both .result) (c .before .before .before .before .step .last .0) (ap₂ eqb (c .before .number-at .ensures ∙ ap (λ (q : ℕ). getD (numbersOf (a .body .now)) q 0) (c .before .before .before .before .step .ensures .0)) (c .before .before .before .before .before .before .of-word .ensures)) (c .both .ensures) (c .before .before .before .before .step .ensures .1),

@@ -11,7 +11,7 @@ use Rattle.file_lists.proofs.columns.match_rows.Statement.{statement}
 use Rattle.file_lists.proofs.columns.match_rows.Tie as tie
 
 abbrev Inv-loop : tie.InvT-loop
-Inv-loop side what off cols bytes m n next₀ body good₀ i₀ next good i = 
+Inv-loop side what off cols bytes m n next₀ body good₀ i₀ next good i =
     (i ≤ m) × (length next ≡ length next₀) × MatchedTo (numbersOf body) off (colsOf side cols bytes) what m n i next good
 
 abbrev μ-loop : tie.MeasureT-loop

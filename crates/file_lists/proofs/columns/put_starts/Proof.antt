@@ -43,8 +43,7 @@ returns c =
     let s = c .before .before .before .before .before .before .before .before .before .before .before .before .before .before .before .before .before .before .before .before .before .before .before .before in
     let a = s .args in
     let cols = colsOf (a .side) (a .cols .now) (a .bytes .now) in
-    let y = law.tallied (a .off .now) cols (a .m) (a .n) (a .next .now) (c .before .before .before .before .before .before .before .before .before .before .before .before .before .before .before .before .clear .last .0) (c .before .before .before .before .before .before .before .before .before .before .before .before .count-rows .last .1 .1 .1 .1 .1 .0) (c .before .before .before .before .before .before .before .before .before .before .before .before .before .before .before .before .clear .ensures) (c .before .before .before .before .before .before .before .before .before .before .before .before .count-rows .ensures .0) in
-    (
+    let y = law.tallied (a .off .now) cols (a .m) (a .n) (a .next .now) (c .before .before .before .before .before .before .before .before .before .before .before .before .before .before .before .before .clear .last .0) (c .before .before .before .before .before .before .before .before .before .before .before .before .count-rows .last .1 .1 .1 .1 .1 .0) (c .before .before .before .before .before .before .before .before .before .before .before .before .before .before .before .before .clear .ensures) (c .before .before .before .before .before .before .before .before .before .before .before .before .count-rows .ensures .0) in (
       subst (λ (x : List ℕ). Wrote (a .made .now) (c .before .before .before .before .before .before .put-ends .last .1 .0) 0 x (c .before .before .before .before .before .before .put-ends .result)) (law.ends-are (a .off .now) cols (a .m) (a .n) (c .before .before .before .before .before .before .before .before .before .before .before .before .count-rows .last .1 .1 .1 .1 .1 .0) y) (c .before .before .before .before .before .before .put-ends .ensures .0),
       law.starts-are (a .off .now) cols (a .m) (a .n) (c .before .before .before .before .before .before .before .before .before .before .before .before .count-rows .last .1 .1 .1 .1 .1 .0) (c .before .before .before .before .before .before .put-ends .last .1 .1 .0) (a .n) (omega arith) y (c .before .before .before .before .before .before .put-ends .ensures .1 .0),
     )

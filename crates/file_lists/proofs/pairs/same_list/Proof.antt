@@ -19,7 +19,7 @@ use Rattle.file_lists.proofs.pairs.same_list.Statement.{statement}
 use Rattle.file_lists.proofs.pairs.same_list.Tie as tie
 
 abbrev Inv-loop : tie.InvT-loop
-Inv-loop which off cols m p lindptr lindices mark₀ made₀ body at₀ good₀ n₀ i₀ mark made at good n i = 
+Inv-loop which off cols m p lindptr lindices mark₀ made₀ body at₀ good₀ n₀ i₀ mark made at good n i =
     (i ≤ m) × (length made ≡ length made₀) × Counting which off cols i n × turns.Passed (shape off cols) which (numbersOf body) i at good × (length mark ≡ length mark₀) × ((x : ℕ) → getD mark₀ x 0 ≤ getD off 0 0 → getD mark x 0 ≤ getD off i 0)
 
 abbrev μ-loop : tie.MeasureT-loop
@@ -38,8 +38,7 @@ is-same-requires : tie.Need-is-same-requires Inv-loop μ-loop
 is-same-requires c κs =
     let s = c .before .before .before .before .before .before .before .before .before .before .before .before .before .before in
     let a = s .args in
-    let room = head-room (shape (a .off .now) (a .cols .now)) (a .which) (a .m) 0 (length (numbersOf (a .body .now))) (omega (arith, s .pre .1)) in
-    (
+    let room = head-room (shape (a .off .now) (a .cols .now)) (a .which) (a .m) 0 (length (numbersOf (a .body .now))) (omega (arith, s .pre .1)) in (
       omega (arith, c .before .before .before .keep .ensures .next, room, ap (λ (t : Bool). length (pick t 0)) (c .before .before .before .before .has-head .ensures)),
       omega (arith, c .before .before .before .keep .ensures .next, pick-le (c .before .before .before .before .has-head .result) 0, c .before .before .before .keep .kept .0, s .pre .2),
     )
@@ -48,8 +47,7 @@ loop-holds : tie.Need-loop-holds Inv-loop μ-loop
 loop-holds c =
     let s = c .before .before .before .before .before .before .before .before .before .before .before .before .before .before .before in
     let a = s .args in
-    let said = c .is-same .ensures ∙ ap (agree (numbersOf (a .body .now)) 0) (front (a .made .now) (c .before .before .before .before .keep .last .0) (pick (c .before .before .before .before .before .has-head .result) 0) (c .before .before .before .before .keep .result) (omega (arith, pick-le (c .before .before .before .before .before .has-head .result) 0, s .pre .2)) (c .before .before .before .before .keep .ensures)) in
-    (
+    let said = c .is-same .ensures ∙ ap (agree (numbersOf (a .body .now)) 0) (front (a .made .now) (c .before .before .before .before .keep .last .0) (pick (c .before .before .before .before .before .has-head .result) 0) (c .before .before .before .before .keep .result) (omega (arith, pick-le (c .before .before .before .before .before .has-head .result) 0, s .pre .2)) (c .before .before .before .before .keep .ensures)) in (
       omega arith,
       refl,
       record { count = sym (before-start (weight (shape (a .off .now) (a .cols .now)) (a .which))); few = omega arith },
@@ -69,8 +67,7 @@ same-row-requires c κs =
     let s = c .before .before .before .before .before .before .before .before .before .before .before .before .before .before .before .before .before .before .before .before .before .before .before in
     let a = s .args in
     let loop = c .before .before .before .before .before .before .before .loop in
-    let r = c .before .before .before .before .mark-for in
-    (
+    let r = c .before .before .before .before .mark-for in (
       record {
         at = record { m = a .m; wide = s .pre .0 .wide; ready = s .pre .0 .listing .ready; grid = s .pre .0 .listing .grid; inside = c .before .before .before .before .before .before .loop-test .taken; long = omega (arith, s .pre .0 .long, loop .inv .4, r .kept .1 .1 .1 .1 .0); marks = λ h. over-low (loop .mark) (r .last .1 .1 .1 .1 .0) (getD (a .off .now) (loop .i) 0) (row (a .off .now) (a .cols .now) (loop .i)) (r .ensures .0 h) (s .pre .0 .wide) (λ x u. loop .inv .5 x (s .pre .0 .low x u)) };
         rows = s .pre .0 .listing .rows;
@@ -98,8 +95,7 @@ loop-again c =
     let a = s .args in
     let loop = c .before .before .before .before .before .before .before .before .before .before .before .loop in
     let r = c .before .before .before .before .before .before .before .before .mark-for in
-    let q = c .before .before .before .same-row in
-    (
+    let q = c .before .before .before .same-row in (
       omega (arith, c .before .before .before .before .before .before .before .before .before .before .loop-test .taken),
       q .kept .1 .1 .1 .1 .1 .1 .1 .1 .1 .0 ∙ loop .inv .1,
       q .ensures .2,

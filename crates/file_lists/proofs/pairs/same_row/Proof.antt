@@ -16,7 +16,7 @@ use Rattle.file_lists.proofs.pairs.same_row.Statement.{statement}
 use Rattle.file_lists.proofs.pairs.same_row.Tie as tie
 
 abbrev Inv-loop : tie.InvT-loop
-Inv-loop which off cols p lindptr lindices mark i count made₀ body start b at₀ n₀ good₀ t₀ made at n good t = 
+Inv-loop which off cols p lindptr lindices mark i count made₀ body start b at₀ n₀ good₀ t₀ made at n good t =
     (getD lindptr i 0 ≤ t) × (t ≤ getD lindptr (i + 1) 0) × (length made ≡ length made₀) × turns.Met off cols p which i (numbersOf body) start at count n (t - getD lindptr i 0) good
 
 abbrev μ-loop : tie.MeasureT-loop
@@ -128,8 +128,7 @@ loop-again c =
     let up : loop .t < getD (a .lindptr .now) (a .i + 1) 0 = omega (arith, c .before .before .before .before .before .before .before .before .before .loop-test .taken, c .before .before .before .before .before .before .before .before .before .before .before .before .word-at .ensures) in
     let words = c .before .before .before .before .before .put-piece in
     let fits : length (piece (shape (a .off .now) (a .cols .now)) (a .which) (a .i) (c .before .before .before .before .before .before .before .before .byte-at .result)) ≤ length (loop .made) = omega (arith, piece-fits (a .off .now) (a .cols .now) (a .i) (c .before .before .before .before .before .before .before .before .byte-at .result) (st.le (a .off .now) (a .cols .now) (r .at .m) (a .p .now) (r .at .ready) (a .lindptr .now) (a .lindices .now) (r .rows) (a .i) (c .before .before .before .before .before .before .before .before .byte-at .result) (loop .t) (r .at .inside) (loop .inv .0) up (c .before .before .before .before .before .before .before .before .byte-at .ensures)) (a .made .now) (s .pre .3) (a .which), loop .inv .2) in
-    let said = c .before .is-same .ensures ∙ ap (agree (numbersOf (a .body .now)) (loop .at)) (front (loop .made) (words .last .1 .1 .1 .1 .1 .1 .1 .1 .1 .1 .1 .0) (piece (shape (a .off .now) (a .cols .now)) (a .which) (a .i) (c .before .before .before .before .before .before .before .before .byte-at .result)) (words .result) fits (words .ensures)) in
-    (
+    let said = c .before .is-same .ensures ∙ ap (agree (numbersOf (a .body .now)) (loop .at)) (front (loop .made) (words .last .1 .1 .1 .1 .1 .1 .1 .1 .1 .1 .1 .0) (piece (shape (a .off .now) (a .cols .now)) (a .which) (a .i) (c .before .before .before .before .before .before .before .before .byte-at .result)) (words .result) fits (words .ensures)) in (
       omega (arith, loop .inv .0),
       omega (arith, up),
       words .kept .1 .1 .1 .1 .1 .1 .1 .1 .1 .1 .1 .0 ∙ loop .inv .2,
