@@ -9,6 +9,7 @@ use Rattle.csr.specs.Verdict.{Verdict, passed, told, planned, refused, ask, and
 use Rattle.csr.specs.Questions.{firstNo, maxRows}
 use Rattle.csr.specs.Counts.{sizeW, Counted}
 use Rattle.lists.specs.Lists.{planWords}
+use Rattle.transpose.specs.Bins.{Room}
 use Rattle.ipm_common.specs.declared.PlanAnswer.{PlanAnswer}
 use Rattle.ipm_common.specs.declared.PlanAnswer.the-variants.{Planned, Refused}
 use Rattle.csr.specs.Csr.{maxPlaces}
@@ -41,11 +42,6 @@ planIndex m n offsets columns index =
     left (planVerdict m n offsets columns (length index))
     (planWords offsets columns m n ++ drop (sizeW offsets columns m n) index)
     index
-
--- a memory has a word for each row and one for each column, and one more
-pub record Room (m n : ℕ) (s : List ℕ) : Type 0 where
-  pub rows : m < length s
-  pub columns : n < length s
 
 -- what a plan of m rows and n columns is made in: the factor's rows as lists, and three memories over the columns
 pub record Memories (m n : ℕ) (lindptr lindices mark next again : List ℕ) : Type 0 where

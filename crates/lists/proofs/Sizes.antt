@@ -132,7 +132,7 @@ unfolding endsOf
 size-ends off cols s m n = length-ends (holds (shape off cols) s) m n
 
 -- a rising row below n has each of its columns once
-row-ones : (n : ℕ) (xs : List ℕ) → Rising xs → Below n xs → sum n (λ e. one (has xs e)) ≡ length xs
+pub row-ones : (n : ℕ) (xs : List ℕ) → Rising xs → Below n xs → sum n (λ e. one (has xs e)) ≡ length xs
 unfolding has
 row-ones n [] h b = sum-zero n (λ e. 0) (λ k l. refl)
 row-ones n (x ∷ xs) h b =

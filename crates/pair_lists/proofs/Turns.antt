@@ -46,7 +46,7 @@ module _ (off cols : List ℕ) (m : ℕ) (p : List ℕ) (ready : Ready off cols 
   abbrev l : List ℕ
   l = kept (bit p i) (i + 1)
 
-  empty : (k : ℕ) → k < i + 1 → bit p i k ≡ false → f k ≡ []
+  pub empty : (k : ℕ) → k < i + 1 → bit p i k ≡ false → f k ≡ []
   empty k b e = silent off cols i k (omega arith) (sym (bit-held off cols m p ready i k hi (omega (arith, v .few))) ∙ e) w
 
   nothing : (k : ℕ) → k < i + 1 → bit p i k ≡ false → c k ≡ 0
@@ -73,7 +73,7 @@ module _ (off cols : List ℕ) (m : ℕ) (p : List ℕ) (ready : Ready off cols 
     so-much : total (take (t - getD lindptr i 0) l) c ≡ sum j c
     so-much = ap (λ (x : List ℕ). total x c) cut ∙ total-kept (bit p i) j c (λ k b. nothing k (omega (arith, le)))
 
-    one-more : take (t + 1 - getD lindptr i 0) l ≡ take (t - getD lindptr i 0) l ++ (j ∷ [])
+    pub one-more : take (t + 1 - getD lindptr i 0) l ≡ take (t - getD lindptr i 0) l ++ (j ∷ [])
     one-more =
         let z : t + 1 - getD lindptr i 0 ≡ suc (t - getD lindptr i 0) = omega arith in
         ap (λ (x : ℕ). take x l) z ∙ take-suc l (t - getD lindptr i 0) 0 (q-in (bit p) lindptr lindices m v i t hi lo up)

@@ -111,7 +111,7 @@ fn reads_marks(which: Which) -> bool
 }
 
 // Row i marked for a list that reads the marks.
-fn mark_for(which: Which, off: &[u32], cols: &[u32], i: usize, mark: &mut [u32])
+pub fn mark_for(which: Which, off: &[u32], cols: &[u32], i: usize, mark: &mut [u32])
     requires { ⌜ RowOf (now off) (now cols) i (length (now mark)) ⌝ }
     ensures read { λ _. ⌜ (marksRead which ≡ true → MarkedOver (now (mark .entry)) (now (mark .exit)) (getD (now (off .entry)) i 0) (row (now (off .entry)) (now (cols .entry)) i)) ⌝ }
     ensures unread { λ _. ⌜ (marksRead which ≡ false → now (mark .exit) ≡ now (mark .entry)) ⌝ }
@@ -122,7 +122,7 @@ fn mark_for(which: Which, off: &[u32], cols: &[u32], i: usize, mark: &mut [u32])
 }
 
 // What a list of ends counts at (i, j). Row i is marked.
-fn weigh(
+pub fn weigh(
     which: Which,
     off: &[u32],
     cols: &[u32],
@@ -152,7 +152,7 @@ fn weigh(
 }
 
 // What the stored pair (i, j) adds to a list. t is its place among the stored, n what the list has counted.
-fn put_piece(
+pub fn put_piece(
     which: Which,
     off: &[u32],
     cols: &[u32],
@@ -206,7 +206,7 @@ fn on_diagonal(which: Which) -> bool
 }
 
 // The first stored pair of row i that a list looks at. The diagonal is the row's last.
-fn row_first(which: Which, lindptr: &[u32], i: usize) -> usize
+pub fn row_first(which: Which, lindptr: &[u32], i: usize) -> usize
     requires { ⌜ (i + 1 < length (now lindptr)) × (1 ≤ getD (now lindptr) (i + 1) 0) ⌝ }
     ensures last { λ r. ⌜ (diagonalOnly which ≡ true → r ≡ getD (now (lindptr .entry)) (i + 1) 0 - 1) ⌝ }
     ensures first { λ r. ⌜ (diagonalOnly which ≡ false → r ≡ getD (now (lindptr .entry)) i 0) ⌝ }

@@ -224,14 +224,14 @@ module _ (off cols : List ℕ) (w : What) (m n : ℕ) (old first : List ℕ) (st
 
 -- ---- the whole transpose
 module _ (off cols : List ℕ) (m n : ℕ) where
-  ends-are : (next : List ℕ) → Tally next n (seen off cols m) → endsFrom (λ c. getD next c 0) n ≡ endsOf (shape off cols) Matrix m n
+  pub ends-are : (next : List ℕ) → Tally next n (seen off cols m) → endsFrom (λ c. getD next c 0) n ≡ endsOf (shape off cols) Matrix m n
   unfolding endsFrom endsOf columnEnds
   ends-are next t =
       ap (λ (l : List ℕ). 0 ∷ l)
       (cat-ext n (λ e. sum (suc e) (λ c. getD next c 0) ∷ []) (λ e. sum (suc e) (λ c. roomOf off cols m c) ∷ [])
       (λ e h. ap (λ (k : ℕ). k ∷ []) (sum-ext (suc e) (λ c. getD next c 0) (λ c. roomOf off cols m c) (λ c l. t .count c (omega arith) ∙ column-long off cols Numbers m c))))
 
-  starts-are : (next l : List ℕ) (k : ℕ) → k ≤ n + 1 → Tally next n (seen off cols m) → Starts l k (λ c. getD next c 0) → Starts l k (roomOf off cols m)
+  pub starts-are : (next l : List ℕ) (k : ℕ) → k ≤ n + 1 → Tally next n (seen off cols m) → Starts l k (λ c. getD next c 0) → Starts l k (roomOf off cols m)
   starts-are next l k hk t s = record { first = λ c h. s .first c h ∙ sum-ext c (λ d. getD next d 0) (roomOf off cols m) (λ d u. t .count d (omega arith) ∙ column-long off cols Numbers m d) }
 
   pub cols-are : (w : What) → cat n (rowsOf off cols w m) ≡ columnsOf (shape off cols) Matrix w m n
@@ -241,7 +241,7 @@ module _ (off cols : List ℕ) (m n : ℕ) where
   pub cols-long : (w : What) → length (cat n (rowsOf off cols w m)) ≡ sum n (roomOf off cols m)
   cols-long w = length-cat n (rowsOf off cols w m) ∙ sum-ext n (λ c. length (rowsOf off cols w m c)) (roomOf off cols m) (λ c h. column-long off cols w m c)
 
-  ends-long : length (endsOf (shape off cols) Matrix m n) ≡ n + 1
+  pub ends-long : length (endsOf (shape off cols) Matrix m n) ≡ n + 1
   unfolding endsOf columnEnds
   ends-long = omega (arith, singles-length n (λ e. sum (suc e) (λ c. roomOf off cols m c)))
 

@@ -63,7 +63,7 @@ module _ (off cols : List ℕ) (m n : ℕ) (w : What) (i : ℕ) (old first : Lis
     e-below : e < n
     e-below = entry-below off cols i n ok k e lo hk he
 
-    x-is : x ≡ entry (shape off cols) Matrix w i e
+    pub x-is : x ≡ entry (shape off cols) Matrix w i e
     x-is = hx ∙ go w
       where
         go : (v : What) → byWhat v i k ≡ entry (shape off cols) Matrix v i e

@@ -23,6 +23,11 @@ abbrev pub colsOf : Side → List ℕ → List ℕ → List ℕ
 colsOf Factor cols bytes = bytes
 colsOf Matrix cols bytes = cols
 
+-- a memory has a word for each row and one for each column, and one more
+pub record Room (m n : ℕ) (s : List ℕ) : Type 0 where
+  pub rows : m < length s
+  pub columns : n < length s
+
 -- bin c has room for `size c` words and holds the list `held c`; next c is where its next word goes
 pub record Bins (index next : List ℕ) (start n : ℕ) (size : ℕ → ℕ) (held : ℕ → List ℕ) : Type 0 where
   pub cursor : (c : ℕ) → c < n → getD next c 0 ≡ sum c size + length (held c)

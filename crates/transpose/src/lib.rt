@@ -25,7 +25,7 @@ fn put_in(index: &mut [u32], next: &mut [u32], start: usize, e: usize, x: u32)
 }
 
 // Entry k of the columns: the matrix's are words, the factor's are bytes.
-fn column_at(side: Side, cols: &[u32], bytes: &[u8], k: usize) -> usize
+pub fn column_at(side: Side, cols: &[u32], bytes: &[u8], k: usize) -> usize
     requires { ⌜ k < length (colsOf side (now cols) (now bytes)) ⌝ }
     ensures { λ r. ⌜ r ≡ getD (colsOf side (now (cols .entry)) (now (bytes .entry))) k 0 ⌝ }
 {
@@ -36,7 +36,7 @@ fn column_at(side: Side, cols: &[u32], bytes: &[u8], k: usize) -> usize
 }
 
 // What a list has for an entry of row i: its row or its place.
-fn of_entry(what: What, i: u32, place: u32) -> u32
+pub fn of_entry(what: What, i: u32, place: u32) -> u32
     ensures { λ r. ⌜ r ≡ byWhat what i place ⌝ }
 {
     match what {
@@ -136,7 +136,13 @@ fn swap(next: &mut [u32], e: usize, x: u32) -> u32
 }
 
 // From the counts of n columns: their ends to the index memory, and their starts to two memories.
-fn put_ends(n: usize, index: &mut [u32], next: &mut [u32], again: &mut [u32], start: usize) -> usize
+pub fn put_ends(
+    n: usize,
+    index: &mut [u32],
+    next: &mut [u32],
+    again: &mut [u32],
+    start: usize,
+) -> usize
     requires { ⌜ (n < length (now next)) × (n < length (now again)) × (n ≤ maxColumns) × ((c : ℕ) → c < n → getD (now next) c 0 ≤ maxRows) × (start + n + 1 ≤ length (now index)) ⌝ }
     ensures ends { λ r. ⌜ Wrote (now (index .entry)) (now (index .exit)) start (endsFrom (λ c. getD (now (next .entry)) c 0) n) r ⌝ }
     ensures starts { λ r. ⌜ Starts (now (next .exit)) n (λ c. getD (now (next .entry)) c 0) × Starts (now (again .exit)) (n + 1) (λ c. getD (now (next .entry)) c 0) ⌝ }

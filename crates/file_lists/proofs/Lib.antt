@@ -1,0 +1,4 @@
+pub mod Small
+pub mod Compared
+pub mod Matches
+pub mod Numbered

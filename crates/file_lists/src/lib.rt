@@ -1,0 +1,221 @@
+// Question 16 for one list: are a body's numbers the matrix's list k?
+ghost use mathlib.Core.Path.{_≡_};
+ghost use mathlib.Core.List.{List};
+ghost use Prim.Native.Nat.{ℕ, _+_, _<_, _≤_};
+ghost use lib.ListN.{length};
+ghost use Rattle.base.specs.Sums.{sum};
+ghost use Rattle.csr.specs.Csr.{maxStored};
+ghost use Rattle.csr.specs.Counts.{Counted};
+ghost use Rattle.csr.specs.Questions.{maxRows};
+ghost use Rattle.lists.specs.Lists.{shape, listOf};
+ghost use Rattle.transpose.specs.Bins.{Room, roomOf, Grid, colsOf};
+ghost use Rattle.plan_file.specs.Matrix.{matrixLists};
+ghost use Rattle.plan_file.specs.Verdicts.{same};
+ghost use Rattle.file_numbers.specs.Agree.{numbersOf};
+ghost use Rattle.file_lists.specs.Known.{Known};
+ghost use Rattle.file_lists.specs.Sizes.{whatOf, sideList};
+
+mod columns;
+mod pairs;
+
+use layout::Plan;
+use lists::Side;
+use lists::What;
+use lists::Which;
+
+// How long a list of pairs is.
+fn words_of(which: Which, plan: Plan) -> usize
+    requires { ⌜ (plan .m ≤ maxRows) × (plan .stored ≤ maxStored) ⌝ }
+    ensures { λ r. ⌜ ((off cols : List ℕ) → Counted off cols (plan .m) (plan .stored) (plan .shared) (plan .products) → r ≡ length (listOf (shape off cols) which (plan .m))) ⌝ }
+{
+    let m = plan.m;
+    let e = plan.stored;
+    match which {
+        Which::AnormIndptr => e + 1,
+        Which::AnormIndptrI => plan.shared,
+        Which::AnormIndptrJ => plan.shared,
+        Which::AnormIndices => plan.shared,
+        Which::LdecompIndptr => e + 1,
+        Which::LdecompIndptrI => plan.products,
+        Which::LdecompIndptrJ => plan.products,
+        Which::Lindptr => m + 1,
+        Which::LdiagIndptr => m,
+        Which::Lindices => e,
+    }
+}
+
+// One of the ten lists of pairs.
+fn is_pair_list(
+    which: Which,
+    body: &[u8],
+    off: &[u32],
+    cols: &[u32],
+    plan: Plan,
+    p: &[u64],
+    lindptr: &[u32],
+    lindices: &[u8],
+    mark: &mut [u32],
+    made: &mut [u32],
+) -> bool
+    requires { ⌜ Known (now off) (now cols) plan (now p) (now lindptr) (now lindices) × (plan .n ≤ length (now mark)) × Room (plan .m) (plan .n) (now made) ⌝ }
+    ensures { λ r. ⌜ r ≡ same (numbersOf (now (body .entry))) (listOf (shape (now (off .entry)) (now (cols .entry))) which (plan .m)) ⌝ }
+{
+    if file_numbers::count(body) != words_of(which, plan) {
+        return false;
+    }
+    let m = plan.m;
+    let n = plan.n;
+    base::clear(mark, n);
+    pairs::same_list(which, off, cols, m, p, lindptr, lindices, mark, made, body)
+}
+
+// An entry of a transpose by its row, then by its place.
+fn entry_of(part: usize) -> What
+    requires { ⌜ 0 < part ⌝ }
+    ensures { λ r. ⌜ r ≡ whatOf part ⌝ }
+{
+    if part == 1 {
+        What::Numbers
+    } else {
+        What::Places
+    }
+}
+
+// One of the three lists of a transpose with t entries: its ends, its rows, its places.
+fn is_side_list(
+    side: Side,
+    part: usize,
+    body: &[u8],
+    off: &[u32],
+    cols: &[u32],
+    bytes: &[u8],
+    m: usize,
+    n: usize,
+    t: usize,
+    next: &mut [u32],
+    again: &mut [u32],
+    made: &mut [u32],
+) -> bool
+    requires { ⌜ Grid (now off) (colsOf side (now cols) (now bytes)) m n × (n < length (now next)) × (n < length (now again)) × (n < length (now made)) × (t ≡ sum n (roomOf (now off) (colsOf side (now cols) (now bytes)) m)) ⌝ }
+    ensures { λ r. ⌜ r ≡ same (numbersOf (now (body .entry))) (sideList (now (off .entry)) (colsOf side (now (cols .entry)) (now (bytes .entry))) m n part) ⌝ }
+{
+    if part == 0 {
+        if file_numbers::count(body) != n + 1 {
+            return false;
+        }
+        return columns::is_ends(side, off, cols, bytes, m, n, next, again, made, body);
+    }
+    if file_numbers::count(body) != t {
+        return false;
+    }
+    let what = entry_of(part);
+    columns::is_columns(side, what, off, cols, bytes, m, n, next, again, made, body)
+}
+
+// How many lists are written pair by pair.
+const PAIR_LISTS: usize = 10;
+
+// The numbers of the two lists of ends: of the factor's columns, and of the matrix's.
+const FACTOR_ENDS: usize = 11;
+
+const MATRIX_ENDS: usize = 14;
+
+// One of the six lists of the two transposes.
+fn is_column_list(
+    k: usize,
+    body: &[u8],
+    off: &[u32],
+    cols: &[u32],
+    plan: Plan,
+    lindptr: &[u32],
+    lindices: &[u8],
+    next: &mut [u32],
+    again: &mut [u32],
+    made: &mut [u32],
+) -> bool
+    requires { ⌜ (10 < k) × (k ≤ 16) × ((p : List ℕ) × Known (now off) (now cols) plan p (now lindptr) (now lindices)) × Room (plan .m) (plan .n) (now next) × Room (plan .m) (plan .n) (now again) × Room (plan .m) (plan .n) (now made) ⌝ }
+    ensures { λ r. ⌜ r ≡ same (numbersOf (now (body .entry))) (matrixLists (now (off .entry)) (now (cols .entry)) (plan .m) (plan .n) k) ⌝ }
+{
+    let m = plan.m;
+    if k < MATRIX_ENDS {
+        let e = plan.stored;
+        let part = k - FACTOR_ENDS;
+        return is_side_list(
+            Side::Factor,
+            part,
+            body,
+            lindptr,
+            cols,
+            lindices,
+            m,
+            m,
+            e,
+            next,
+            again,
+            made,
+        );
+    }
+    let n = plan.n;
+    let t = plan.t;
+    let part = k - MATRIX_ENDS;
+    is_side_list(
+        Side::Matrix,
+        part,
+        body,
+        off,
+        cols,
+        lindices,
+        m,
+        n,
+        t,
+        next,
+        again,
+        made,
+    )
+}
+
+// List number k, 1 to 16. What the three memories hold after is open.
+pub fn is_list(
+    k: usize,
+    body: &[u8],
+    off: &[u32],
+    cols: &[u32],
+    plan: Plan,
+    p: &[u64],
+    lindptr: &[u32],
+    lindices: &[u8],
+    next: &mut [u32],
+    again: &mut [u32],
+    made: &mut [u32],
+) -> bool
+    requires { ⌜ (1 ≤ k) × (k ≤ 16) × Known (now off) (now cols) plan (now p) (now lindptr) (now lindices) × Room (plan .m) (plan .n) (now next) × Room (plan .m) (plan .n) (now again) × Room (plan .m) (plan .n) (now made) ⌝ }
+    ensures { λ r. ⌜ r ≡ same (numbersOf (now (body .entry))) (matrixLists (now (off .entry)) (now (cols .entry)) (plan .m) (plan .n) k) ⌝ }
+{
+    if k > PAIR_LISTS {
+        return is_column_list(
+            k,
+            body,
+            off,
+            cols,
+            plan,
+            lindptr,
+            lindices,
+            next,
+            again,
+            made,
+        );
+    }
+    let which = lists::which_field(k - 1);
+    is_pair_list(
+        which,
+        body,
+        off,
+        cols,
+        plan,
+        p,
+        lindptr,
+        lindices,
+        next,
+        made,
+    )
+}
