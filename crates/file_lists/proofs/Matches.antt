@@ -26,7 +26,7 @@ use Rattle.transpose.proofs.Fill.{turn, in-start, in-end, bins-ext, absent-e, b
 use Rattle.transpose.proofs.Row.{Passing, x-is, passing-asks}
 use Rattle.transpose.proofs.Count.{column-long, cols-long, room-sum, scatter-start}
 use Rattle.plan_file.specs.Verdicts.{same}
-use Rattle.file_numbers.proofs.Sames.{same-out, same-in}
+use Rattle.plan_file.proofs.Yes.{same-out, same-in}
 use Rattle.file_lists.specs.Matched.{entriesOf, Matched}
 
 -- ---- the word at a place of joined lists

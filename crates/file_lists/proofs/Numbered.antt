@@ -23,7 +23,7 @@ use Rattle.pair_lists.specs.Kept.{Rows}
 use Rattle.pair_lists.proofs.Factor.{ends-same, columns-same}
 use Rattle.plan_file.specs.Verdicts.{same}
 use Rattle.plan_file.specs.Matrix.{sixAt, matrixLists}
-use Rattle.file_numbers.proofs.Sames.{same-out}
+use Rattle.plan_file.proofs.Yes.{same-out}
 use Rattle.file_lists.specs.Matched.{entriesOf}
 use Rattle.file_lists.specs.Sizes.{whatOf, sideList}
 

@@ -15,7 +15,8 @@ use Rattle.base.proofs.Bools.{and-false}
 use Rattle.base.proofs.Numbers.{length-takes}
 use Rattle.plan_file.specs.Verdicts.{same}
 use Rattle.file_numbers.specs.Agree.{numbersOf, agree}
-use Rattle.file_numbers.proofs.Numbers.{length-numbers, number-at, length-is}
+use Rattle.plan_file.proofs.Numbers.{length-numbers, number-at}
+use Rattle.plan_file.proofs.Little.{le4-is}
 
 -- ---- the numbers of a body
 
@@ -33,7 +34,7 @@ number-room body k h = omega (arith, how-many body)
 pub number-is : (body : List ℕ) (k r : ℕ) → k < length (numbersOf body) → r ≡ le4 body (4 * k) → r ≡ getD (numbersOf body) k 0
 unfolding numbersOf
 number-is body k r h q =
-    q ∙ length-is body (4 * k) (number-room body k h) ∙ sym (number-at 4 (length body / 4) body k (omega (arith, how-many body)))
+    q ∙ le4-is body (4 * k) (number-room body k h) ∙ sym (number-at 4 (length body / 4) body k (omega (arith, how-many body)))
 
 -- ---- number by number
 

@@ -4,7 +4,7 @@ use mathlib.Core.Bool.{Bool, true, false, cond, _&&_, false≢true}
 use mathlib.Core.List.{List, [], _∷_, _++_}
 use Prim.Native.Nat.{ℕ, zero, suc, _+_, _*_, _-_, _<_, _≤_}
 use native.Mathlib.Omega.{arith}
-use native.Mathlib.Numerals.{add-one, add-two}
+use native.Mathlib.Numerals.{add-one}
 use borrow.Author.Tests.{le-leb, lt-leb, eqb-true}
 use lib.Dec.{leb, eqb}
 use lib.ListN.{length, getD, take, drop, length-drop, drop-of-length-le}
@@ -17,26 +17,10 @@ use Rattle.plan_file.specs.declared.Meaning.{Meaning}
 use Rattle.plan_file.specs.declared.Meaning.the-variants.{Listed, Note, Neither}
 use Rattle.plan_file.specs.Tables.{Table}
 use Rattle.plan_file.specs.Verdicts.{wholeBody, wholeBodies, wholeCut, wholeFile, isNext, after, inOrder, orderedCut, orderedFile}
+use Rattle.plan_file.proofs.Little.{le2-is, le4-is}
 use Rattle.plan_file.proofs.Parse.{records-first, no-length, no-room, Starts, starts-out, body-length}
 
 -- ---- the record's fields by their places
-
-two : (s : List ℕ) (at : ℕ) → at + 2 ≤ length s → drop at s ≡ getD s at 0 ∷ (getD s (at + 1) 0 ∷ drop (at + 2) s)
-two s at h =
-    drop-cons s at 0 (omega arith)
-    ∙ ap (λ (l : List ℕ). getD s at 0 ∷ l) (drop-cons s (suc at) 0 (omega arith))
-    ∙ ap₂ (λ (i j : ℕ). getD s at 0 ∷ (getD s i 0 ∷ drop j s)) (sym (add-one at)) (sym (add-two at))
-
-pub le2-is : (s : List ℕ) (at : ℕ) → at + 2 ≤ length s → le2 s at ≡ number (take 2 (drop at s))
-unfolding number
-le2-is s at h = omega arith ∙ sym (ap (λ (l : List ℕ). number (take 2 l)) (two s at h))
-
-pub length-is : (s : List ℕ) (at : ℕ) → at + 4 ≤ length s → le4 s at ≡ lengthAt (drop at s)
-unfolding number
-length-is s at h =
-    omega arith
-    ∙ sym (ap (λ (l : List ℕ). number (take 4 l))
-    (two s at (omega arith) ∙ ap (λ (l : List ℕ). getD s at 0 ∷ (getD s (at + 1) 0 ∷ l)) (two s (at + 2) (omega arith))))
 
 pub kind-is : (s : List ℕ) (at : ℕ) → at + 4 + 2 ≤ length s → le2 s (at + 4) ≡ kindAt (drop at s)
 kind-is s at h = le2-is s (at + 4) h ∙ ap (λ (l : List ℕ). number (take 2 l)) (sym (drop-drop 4 at s))
@@ -77,6 +61,14 @@ module _ (t : Table) where
       go false = refl
       go true = whole-also (firstAt s) (recordsOf (restAt s))
 
+  -- what a yes at 14 says of the first record and of the rest
+  pub whole-starts : (s : List ℕ) → 0 < length s → wholeFile t s ≡ true → (startsWhole s ≡ true) × (wholeFile t (restAt s) ≡ true)
+  whole-starts s h e = go (startsWhole s) (sym (whole-first s h) ∙ e)
+    where
+      go : (b : Bool) → cond b (wholeBody (t (kindAt s)) (length (bodyAt s)) && wholeFile t (restAt s)) false ≡ true → (b ≡ true) × (wholeFile t (restAt s) ≡ true)
+      go true q = (refl, and-out (wholeBody (t (kindAt s)) (length (bodyAt s))) (wholeFile t (restAt s)) q .1)
+      go false q = absurd (false≢true q)
+
   -- the walk stands at a record's start, and what is left is as good as the whole
   pub record Walked (file : List ℕ) (at : ℕ) : Type 0 where
     pub within : at ≤ length file
@@ -103,7 +95,7 @@ module _ (t : Table) where
 
       module _ (size : ℕ) (is : size ≡ le4 file at) (four : 4 ≤ length file - at) where
         said : lengthAt (drop at file) ≡ size
-        said = sym (is ∙ length-is file at (omega arith))
+        said = sym (is ∙ le4-is file at (omega arith))
 
         pub cut-body : length file - at - 4 < size → false ≡ wholeFile t file
         cut-body h = stopped (no-room (drop at file) (omega (arith, long)) (omega (arith, long, said)))
@@ -163,14 +155,6 @@ module _ (t : Table) (most : (kind k w : ℕ) → t kind ≡ Listed k w → k �
   unfolding orderedFile inOrder
   ordered-none next = refl
 
-  -- what a yes at 14 says of the first record and of the rest
-  whole-starts : (s : List ℕ) → 0 < length s → wholeFile t s ≡ true → (startsWhole s ≡ true) × (wholeFile t (restAt s) ≡ true)
-  whole-starts s h e = go (startsWhole s) (sym (whole-first t s h) ∙ e)
-    where
-      go : (b : Bool) → cond b (wholeBody (t (kindAt s)) (length (bodyAt s)) && wholeFile t (restAt s)) false ≡ true → (b ≡ true) × (wholeFile t (restAt s) ≡ true)
-      go true q = (refl, and-out (wholeBody (t (kindAt s)) (length (bodyAt s))) (wholeFile t (restAt s)) q .1)
-      go false q = absurd (false≢true q)
-
   after-few : (m : Meaning) (next : ℕ) → ((k w : ℕ) → m ≡ Listed k w → k ≤ 16) → next ≤ 17 → isNext m next ≡ true → after m next ≤ 17
   after-few (Listed k w) next h l e = omega (arith, h k w refl, eqb-true k next e)
   after-few Note next h l e = l
@@ -200,13 +184,13 @@ module _ (t : Table) (most : (kind k w : ℕ) → t kind ≡ Listed k w → k �
       bytes-left = length-drop at file
 
       both-parts : (startsWhole (drop at file) ≡ true) × (wholeFile t (restAt (drop at file)) ≡ true)
-      both-parts = whole-starts (drop at file) (omega (arith, bytes-left)) (w .good)
+      both-parts = whole-starts t (drop at file) (omega (arith, bytes-left)) (w .good)
 
       pub headed : Headed file at
       headed =
           let s = starts-out (drop at file) (both-parts .0) in
           let f : at + 4 ≤ length file = omega (arith, s .long, bytes-left) in
-          let l = length-is file at f in
+          let l = le4-is file at f in
           record { four = f; six = omega (arith, s .room, s .kinded, bytes-left); room = omega (arith, s .room, bytes-left, l) }
 
       module _ (size : ℕ) (is : size ≡ le4 file at) (kind : ℕ) (has : kind ≡ le2 file (at + 4)) (m : Meaning) (means : m ≡ t kind) (b : Bool) (said : b ≡ isNext m next) where
@@ -224,7 +208,7 @@ module _ (t : Table) (most : (kind k w : ℕ) → t kind ≡ Listed k w → k �
         pub ordered-on : b ≡ true → (r : ℕ) → r ≡ after m next → Ordered file (at + 4 + size) r
         ordered-on e r q =
             let there : restAt (drop at file) ≡ drop (at + 4 + size) file =
-            ap (λ (n : ℕ). drop n (drop 4 (drop at file))) (sym (is ∙ length-is file at (headed .four))) ∙ ap (drop size) (drop-drop 4 at file) ∙ drop-drop size (at + 4) file in
+            ap (λ (n : ℕ). drop n (drop 4 (drop at file))) (sym (is ∙ le4-is file at (headed .four))) ∙ ap (drop size) (drop-drop 4 at file) ∙ drop-drop size (at + 4) file in
             record {
               within = omega (arith, headed .room, is);
               few = omega (arith, q, after-few m next (λ k v z. most kind k v (sym means ∙ z)) (w .few) (sym said ∙ e));

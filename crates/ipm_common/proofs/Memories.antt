@@ -16,7 +16,7 @@ memories-for rows columns entries e f g m n hm hn lindptr lindices mark next aga
   starts = omega arith;
   columns = omega (arith, sum-more m rows suc hm);
   short = omega arith;
-  marks = omega arith;
+  marks = record { rows = omega arith; columns = omega arith };
   counts = record { rows = omega arith; columns = omega arith };
   firsts = record { rows = omega arith; columns = omega arith };
 }

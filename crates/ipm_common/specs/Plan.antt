@@ -48,7 +48,7 @@ pub record Memories (m n : ℕ) (lindptr lindices mark next again : List ℕ) : 
   pub starts : m < length lindptr
   pub columns : sum m suc ≤ length lindices
   pub short : length lindices ≤ maxPlaces
-  pub marks : n ≤ length mark
+  pub marks : Room m n mark
   pub counts : Room m n next
   pub firsts : Room m n again
 

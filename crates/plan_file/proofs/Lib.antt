@@ -1,4 +1,5 @@
 pub mod Numbers
+pub mod Little
 pub mod Parse
 pub mod Yes
 pub mod Files

@@ -5,7 +5,7 @@ use Prim.Native.Nat.{ℕ, zero, suc, _+_, _*_, _-_, _/_, _%_, _^_, _<_, _≤_}
 use native.Mathlib.Omega.{arith}
 use native.Mathlib.Nat.{div-lt-iff-lt-mul, pow-suc, mul-mod-right, div-eq-of-eq-mul-right, div-add-mod, mul-suc}
 use lib.ListN.{length, getD, take, drop, length-append, length-take, length-drop, take-append-drop}
-use lib.Seq.{take-at, drop-at, getD-drop}
+use lib.Seq.{take-at, drop-at, drop-drop, getD-drop}
 use Rattle.base.specs.Numbers.{Below}
 use Rattle.plan_file.specs.Bytes.{bytesOf, number, words, numbers, numbersIn, Bytes}
 
@@ -97,3 +97,19 @@ words-in-numbers w s h e = words-numbers w (length s / w) s h (omega (arith, div
 -- and a list's body is whole numbers
 pub whole-words : (w : ℕ) (xs : List ℕ) → length (words w xs) % w ≡ 0
 whole-words w xs = ap (λ (n : ℕ). n % w) (length-words w xs) ∙ mul-mod-right w (length xs)
+
+-- ---- the numbers of a body by their places
+
+pub length-numbers : (w n : ℕ) (s : List ℕ) → length (numbers w n s) ≡ n
+unfolding numbers
+length-numbers w zero s = refl
+length-numbers w (suc n) s = ap suc (length-numbers w n (drop w s))
+
+pub number-at : (w n : ℕ) (s : List ℕ) (k : ℕ) → k < n → getD (numbers w n s) k 0 ≡ number (take w (drop (w * k) s))
+unfolding numbers
+number-at w zero s k h = absurd (omega arith)
+number-at w (suc n) s zero h = let e : w * 0 ≡ 0 = omega arith in sym (ap (λ (j : ℕ). number (take w (drop j s))) e)
+number-at w (suc n) s (suc k) h =
+    number-at w n (drop w s) k (omega arith)
+    ∙ ap (λ (l : List ℕ). number (take w l)) (drop-drop (w * k) w s)
+    ∙ let e : w + w * k ≡ w * suc k = omega (arith, mul-suc w k) in ap (λ (j : ℕ). number (take w (drop j s))) e

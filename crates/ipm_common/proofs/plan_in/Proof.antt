@@ -59,7 +59,7 @@ put-plan-requires c κs =
       rows-ready (a .offsets .now) (a .columns .now) (t .last .1 .1 .1 .0) (a .m) (s .pre .0 .csr) (s .pre .0 .offsets .few) (t .kept .1 .1 .1 .0) (t .ensures),
       c .before .before .before .before .before .before .before .before .before .before .before .before .before .before .before .before .before .before .before .before .list-rows .ensures .0,
       omega (arith, z, w, c .before .before .before .before .before .before .before .if1 .left),
-      s .pre .1 .marks,
+      omega (arith, s .pre .1 .marks .columns),
       record { rows = omega (arith, s .pre .1 .counts .rows, l); columns = omega (arith, s .pre .1 .counts .columns, l) },
       s .pre .1 .firsts,
     )
