@@ -1,6 +1,6 @@
 -- `file_lists::is_side_list` meets its contract. Assumes nothing.
 use native.Mathlib.Omega.{arith}
-use mathlib.Core.Path.{sym, ap, _∙_}
+use mathlib.Core.Path.{ap, _∙_}
 use lib.ListN.{length}
 use Rattle.transpose.specs.Bins.{colsOf}
 use Rattle.transpose.proofs.Count.{ends-long}
@@ -22,12 +22,12 @@ returns c =
     let s = c .before .before .before .before .before .before .before .before .before .before in
     let a = s .args in
     let cols = colsOf (a .side) (a .cols .now) (a .bytes .now) in
-    not-long (numbersOf (a .body .now)) (sideList (a .off .now) cols (a .m) (a .n) (a .part)) (λ q. c .if2 .taken (c .before .count .ensures ∙ q ∙ sym (ap length (part-ends (a .off .now) cols (a .m) (a .n) (a .part) (c .before .before .if1 .taken))) ∙ ends-long (a .off .now) cols (a .m) (a .n)))
+    not-long (numbersOf (a .body .now)) (sideList (a .off .now) cols (a .m) (a .n) (a .part)) (λ q. omega (arith, c .if2 .taken, c .before .count .ensures, ap length (part-ends (a .off .now) cols (a .m) (a .n) (a .part) (c .before .before .if1 .taken)), ends-long (a .off .now) cols (a .m) (a .n)))
 
 is-ends-requires : tie.Need-is-ends-requires
 is-ends-requires c κs =
     let s = c .before .before .before .before .before .before .before .before .before .before .before .before .before in
-    (s .pre .0, s .pre .1, s .pre .2, s .pre .3, sym (c .before .before .before .before .count .ensures) ∙ c .before .before .before .if2 .left)
+    (s .pre .0, s .pre .1, s .pre .2, s .pre .3, omega (arith, c .before .before .before .before .count .ensures, c .before .before .before .if2 .left))
 
 same-length : tie.Need-same-length
 same-length c = c .before .before .before .before .before .before .is-ends .kept .1 .1 .1 .1 .1 .1 .0
@@ -53,7 +53,7 @@ returns-3 c =
     let s = c .before .before .before .before .before .before .before .before .before .before in
     let a = s .args in
     let cols = colsOf (a .side) (a .cols .now) (a .bytes .now) in
-    not-long (numbersOf (a .body .now)) (sideList (a .off .now) cols (a .m) (a .n) (a .part)) (λ q. c .if3 .taken (c .before .count2 .ensures ∙ q ∙ part-long (a .off .now) cols (a .m) (a .n) (a .part) (c .before .before .if1 .left) ∙ sym (s .pre .4)))
+    not-long (numbersOf (a .body .now)) (sideList (a .off .now) cols (a .m) (a .n) (a .part)) (λ q. omega (arith, c .if3 .taken, c .before .count2 .ensures, part-long (a .off .now) cols (a .m) (a .n) (a .part) (c .before .before .if1 .left), s .pre .4))
 
 entry-of-requires : tie.Need-entry-of-requires
 entry-of-requires c κs = omega (arith, c .before .before .if1 .left)
@@ -61,7 +61,7 @@ entry-of-requires c κs = omega (arith, c .before .before .if1 .left)
 is-columns-requires : tie.Need-is-columns-requires
 is-columns-requires c κs =
     let s = c .before .before .before .before .before .before .before .before .before .before .before .before .before .before in
-    (s .pre .0, s .pre .1, s .pre .2, s .pre .3, sym (c .before .before .before .before .before .count2 .ensures) ∙ c .before .before .before .before .if3 .left ∙ s .pre .4)
+    (s .pre .0, s .pre .1, s .pre .2, s .pre .3, omega (arith, c .before .before .before .before .before .count2 .ensures, c .before .before .before .before .if3 .left, s .pre .4))
 
 same-length-4 : tie.Need-same-length-4
 same-length-4 c = c .before .before .before .before .before .before .is-columns .kept .1 .1 .1 .1 .1 .1 .1 .0
