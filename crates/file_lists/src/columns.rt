@@ -60,7 +60,7 @@ fn match_row(
 }
 
 // The entries of all rows, from the starts of the columns.
-fn match_rows(
+pub fn match_rows(
     side: Side,
     what: What,
     off: &[u32],
@@ -84,7 +84,7 @@ fn match_rows(
 }
 
 // The ends of the columns in one memory, and their starts in another.
-fn put_starts(
+pub fn put_starts(
     side: Side,
     off: &[u32],
     cols: &[u32],
@@ -102,45 +102,4 @@ fn put_starts(
     base::clear(next, n);
     transpose::count_rows(side, off, cols, bytes, m, next);
     transpose::put_ends(n, made, next, again, 0)
-}
-
-// Are the numbers the ends of a transpose?
-pub fn is_ends(
-    side: Side,
-    off: &[u32],
-    cols: &[u32],
-    bytes: &[u8],
-    m: usize,
-    n: usize,
-    next: &mut [u32],
-    again: &mut [u32],
-    made: &mut [u32],
-    body: &[u8],
-) -> bool
-    requires { ⌜ Grid (now off) (colsOf side (now cols) (now bytes)) m n × (n < length (now next)) × (n < length (now again)) × (n < length (now made)) × (length (numbersOf (now body)) ≡ n + 1) ⌝ }
-    ensures { λ r. ⌜ r ≡ same (numbersOf (now (body .entry))) (endsOf (shape (now (off .entry)) (colsOf side (now (cols .entry)) (now (bytes .entry)))) Matrix m n) ⌝ }
-{
-    let words = put_starts(side, off, cols, bytes, m, n, next, again, made);
-    file_numbers::is_same(body, 0, made, words)
-}
-
-// Are they its rows, or its places?
-pub fn is_columns(
-    side: Side,
-    what: What,
-    off: &[u32],
-    cols: &[u32],
-    bytes: &[u8],
-    m: usize,
-    n: usize,
-    next: &mut [u32],
-    again: &mut [u32],
-    made: &mut [u32],
-    body: &[u8],
-) -> bool
-    requires { ⌜ Grid (now off) (colsOf side (now cols) (now bytes)) m n × (n < length (now next)) × (n < length (now again)) × (n < length (now made)) × (length (numbersOf (now body)) ≡ sum n (roomOf (now off) (colsOf side (now cols) (now bytes)) m)) ⌝ }
-    ensures { λ r. ⌜ r ≡ same (numbersOf (now (body .entry))) (entriesOf (now (off .entry)) (colsOf side (now (cols .entry)) (now (bytes .entry))) what m n) ⌝ }
-{
-    put_starts(side, off, cols, bytes, m, n, next, again, made);
-    match_rows(side, what, off, cols, bytes, m, n, next, body)
 }

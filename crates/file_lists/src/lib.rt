@@ -99,17 +99,18 @@ fn is_side_list(
     requires { ⌜ Grid (now off) (colsOf side (now cols) (now bytes)) m n × (n < length (now next)) × (n < length (now again)) × (n < length (now made)) × (t ≡ sum n (roomOf (now off) (colsOf side (now cols) (now bytes)) m)) ⌝ }
     ensures { λ r. ⌜ r ≡ same (numbersOf (now (body .entry))) (sideList (now (off .entry)) (colsOf side (now (cols .entry)) (now (bytes .entry))) m n part) ⌝ }
 {
+    let words = columns::put_starts(side, off, cols, bytes, m, n, next, again, made);
     if part == 0 {
-        if file_numbers::count(body) != n + 1 {
+        if file_numbers::count(body) != words {
             return false;
         }
-        return columns::is_ends(side, off, cols, bytes, m, n, next, again, made, body);
+        return file_numbers::is_same(body, 0, made, words);
     }
     if file_numbers::count(body) != t {
         return false;
     }
     let what = entry_of(part);
-    columns::is_columns(side, what, off, cols, bytes, m, n, next, again, made, body)
+    columns::match_rows(side, what, off, cols, bytes, m, n, next, body)
 }
 
 // How many lists are written pair by pair.
