@@ -1,5 +1,6 @@
 // A plan's file, written to lent bytes.
-ghost use Prim.Native.Nat.{ℕ, _≤_};
+ghost use mathlib.Core.Path.{_≡_};
+ghost use Prim.Native.Nat.{ℕ, _+_, _*_, _≤_};
 ghost use mathlib.Core.List.{List};
 ghost use lib.ListN.{length};
 ghost use Rattle.base.specs.Cat.{Wrote};
@@ -11,6 +12,17 @@ ghost use Rattle.file_write.specs.Writable.{Writable};
 mod records;
 
 use layout::Plan;
+
+// The bytes of a record before its body.
+const HEAD_BYTES: usize = 6;
+
+// The bytes of the file of a plan with so many words.
+pub fn file_bytes(words: usize) -> usize
+    requires { ⌜ 4 * words + 96 ≤ topWord ⌝ }
+    ensures { λ r. ⌜ r ≡ 4 * words + 96 ⌝ }
+{
+    records::WORD_BYTES * words + HEAD_BYTES * Plan::LISTS
+}
 
 // The sixteen records of the lists that stand one after the other in the index memory, and the place after them.
 pub fn put_file(file: &mut [u8], index: &[u32], plan: Plan) -> usize

@@ -13,7 +13,7 @@ const SHORT: usize = 65_536;
 // The bytes of a number of 16 bits and of one of 32; a record's kind is one of 16.
 const SHORT_BYTES: usize = 2;
 
-const WORD_BYTES: usize = 4;
+pub const WORD_BYTES: usize = 4;
 
 const KIND_BYTES: usize = SHORT_BYTES;
 

@@ -3,13 +3,18 @@ use mathlib.Core.Path.{_≡_, refl, sym, ap, _∙_}
 use mathlib.Core.List.{List, _++_}
 use Prim.Native.Nat.{ℕ, zero, suc, _+_, _*_, _<_}
 use native.Mathlib.Omega.{arith}
-use lib.ListN.{length, length-append}
+use lib.ListN.{length, getD, length-append}
 use Rattle.base.specs.Cat.{join}
 use Rattle.csr.specs.Csr.{Accepted}
-use Rattle.csr.specs.Counts.{sizeW}
+use Rattle.csr.specs.Counts.{sizeW, Counted}
+use Rattle.layout.specs.declared.Plan.{Plan}
+use Rattle.layout.specs.Lists.{sizesOf}
 use Rattle.lists.specs.Lists.{planWords}
 use Rattle.lists.proofs.Joined.{From, plan-from, plan-joined}
-use Rattle.lists.proofs.Sizes.{plan-size}
+use Rattle.lists.specs.declared.Which.the-variants.{AnormIndptr, AnormIndptrI, AnormIndptrJ, AnormIndices, LdecompIndptr, LdecompIndptrI, LdecompIndptrJ, Lindptr, LdiagIndptr, Lindices}
+use Rattle.lists.specs.declared.Side.the-variants.{Factor, Matrix}
+use Rattle.lists.specs.declared.What.the-variants.{Numbers, Places}
+use Rattle.lists.proofs.Sizes.{plan-size, size-list, size-ends, size-factor, size-matrix}
 use Rattle.plan_file.specs.Tables.{wide}
 use Rattle.plan_file.specs.Verdicts.{listsFrom}
 use Rattle.plan_file.specs.Written.{wideWriter, wordsIn}
@@ -38,6 +43,27 @@ module _ (off cols : List ℕ) (m n : ℕ) where
   lists-from index rest e = plan-from off cols m n index rest e
 
   module _ (ok : Accepted off cols m n) where
+    -- how many words each list has, by the sizes of the plan
+    module _ (p : Plan) (c : Counted off cols m (p .stored) (p .shared) (p .products)) (em : p .m ≡ m) (en : p .n ≡ n) (et : p .t ≡ length cols) where
+      pub sizes-are : (k : ℕ) → k < 16 → getD (sizesOf p) k 0 ≡ length (matrixLists off cols m n (suc k))
+      sizes-are zero h = omega (arith, c .stored, c .shared, c .products, em, size-list off cols m AnormIndptr)
+      sizes-are (suc zero) h = omega (arith, c .stored, c .shared, c .products, em, size-list off cols m AnormIndptrI)
+      sizes-are (suc (suc zero)) h = omega (arith, c .stored, c .shared, c .products, em, size-list off cols m AnormIndptrJ)
+      sizes-are (suc (suc (suc zero))) h = omega (arith, c .stored, c .shared, c .products, em, size-list off cols m AnormIndices)
+      sizes-are (suc (suc (suc (suc zero)))) h = omega (arith, c .stored, c .shared, c .products, em, size-list off cols m LdecompIndptr)
+      sizes-are (suc (suc (suc (suc (suc zero))))) h = omega (arith, c .stored, c .shared, c .products, em, size-list off cols m LdecompIndptrI)
+      sizes-are (suc (suc (suc (suc (suc (suc zero)))))) h = omega (arith, c .stored, c .shared, c .products, em, size-list off cols m LdecompIndptrJ)
+      sizes-are (suc (suc (suc (suc (suc (suc (suc zero))))))) h = omega (arith, c .stored, c .shared, c .products, em, size-list off cols m Lindptr)
+      sizes-are (suc (suc (suc (suc (suc (suc (suc (suc zero)))))))) h = omega (arith, c .stored, c .shared, c .products, em, size-list off cols m LdiagIndptr)
+      sizes-are (suc (suc (suc (suc (suc (suc (suc (suc (suc zero))))))))) h = omega (arith, c .stored, c .shared, c .products, em, size-list off cols m Lindices)
+      sizes-are (suc (suc (suc (suc (suc (suc (suc (suc (suc (suc zero)))))))))) h = omega (arith, c .stored, em, en, et, size-ends off cols Factor m m)
+      sizes-are (suc (suc (suc (suc (suc (suc (suc (suc (suc (suc (suc zero))))))))))) h = omega (arith, c .stored, em, en, et, size-factor off cols m n ok Numbers)
+      sizes-are (suc (suc (suc (suc (suc (suc (suc (suc (suc (suc (suc (suc zero)))))))))))) h = omega (arith, c .stored, em, en, et, size-factor off cols m n ok Places)
+      sizes-are (suc (suc (suc (suc (suc (suc (suc (suc (suc (suc (suc (suc (suc zero))))))))))))) h = omega (arith, c .stored, em, en, et, size-ends off cols Matrix m n)
+      sizes-are (suc (suc (suc (suc (suc (suc (suc (suc (suc (suc (suc (suc (suc (suc zero)))))))))))))) h = omega (arith, c .stored, em, en, et, size-matrix off cols m n ok Numbers)
+      sizes-are (suc (suc (suc (suc (suc (suc (suc (suc (suc (suc (suc (suc (suc (suc (suc zero))))))))))))))) h = omega (arith, c .stored, em, en, et, size-matrix off cols m n ok Places)
+      sizes-are (suc (suc (suc (suc (suc (suc (suc (suc (suc (suc (suc (suc (suc (suc (suc (suc k)))))))))))))))) h = absurd (omega arith)
+
     plan-words : wordsIn (matrixLists off cols m n) 1 16 ≡ sizeW off cols m n
     plan-words = words-joined (matrixLists off cols m n) 16 1 ∙ ap length joined-plan ∙ plan-size off cols m n ok
 
