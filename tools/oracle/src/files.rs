@@ -2,10 +2,10 @@
 //! wrong, and bytes of any kind. Each is read, and lent to a solve; questions 14 to 16 are asked in `file.rs`.
 
 use crate::compare::Comparison;
-use crate::file::{FIRST_NOTE, KIND, LENGTH, NUMBER, Record, ask_file, joined, listed};
+use crate::file::{FIRST_NOTE, Filed, KIND, LENGTH, NUMBER, Record, ask_file, joined, listed, written};
 use crate::fractions::{short_rooms, wrong_before};
 use crate::generate;
-use crate::library::{Filing, SPARE, enough, read_in, solve_filed};
+use crate::library::{Filing, SPARE, enough, read_in, solve_filed, write_in};
 use crate::plan::Lists;
 use crate::problem::{Answer, Fractions, Matrix, Planned, Problem, Refusal};
 use crate::questions::{Room, ask_matrix};
@@ -59,6 +59,20 @@ impl Subject {
         Ok(lists)
     }
 
+    /// W; 0 where the matrix is refused.
+    fn words(&self) -> usize {
+        self.lists.as_ref().map_or(0, |lists| lists.iter().map(Vec::len).sum())
+    }
+
+    /// Questions 1 to 6, then 8, and the plan with its file.
+    fn write(&self, index: usize, bytes: usize) -> Filed {
+        let whole = written(self.lists.as_ref().map_err(|&no| no)?);
+        if index < whole.words.len() {
+            return Err(Refusal::at(6, 0));
+        }
+        if bytes < whole.bytes.len() { Err(Refusal::at(8, 0)) } else { Ok(whole) }
+    }
+
     /// Questions 1 to 5, 14 to 16, then 6, and the plan.
     fn read(&self, file: &[u8], index: usize) -> Planned {
         let words = self.ask(file)?.concat();
@@ -84,7 +98,7 @@ fn compare_file(comparison: &mut Comparison, random: &mut Random, kind: &str, su
         Ok(_) => "files, answers: yes".into(),
         Err(no) => format!("files, answers: refused {:02}", no.question),
     });
-    let words = subject.lists.as_ref().map_or(0, |lists| lists.iter().map(Vec::len).sum());
+    let words = subject.words();
     for index in [words + SPARE, words, words.saturating_sub(1), 0] {
         compare_read(comparison, subject, file, index);
     }
@@ -105,6 +119,18 @@ fn compare_read(comparison: &mut Comparison, subject: &Subject, file: &[u8], ind
         other => {
             let matrix = &subject.problem.matrix;
             comparison.differ(format!("read {other:?}, wanted {wanted:?}: {index} words, {file:02x?} {matrix:?}"));
+        }
+    }
+}
+
+fn compare_write(comparison: &mut Comparison, subject: &Subject, index: usize, bytes: usize) {
+    let wanted = subject.write(index, bytes);
+    comparison.count("files written with lengths varied: static library");
+    match write_in(&subject.problem.matrix, index, bytes) {
+        Ok(told) if told == wanted => {}
+        other => {
+            let matrix = &subject.problem.matrix;
+            comparison.differ(format!("written {other:?}, wanted {wanted:?}: {index} words, {bytes} bytes {matrix:?}"));
         }
     }
 }
@@ -392,6 +418,7 @@ fn compare_lent(c: &mut Comparison, random: &mut Random, kind: &str, problem: Pr
     c.count(format!("files, kind: {kind}"));
     compare_solve(c, &subject.problem, Filing { flag: random.pick(&FLAGS), bytes: file }, room, &wanted);
     compare_read(c, &subject, file, room.index);
+    compare_write(c, &subject, room.index, file.len());
 }
 
 /// A file with a yes, and with a no at 14, 15 and 16, where each other question has a no too.
@@ -422,7 +449,7 @@ fn compare_large(comparison: &mut Comparison, random: &mut Random) {
     let mut flipped = joined(&written);
     let place = random.below(flipped.len());
     flipped[place] ^= 1 << random.below(8);
-    let words = subject.lists.as_ref().map_or(0, |lists| lists.iter().map(Vec::len).sum());
+    let words = subject.words();
     for (kind, file) in [
         ("as written", joined(&written)),
         ("a note in every gap", joined(&with_all_notes(&written))),
@@ -460,8 +487,9 @@ pub fn compare(comparison: &mut Comparison, random: &mut Random, scale: usize) {
         compare_every(comparison, random, &subject, &with_all_notes(&written));
     }
     for _ in 0..scale {
-        let subject = Subject::new(generate::solvable(random, 4, 5));
-        compare_random(comparison, random, &subject);
+        let kinds = generate::each_kind(random);
+        let (_, problem) = &kinds[random.below(kinds.len())];
+        compare_random(comparison, random, &Subject::new(problem.clone()));
         (0..OF_EACH).for_each(|_| compare_varied(comparison, random));
     }
     for _ in 0..scale / 100 {
