@@ -11,9 +11,10 @@ const COLUMNS: usize = 2;
 const OFFSETS: [usize; ROWS + 1] = [0, 2, 3, 4];
 const ENTRIES: [usize; 4] = [0, 1, 0, 1];
 
-/// A first kind of notes, and a record of that kind: length, kind and body.
+/// The first kind of a note.
 const NOTE: u16 = 0x8000;
 
+/// A record: length, kind and body.
 fn note(text: &str) -> Vec<u8> {
     let length = (size_of_val(&NOTE) + text.len()) as u32;
     [&length.to_le_bytes()[..], &NOTE.to_le_bytes(), text.as_bytes()].concat()
@@ -29,15 +30,15 @@ fn main() -> Result<(), Refusal> {
     let carried = [note("planned on the first machine"), written.clone()].concat();
     println!("{} bytes written, {} carried", written.len(), carried.len());
 
-    let words = read(&carried)?;
-    println!("read: {} words, the same: {}", words.words().len(), words.words() == plan.words());
+    let same = read(&carried)?.words() == plan.words();
+    println!("read: {} words, the same: {same}", plan.words().len());
 
     let values = vec![1.0; ENTRIES.len()];
     let solver = Solver::from_data(ROWS, COLUMNS, OFFSETS.to_vec(), ENTRIES.to_vec(), values, ROWS)?;
+    let mut solver = solver.with_file(carried.clone());
     let (b, c) = ([[4.0; LANES], [3.0; LANES], [2.0; LANES]], [[2.0; LANES], [1.0; LANES]]);
     let limit = NonZeroUsize::new(100).expect("not 0");
-    let mut filed = solver.clone().with_file(carried.clone());
-    let test = filed.solve(&b, &c, &Tolerances::default(), limit)?.test;
+    let test = solver.solve(&b, &c, &Tolerances::default(), limit)?.test;
     println!("solved with the file: done at test {test}");
 
     let mut flipped = carried.clone();

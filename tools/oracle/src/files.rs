@@ -1,8 +1,9 @@
 //! Files that only the static library can be given: whole ones with notes around their records, ones with something
-//! wrong, and bytes of any kind. Each is read, and lent to a solve; questions 14 to 16 are asked in `file.rs`.
+//! wrong, and bytes of any kind. Each is read, and lent to a solve; questions 14 to 16 are asked in `decide.rs`.
 
 use crate::compare::Comparison;
-use crate::file::{FIRST_NOTE, Filed, KIND, LENGTH, NUMBER, Record, ask_file, joined, listed, written};
+use crate::decide::{FIRST_NOTE, LENGTH, NUMBER, ask_file};
+use crate::file::{Filed, KIND, Record, joined, listed, written};
 use crate::fractions::{short_rooms, wrong_before};
 use crate::generate;
 use crate::library::{Filing, SPARE, enough, read_in, solve_filed, write_in};

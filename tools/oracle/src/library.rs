@@ -2,9 +2,10 @@
 //! libipm_c.a. It also looks at every buffer: what a no must leave, and what 11, 12 and acceptance must leave.
 
 use crate::backend::{Backend, Told};
+use crate::decide::{LENGTH, NUMBER as NUMBER_BYTES};
 use crate::extern_c::{ipm_costliest, ipm_plan, ipm_read_plan, ipm_sizes, ipm_solve, ipm_write_plan};
-use crate::file::{Filed, NUMBER as NUMBER_BYTES, Written};
-use crate::plan::{Counts, Measured, Sizes, plan_words, work_numbers};
+use crate::file::{Filed, KIND, Written};
+use crate::plan::{Counts, Measured, NAMES, Sizes, plan_words, work_numbers};
 use crate::problem::{Answer, LANES, Matrix, Planned, Problem, Refusal, all_settled_bits};
 use crate::questions::{Room, ask_plan};
 use crate::reference;
@@ -16,8 +17,8 @@ const NUMBER: f64 = -7.25;
 const RESULT: u64 = 0xdead_beef_dead_beef;
 pub const SPARE: usize = 3;
 
-/// The bytes of the sixteen heads of a file.
-const HEADS: usize = 96;
+/// The bytes of a file's lengths and kinds.
+const HEADS: usize = NAMES.len() * (LENGTH + KIND);
 
 /// The library's answer taken apart. Question 0 is a yes: the place is the test, W for a plan and sizes, the bytes of a
 /// file, or 0.

@@ -4,6 +4,8 @@ mod backend;
 mod cases;
 mod compare;
 #[cfg(ipm_c)]
+mod decide;
+#[cfg(ipm_c)]
 #[path = "../../../bindings/rust/src/extern_c.rs"]
 mod extern_c;
 mod file;
