@@ -6,8 +6,8 @@ use crate::{CENTRING, DAMPING, extern_c};
 /// The question of a yes.
 pub const YES: u32 = 0;
 
-/// An answer taken apart. Question 0 is a yes, and its place is W, the test, the bytes of a file for [`write_plan`], or 0
-/// for [`costliest`]. Length is that of y after an accepted solve, and 0 otherwise.
+/// An answer taken apart. Question 0 is a yes, and its place is W, the test, the bytes of a file for [`write_plan`], or
+/// 0 for [`costliest`]. Length is that of y after an accepted solve, and 0 otherwise.
 #[derive(Clone, Copy, Debug, PartialEq, Eq)]
 pub struct Answer {
     pub length: u16,
@@ -40,8 +40,8 @@ pub struct Matrix {
     pub values: Vec<f64>,
 }
 
-/// What a solve reads besides the matrix. With a file, that of the matrix's plan, it asks questions 14 to 16 after 5; an
-/// empty file is a file.
+/// What a solve reads besides the matrix. With a file, that of the matrix's plan, it asks questions 14 to 16 after 5;
+/// an empty file is a file.
 #[derive(Clone, Copy)]
 pub struct Sides<'a> {
     pub b: &'a [f64],
@@ -163,7 +163,8 @@ pub fn write_plan(matrix: &Matrix, index: &mut [u32], file: &mut [u8]) -> Answer
     })
 }
 
-/// Questions 1 to 5, 14 to 16 about the file, then 6; the plan that is in the file. The file is lent without a byte more.
+/// Questions 1 to 5, 14 to 16 about the file, then 6; the plan that is in the file. The file is lent without a byte
+/// more.
 pub fn read_plan(matrix: &Matrix, file: &[u8], index: &mut [u32]) -> Answer {
     // Safety: as for `sizes`.
     Answer::from_code(unsafe {

@@ -1,5 +1,5 @@
-//! A plan's file by its text, from lists alone. A record is its length (u32, the bytes after it), its kind (u16) and its
-//! body, little-endian. Kinds 1 to 16 are the sixteen lists, in order, each once, bodies of u32.
+//! A plan's file by its text, from lists alone. A record is its length (u32, the bytes after it), its kind (u16) and
+//! its body, little-endian. Kinds 1 to 16 are the sixteen lists, in order, each once, bodies of u32.
 
 use crate::plan::Lists;
 use crate::problem::Refusal;
