@@ -33,6 +33,7 @@ static const double tolerances[3 * IPM_LANES] = {
 };
 static const double best[IPM_LANES * N] = {3.0, 3.0, 2.0, 1.0, 1.0, 2.0, 0.0, 1.0};
 static const double near = 1e-6;
+static const uint8_t no_file[1]; /* a pointer is never NULL; examples/c/carry.c lends a file */
 
 /* The memory lent to every solve: W words of index and F numbers of work. */
 struct memory {
@@ -45,8 +46,8 @@ struct memory {
 
 static uint64_t solve(size_t b_len, size_t limit, double centring, struct memory *lent) {
     return ipm_solve(M, N, S, offsets, M + 1, columns, T, values, T, b, b_len, c, IPM_LANES * N, tolerances,
-                     3 * IPM_LANES, limit, centring, IPM_DAMPING, lent->x, IPM_LANES * N, lent->prices, IPM_LANES * M,
-                     lent->index, lent->index_len, lent->work, lent->work_len);
+                     3 * IPM_LANES, limit, centring, IPM_DAMPING, 0, no_file, 0, lent->x, IPM_LANES * N, lent->prices,
+                     IPM_LANES * M, lent->index, lent->index_len, lent->work, lent->work_len);
 }
 
 static void print_no(FILE *out, uint64_t answer) {

@@ -1,9 +1,11 @@
-//! Before anything is timed: the same lists, the sizes that they have, the same test and the same bits of x and y.
+//! Before anything is timed: the same lists, the sizes that they have, their file, the same test and the same bits of x
+//! and y.
 
 use std::panic::{AssertUnwindSafe, catch_unwind};
 
 use ipm::library::Sizes;
 
+use crate::file::written;
 use crate::ours::Ours;
 use crate::plan::{Lists, listed_counts, work_numbers};
 use crate::problem::Problem;
@@ -51,6 +53,16 @@ pub fn check(problem: &Problem) -> Result<(Ours, Counts), String> {
     let sizes = ours.sizes();
     if sizes != Ok(listed) {
         return Err(format!("the sizes differ: {sizes:?}, not {listed:?}"));
+    }
+    let wanted = written(&lists);
+    let wrote = ours.write_plan();
+    if ours.file() != wanted.bytes || (wrote.question, wrote.place as usize) != (0, wanted.bytes.len()) {
+        return Err(format!("the files differ: {wrote:?}"));
+    }
+    ours.forget_plan();
+    let read = ours.read_plan();
+    if ours.words() != wanted.words || read != planned {
+        return Err(format!("the file is read as another plan: {read:?}"));
     }
     let solved = ours.solve(problem.limit);
     if solved.question != 0 {

@@ -1,17 +1,22 @@
-//! Times plan and solve, ours and the unchanged Rust, in one run on the same inputs; and sizes, ours alone.
+//! Times plan and solve, ours and the unchanged Rust, in one run on the same inputs; and sizes, write and read, ours
+//! alone.
 //!
 //! - plan: the Rust checks the lists, makes its thirteen and the transpose; ours is `ipm_plan`.
 //! - solve: from the lists to x. The Rust is `from_data` and `solve`; ours is `ipm_solve`, which plans for itself.
 //! - test: one test with its step. The Rust is `solve` over the number of tests; ours is `ipm_solve` less `ipm_plan`
 //!   over the same number.
 //! - again: the Rust's `solve` on a solver made before; ours is `ipm_solve`, which plans every time.
-//! - sizes: ours is `ipm_sizes`, beside our own `ipm_plan`. The Rust has no such call.
+//! - sizes, write, read: ours are `ipm_sizes`, `ipm_write_plan` and `ipm_read_plan`, beside our own `ipm_plan`. The
+//!   Rust has no such calls.
 //!
 //! Both sides accept at the same test: the limit is that test, so nothing panics under the clock. What the Rust is
 //! given by value is cloned before the clock starts, and what it made is dropped after it stops.
 
 mod agree;
 mod cases;
+#[path = "../../../tools/oracle/src/file.rs"]
+#[allow(dead_code)]
+mod file;
 #[path = "../../../tools/oracle/src/generate.rs"]
 #[allow(dead_code)]
 mod generate;
@@ -52,6 +57,8 @@ struct Times {
     rust_solve: Time,
     our_solve: Time,
     our_sizes: Time,
+    our_write: Time,
+    our_read: Time,
 }
 
 fn rust_plan(problem: &Problem) -> Piece<'_> {
@@ -86,10 +93,13 @@ fn timed(problem: &Problem, ours: Ours, budget: Duration) -> Times {
         Piece::new(|| (), |()| solver.solve(&sides.b, &sides.c, &sides.tolerances, sides.limit)[0]),
         Piece::new(|| (), |()| ours.borrow_mut().solve(problem.limit)),
         Piece::new(|| (), |()| ours.borrow().sizes()),
+        Piece::new(|| (), |()| ours.borrow_mut().write_plan()),
+        Piece::new(|| (), |()| ours.borrow_mut().read_plan()),
     ];
     sample_in_turn(&mut pieces, budget);
-    let [rust_plan, our_plan, rust_setup, rust_solve, our_solve, our_sizes] = pieces.map(Piece::time);
-    Times { rust_plan, our_plan, rust_setup, rust_solve, our_solve, our_sizes }
+    let [rust_plan, our_plan, rust_setup, rust_solve, our_solve, our_sizes, our_write, our_read] =
+        pieces.map(Piece::time);
+    Times { rust_plan, our_plan, rust_setup, rust_solve, our_solve, our_sizes, our_write, our_read }
 }
 
 /// Ours, the Rust's and the ratio, in microseconds.
@@ -98,15 +108,14 @@ fn pair(ours: f64, rust: f64) -> String {
 }
 
 /// Ours and its ratio to our own plan, in microseconds.
-fn beside_plan(times: &Times) -> String {
-    let (sizes, plan) = (times.our_sizes.best, times.our_plan.best);
-    format!("{:>9.2} {:>5.2} |", 1e6 * sizes, sizes / plan)
+fn beside_plan(ours: Time, plan: Time) -> String {
+    format!("{:>9.2} {:>5.2} |", 1e6 * ours.best, ours.best / plan.best)
 }
 
 /// How much slower the middle sample is than the best, for the worst of the pieces.
 fn worst_spread(times: &Times) -> f64 {
-    let Times { rust_plan, our_plan, rust_setup, rust_solve, our_solve, our_sizes } = times;
-    let all = [rust_plan, our_plan, rust_setup, rust_solve, our_solve, our_sizes];
+    let Times { rust_plan, our_plan, rust_setup, rust_solve, our_solve, our_sizes, our_write, our_read } = times;
+    let all = [rust_plan, our_plan, rust_setup, rust_solve, our_solve, our_sizes, our_write, our_read];
     all.iter().map(|time| time.spread()).fold(0.0, f64::max)
 }
 
@@ -122,26 +131,28 @@ fn row(case: &Case, counts: Counts, times: &Times) -> String {
         counts.tests
     );
     format!(
-        "| {:<18} | {sizes} |{}{}{}{}{} {:>4.0} |",
+        "| {:<18} | {sizes} |{}{}{}{}{}{}{} {:>4.0} |",
         case.name,
         pair(times.our_plan.best, times.rust_plan.best),
         pair(times.our_solve.best, times.rust_setup.best + times.rust_solve.best),
         pair((times.our_solve.best - times.our_plan.best) / tests, times.rust_solve.best / tests),
         pair(times.our_solve.best, times.rust_solve.best),
-        beside_plan(times),
+        beside_plan(times.our_sizes, times.our_plan),
+        beside_plan(times.our_write, times.our_plan),
+        beside_plan(times.our_read, times.our_plan),
         worst_spread(times),
     )
 }
 
 fn header() {
     println!("Times in microseconds, the best of many samples: ours, the Rust's, ours over the Rust's.");
-    println!("sizes: ours, and ours over our own plan, since the Rust has no such call.");
+    println!("sizes, write, read: ours, and ours over our own plan, since the Rust has no such calls.");
     println!(
-        "spread: how much slower the middle sample is than the best, in percent, the worst of the six pieces timed."
+        "spread: how much slower the middle sample is than the best, in percent, the worst of the eight pieces timed."
     );
     println!();
-    println!("| case | m, n, t, E, W, tests | plan | solve | test | again | sizes | spread |");
-    println!("|---|---|---|---|---|---|---|---|");
+    println!("| case | m, n, t, E, W, tests | plan | solve | test | again | sizes | write | read | spread |");
+    println!("|---|---|---|---|---|---|---|---|---|---|");
 }
 
 fn run(seconds: f64, names: &[String]) -> Result<(), String> {
@@ -156,7 +167,7 @@ fn run(seconds: f64, names: &[String]) -> Result<(), String> {
         println!("{}", row(&case, counts, &times));
     }
     println!();
-    println!("Plans, sizes, tests and bits of x and y agree in every case.");
+    println!("Plans, sizes, files, tests and bits of x and y agree in every case.");
     Ok(())
 }
 

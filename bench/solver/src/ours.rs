@@ -11,10 +11,11 @@ pub struct Ours {
     prices: Vec<f64>,
     index: Vec<u32>,
     work: Vec<f64>,
+    file: Vec<u8>,
 }
 
 impl Ours {
-    /// Lends exactly W words and F numbers.
+    /// Lends exactly W words, F numbers and the bytes of the plan's file.
     pub fn new(problem: &Problem, sizes: Sizes) -> Self {
         let matrix = &problem.matrix;
         Ours {
@@ -31,6 +32,7 @@ impl Ours {
             prices: vec![0.0; LANES * matrix.m],
             index: vec![0; sizes.words],
             work: vec![0.0; sizes.numbers],
+            file: vec![0; library::file_bytes(sizes.words)],
         }
     }
 
@@ -42,12 +44,29 @@ impl Ours {
         library::plan(&self.matrix, &mut self.index)
     }
 
+    pub fn write_plan(&mut self) -> Answer {
+        library::write_plan(&self.matrix, &mut self.index, &mut self.file)
+    }
+
+    /// Of the file that was written last, over what the index memory holds.
+    pub fn read_plan(&mut self) -> Answer {
+        library::read_plan(&self.matrix, &self.file, &mut self.index)
+    }
+
     pub fn solve(&mut self, limit: usize) -> Answer {
         let Problem { b, c, tolerances, .. } = &self.problem;
-        let sides = Sides { b, c, tolerances, limit };
+        let sides = Sides { b, c, tolerances, limit, file: None };
         let Ours { output, prices, index, work, .. } = self;
         let lent = Lent { output, prices, index, work };
         library::solve(&self.matrix, sides, lent)
+    }
+
+    pub fn forget_plan(&mut self) {
+        self.index.fill(0);
+    }
+
+    pub fn file(&self) -> &[u8] {
+        &self.file
     }
 
     pub fn words(&self) -> &[u32] {

@@ -29,6 +29,32 @@ unsafe extern "C" {
         index_len: usize,
     ) -> u64;
 
+    pub fn ipm_write_plan(
+        m: usize,
+        n: usize,
+        offsets: *const u32,
+        offsets_len: usize,
+        columns: *const u32,
+        columns_len: usize,
+        index: *mut u32,
+        index_len: usize,
+        file: *mut u8,
+        file_len: usize,
+    ) -> u64;
+
+    pub fn ipm_read_plan(
+        m: usize,
+        n: usize,
+        offsets: *const u32,
+        offsets_len: usize,
+        columns: *const u32,
+        columns_len: usize,
+        file: *const u8,
+        file_len: usize,
+        index: *mut u32,
+        index_len: usize,
+    ) -> u64;
+
     pub fn ipm_solve(
         m: usize,
         n: usize,
@@ -48,6 +74,9 @@ unsafe extern "C" {
         limit: usize,
         centring: f64,
         damping: f64,
+        filed: usize,
+        file: *const u8,
+        file_len: usize,
         output: *mut f64,
         output_len: usize,
         prices: *mut f64,

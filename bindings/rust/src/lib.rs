@@ -5,13 +5,16 @@
 //! and the prices of its rows, y.
 //!
 //! [`Solver`] sizes and owns the memory that the library is lent. Every answer is the library's own, a refusal too:
-//! see [`Refusal`]. A caller with memory of its own calls [`library`].
+//! see [`Refusal`]. A [`Plan`] is written to bytes and read from them. A caller with memory of its own calls
+//! [`library`].
 
 mod extern_c;
 pub mod library;
+mod plan;
 mod refusal;
 mod solver;
 
+pub use plan::Plan;
 pub use refusal::Refusal;
 pub use solver::{Lane, Solution, Solver, Tolerances};
 

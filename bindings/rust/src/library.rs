@@ -6,8 +6,8 @@ use crate::{CENTRING, DAMPING, extern_c};
 /// The question of a yes.
 pub const YES: u32 = 0;
 
-/// An answer taken apart. Question 0 is a yes, and its place is W, the test, or 0 for [`costliest`]. Length is that of
-/// y after an accepted solve, and 0 otherwise.
+/// An answer taken apart. Question 0 is a yes, and its place is W, the test, the bytes of a file for [`write_plan`], or
+/// 0 for [`costliest`]. Length is that of y after an accepted solve, and 0 otherwise.
 #[derive(Clone, Copy, Debug, PartialEq, Eq)]
 pub struct Answer {
     pub length: u16,
@@ -40,13 +40,26 @@ pub struct Matrix {
     pub values: Vec<f64>,
 }
 
-/// What a solve reads besides the matrix.
+/// What a solve reads besides the matrix. With a file, that of the matrix's plan, it asks questions 14 to 16 after 5;
+/// an empty file is a file.
 #[derive(Clone, Copy)]
 pub struct Sides<'a> {
     pub b: &'a [f64],
     pub c: &'a [f64],
     pub tolerances: &'a [f64],
     pub limit: usize,
+    pub file: Option<&'a [u8]>,
+}
+
+/// The lists of a plan, each a record of its file.
+const LISTS: usize = 16;
+/// The bytes of a record's length and kind, and of one number in its body.
+const HEAD: usize = 6;
+const NUMBER: usize = 4;
+
+/// The bytes of the file of a plan that has so many words.
+pub const fn file_bytes(words: usize) -> usize {
+    NUMBER * words + LISTS * HEAD
 }
 
 /// The memory that a solve writes: after a yes x is in `output` and y in `prices`.
@@ -131,13 +144,53 @@ pub fn plan(matrix: &Matrix, index: &mut [u32]) -> Answer {
     })
 }
 
+/// Questions 1 to 6, then 8 about the file, which has to have [`file_bytes`] or more; the plan and its file.
+pub fn write_plan(matrix: &Matrix, index: &mut [u32], file: &mut [u8]) -> Answer {
+    // Safety: as for `sizes`.
+    Answer::from_code(unsafe {
+        extern_c::ipm_write_plan(
+            matrix.m,
+            matrix.n,
+            matrix.offsets.as_ptr(),
+            matrix.offsets.len(),
+            matrix.columns.as_ptr(),
+            matrix.columns.len(),
+            index.as_mut_ptr(),
+            index.len(),
+            file.as_mut_ptr(),
+            file.len(),
+        )
+    })
+}
+
+/// Questions 1 to 5, 14 to 16 about the file, then 6; the plan that is in the file. The file is lent without a byte
+/// more.
+pub fn read_plan(matrix: &Matrix, file: &[u8], index: &mut [u32]) -> Answer {
+    // Safety: as for `sizes`.
+    Answer::from_code(unsafe {
+        extern_c::ipm_read_plan(
+            matrix.m,
+            matrix.n,
+            matrix.offsets.as_ptr(),
+            matrix.offsets.len(),
+            matrix.columns.as_ptr(),
+            matrix.columns.len(),
+            file.as_ptr(),
+            file.len(),
+            index.as_mut_ptr(),
+            index.len(),
+        )
+    })
+}
+
 /// [`solve_with`] at [`CENTRING`] and [`DAMPING`].
 pub fn solve(matrix: &Matrix, sides: Sides<'_>, lent: Lent<'_>) -> Answer {
     solve_with(matrix, sides, lent, CENTRING, DAMPING)
 }
 
-/// Questions 1 to 10, then 13, then 11 and 12 test by test; x and y.
+/// Questions 1 to 5, 14 to 16 if there is a file, 6 to 10, then 13, then 11 and 12 test by test; x and y.
 pub fn solve_with(matrix: &Matrix, sides: Sides<'_>, lent: Lent<'_>, centring: f64, damping: f64) -> Answer {
+    let file = sides.file.unwrap_or_default();
     // Safety: as for `sizes`.
     Answer::from_code(unsafe {
         extern_c::ipm_solve(
@@ -159,6 +212,9 @@ pub fn solve_with(matrix: &Matrix, sides: Sides<'_>, lent: Lent<'_>, centring: f
             sides.limit,
             centring,
             damping,
+            sides.file.is_some().into(),
+            file.as_ptr(),
+            file.len(),
             lent.output.as_mut_ptr(),
             lent.output.len(),
             lent.prices.as_mut_ptr(),

@@ -17,6 +17,12 @@ pub enum Refusal {
     EmptyRow { row: usize },
     /// 5: the first row whose columns do not rise strictly or reach the number of columns.
     ColumnOrder { row: usize },
+    /// 14: a record of the file is cut short or shorter than its kind, or a list in it is not whole numbers.
+    FileCut,
+    /// 15: the file's records are not the sixteen lists in order, with notes around them.
+    FileKinds,
+    /// 16: a list of the file is not this matrix's.
+    FileLists,
     /// 6: the index memory is too small. A [`Solver`](crate::Solver) lends enough.
     IndexMemory,
     /// 7: there are more inequalities than rows.
@@ -38,7 +44,7 @@ pub enum Refusal {
 }
 
 impl Refusal {
-    /// The question's number, 1 to 13.
+    /// The question's number, 1 to 16.
     pub fn question(&self) -> u32 {
         match *self {
             Refusal::Rows => 1,
@@ -46,6 +52,9 @@ impl Refusal {
             Refusal::Lists => 3,
             Refusal::EmptyRow { .. } => 4,
             Refusal::ColumnOrder { .. } => 5,
+            Refusal::FileCut => 14,
+            Refusal::FileKinds => 15,
+            Refusal::FileLists => 16,
             Refusal::IndexMemory => 6,
             Refusal::SlackRows => 7,
             Refusal::Lengths => 8,
@@ -80,6 +89,9 @@ impl Refusal {
             11 => Refusal::Spoilt { test: place, lane: no.lane.into() },
             12 => Refusal::NotDone { limit: place },
             13 => Refusal::Fractions,
+            14 => Refusal::FileCut,
+            15 => Refusal::FileKinds,
+            16 => Refusal::FileLists,
             question => Refusal::Unknown { question },
         }
     }
@@ -100,6 +112,11 @@ impl fmt::Display for Refusal {
             Refusal::ColumnOrder { row } => {
                 write!(out, "the columns of row {row} do not rise strictly or reach the number of columns")
             }
+            Refusal::FileCut => {
+                write!(out, "a record of the file is cut short, is shorter than its kind, or ends within a number")
+            }
+            Refusal::FileKinds => write!(out, "the file's records are not the sixteen lists in order"),
+            Refusal::FileLists => write!(out, "a list of the file is not this matrix's"),
             Refusal::IndexMemory => write!(out, "the index memory is too small"),
             Refusal::SlackRows => write!(out, "there are more inequalities than rows"),
             Refusal::Lengths => write!(out, "b or c has the wrong length"),

@@ -60,10 +60,11 @@ impl<'a> Solution<'a> {
     }
 }
 
-/// A matrix with the memory that its solves need.
+/// A matrix with the memory that its solves need, and its plan's file if it has one.
 #[derive(Clone, Debug)]
 pub struct Solver {
     matrix: Matrix,
+    file: Option<Vec<u8>>,
     output: Vec<[f64; LANES]>,
     prices: Vec<[f64; LANES]>,
     index: Vec<u32>,
@@ -93,7 +94,13 @@ impl Solver {
         let sizes = library::sizes(&matrix).map_err(Refusal::of)?;
         let (output, prices) = (vec![[0.0; LANES]; matrix.n], vec![[0.0; LANES]; matrix.m]);
         let (index, work) = (vec![0; sizes.words], vec![0.0; sizes.numbers]);
-        Ok(Solver { matrix, output, prices, index, work })
+        Ok(Solver { matrix, file: None, output, prices, index, work })
+    }
+
+    /// Every solve from here on is lent this file of the matrix's plan (see [`Plan`](crate::Plan)) and refuses it at
+    /// questions 14 to 16, or has the answer that it has without one.
+    pub fn with_file(self, file: Vec<u8>) -> Self {
+        Solver { file: Some(file), ..self }
     }
 
     /// Solves the four lanes, with [`CENTRING`] and [`DAMPING`]. Entry k of `b` and `c` holds the four lanes of row or
@@ -124,6 +131,7 @@ impl Solver {
             c: c.as_flattened(),
             tolerances: listed.as_flattened(),
             limit: max_iterations.get(),
+            file: self.file.as_deref(),
         };
         let lent = Lent {
             output: self.output.as_flattened_mut(),
@@ -149,7 +157,7 @@ impl Solver {
 }
 
 /// Sizes as the library takes them. One that does not fit is beyond every limit, and so is the largest that does.
-fn words(sizes: &[usize]) -> Vec<u32> {
+pub(crate) fn words(sizes: &[usize]) -> Vec<u32> {
     sizes.iter().map(|&size| u32::try_from(size).unwrap_or(u32::MAX)).collect()
 }
 
@@ -164,7 +172,7 @@ fn together(lanes: [&[f64]; LANES], length: usize) -> Result<Vec<[f64; LANES]>, 
 /// Questions 1 to 5, with the number of values, which `sizes` does not ask about. A solve that is lent no memory has a
 /// no at 6 once these have a yes.
 fn ask_about_lists(matrix: &Matrix) -> Result<(), Refusal> {
-    let sides = Sides { b: &[], c: &[], tolerances: &[], limit: 1 };
+    let sides = Sides { b: &[], c: &[], tolerances: &[], limit: 1, file: None };
     let lent = Lent { output: &mut [], prices: &mut [], index: &mut [], work: &mut [] };
     let answer = library::solve(matrix, sides, lent);
     if answer.question == INDEX_MEMORY { Ok(()) } else { Err(Refusal::of(answer)) }

@@ -1,5 +1,7 @@
 //! Answers of the library through the safe interface.
 
+#[path = "answers/files.rs"]
+mod files;
 #[path = "answers/fractions.rs"]
 mod fractions;
 #[path = "answers/sizes.rs"]
@@ -110,7 +112,7 @@ fn an_accepted_solve_says_the_length_of_y() {
     for (matrix, length) in [(smallest_matrix(), 4), (three_rows_matrix(), 12)] {
         let (b, c) = (vec![1.0; LANES * matrix.m], vec![1.0; LANES * matrix.n]);
         let mut memory = Memory::new(c.len(), b.len());
-        let sides = Sides { b: &b, c: &c, tolerances: &[1e9; 3 * LANES], limit: 1 };
+        let sides = Sides { b: &b, c: &c, tolerances: &[1e9; 3 * LANES], limit: 1, file: None };
         assert_eq!(memory.solve(&matrix, sides), Answer { length, question: 0, place: 1, lane: 0 });
         assert_eq!(memory.prices, vec![1000.0; b.len()]);
     }
@@ -141,7 +143,7 @@ fn a_refused_solve_leaves_both_outputs() {
         (b, y_len, 3, 12, 3, 0),
     ] {
         let mut memory = Memory::new(x_len, prices);
-        let sides = Sides { b: &b, c: &c, tolerances: &[1e-8; 3 * LANES], limit };
+        let sides = Sides { b: &b, c: &c, tolerances: &[1e-8; 3 * LANES], limit, file: None };
         assert_eq!(memory.solve(&matrix, sides), Answer { length: 0, question, place, lane });
         assert!(memory.outputs_are_as_before(), "question {question}, {prices} prices");
     }
@@ -275,8 +277,10 @@ fn refusals_speak() {
     assert_eq!(Refusal::Spoilt { test: 2, lane: 3 }.to_string(), "lane 3 met a NaN at test 2");
     assert_eq!(Refusal::NotDone { limit: 50 }.to_string(), "not all lanes were done within 50 tests");
     assert_eq!(Refusal::Fractions.to_string(), "centring or damping is not above 0 and below 1");
+    assert_eq!(Refusal::FileLists.to_string(), "a list of the file is not this matrix's");
     assert_eq!(Refusal::EmptyRow { row: 7 }.question(), 4);
     assert_eq!(Refusal::Fractions.question(), 13);
+    assert_eq!([Refusal::FileCut, Refusal::FileKinds, Refusal::FileLists].map(|no| no.question()), [14, 15, 16]);
 }
 
 #[test]

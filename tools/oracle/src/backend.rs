@@ -1,5 +1,6 @@
 //! Those who answer: the reference, the unchanged Rust, and the programs under test.
 
+use crate::file::Filed;
 use crate::plan::Measured;
 use crate::problem::{Answer, LANES, Matrix, Planned, Problem};
 
@@ -50,4 +51,5 @@ pub trait Backend {
     fn solve(&mut self, problem: &Problem) -> Result<Option<Told>, String>;
     fn plan(&mut self, matrix: &Matrix) -> Result<Option<Planned>, String>;
     fn sizes(&mut self, matrix: &Matrix, s: usize) -> Result<Option<Measured>, String>;
+    fn file(&mut self, matrix: &Matrix) -> Result<Option<Filed>, String>;
 }

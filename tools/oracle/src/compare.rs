@@ -149,7 +149,7 @@ impl Comparison {
         }
     }
 
-    /// One matrix: the lists, the pattern by the rule and by chains, and what it needs.
+    /// One matrix: the lists, their file, the pattern by the rule and by chains, and what it needs.
     pub fn plan(&mut self, kind: &str, matrix: &Matrix) {
         let wanted = reference::plan(matrix, usize::MAX);
         self.count(format!("plans, kind: {kind}"));
@@ -158,6 +158,7 @@ impl Comparison {
             self.differ(format!("rule and chains: {matrix:?}"));
         }
         self.ask_each("plans", &wanted, matrix, |backend| backend.plan(matrix));
+        self.ask_each("files written", &reference::file(matrix), matrix, |backend| backend.file(matrix));
         self.sizes(kind, matrix);
     }
 

@@ -112,7 +112,7 @@ fn any_refused(random: &mut Random) -> Fractions {
 }
 
 /// The problem with a no at 1 to 10, each at a time, but for lengths of memory.
-fn wrong_before(problem: &Problem) -> Vec<Problem> {
+pub fn wrong_before(problem: &Problem) -> Vec<Problem> {
     let changed = |change: fn(&mut Problem)| {
         let mut wrong = problem.clone();
         change(&mut wrong);
@@ -134,7 +134,7 @@ fn wrong_before(problem: &Problem) -> Vec<Problem> {
 }
 
 /// One number less of each memory: questions 6, 8 and 9.
-fn short_rooms(room: Room) -> [Room; 4] {
+pub fn short_rooms(room: Room) -> [Room; 4] {
     [
         Room { index: room.index - 1, ..room },
         Room { output: room.output - 1, ..room },

@@ -2,19 +2,26 @@
 //! libipm_c.a. It also looks at every buffer: what a no must leave, and what 11, 12 and acceptance must leave.
 
 use crate::backend::{Backend, Told};
-use crate::extern_c::{ipm_costliest, ipm_plan, ipm_sizes, ipm_solve};
-use crate::plan::{Counts, Measured, Sizes, plan_words, work_numbers};
+use crate::decide::{LENGTH, NUMBER as NUMBER_BYTES};
+use crate::extern_c::{ipm_costliest, ipm_plan, ipm_read_plan, ipm_sizes, ipm_solve, ipm_write_plan};
+use crate::file::{Filed, KIND, Written};
+use crate::plan::{Counts, Measured, NAMES, Sizes, plan_words, work_numbers};
 use crate::problem::{Answer, LANES, Matrix, Planned, Problem, Refusal, all_settled_bits};
 use crate::questions::{Room, ask_plan};
 use crate::reference;
 
 /// What unwritten memory and results hold, and how much is lent past the need.
 const WORD: u32 = 0xdead_beef;
+const BYTE: u8 = 0xa5;
 const NUMBER: f64 = -7.25;
 const RESULT: u64 = 0xdead_beef_dead_beef;
-const SPARE: usize = 3;
+pub const SPARE: usize = 3;
 
-/// The library's answer taken apart. Question 0 is a yes: the place is the test, W for a plan and sizes, or 0.
+/// The bytes of a file's lengths and kinds.
+const HEADS: usize = NAMES.len() * (LENGTH + KIND);
+
+/// The library's answer taken apart. Question 0 is a yes: the place is the test, W for a plan and sizes, the bytes of a
+/// file, or 0.
 struct Code {
     length: usize,
     told: Refusal,
@@ -28,6 +35,15 @@ impl Code {
         Code { length: (code >> 48) as usize, told }
     }
 }
+
+/// The file lent to a solve: a flag, any number but 0 saying that there is one, and bytes.
+#[derive(Clone, Copy, Debug)]
+pub struct Filing<'a> {
+    pub flag: usize,
+    pub bytes: &'a [u8],
+}
+
+const NO_FILE: Filing<'static> = Filing { flag: 0, bytes: &[] };
 
 /// The buffers lent to one solve.
 struct Lent {
@@ -66,6 +82,44 @@ fn call_plan(matrix: &Matrix, index: &mut [u32]) -> Code {
     })
 }
 
+fn call_write_plan(matrix: &Matrix, index: &mut [u32], file: &mut [u8]) -> Code {
+    let (offsets, columns) = (&matrix.offsets, &matrix.columns);
+    // Safety: every pointer comes with the length of its own slice, which outlives the call.
+    Code::new(unsafe {
+        ipm_write_plan(
+            matrix.m,
+            matrix.n,
+            offsets.as_ptr(),
+            offsets.len(),
+            columns.as_ptr(),
+            columns.len(),
+            index.as_mut_ptr(),
+            index.len(),
+            file.as_mut_ptr(),
+            file.len(),
+        )
+    })
+}
+
+fn call_read_plan(matrix: &Matrix, file: &[u8], index: &mut [u32]) -> Code {
+    let (offsets, columns) = (&matrix.offsets, &matrix.columns);
+    // Safety: every pointer comes with the length of its own slice, which outlives the call.
+    Code::new(unsafe {
+        ipm_read_plan(
+            matrix.m,
+            matrix.n,
+            offsets.as_ptr(),
+            offsets.len(),
+            columns.as_ptr(),
+            columns.len(),
+            file.as_ptr(),
+            file.len(),
+            index.as_mut_ptr(),
+            index.len(),
+        )
+    })
+}
+
 fn call_sizes(matrix: &Matrix, s: usize, [e, s_count, d, w, f]: &mut [u64; 5]) -> Code {
     let (offsets, columns) = (&matrix.offsets, &matrix.columns);
     // Safety: every pointer comes with the length of its own slice, which outlives the call.
@@ -87,7 +141,7 @@ fn call_sizes(matrix: &Matrix, s: usize, [e, s_count, d, w, f]: &mut [u64; 5]) -
     })
 }
 
-fn call_solve(problem: &Problem, lent: &mut Lent) -> Code {
+fn call_solve(problem: &Problem, file: Filing<'_>, lent: &mut Lent) -> Code {
     let (matrix, values) = (&problem.matrix, &problem.values);
     let (b, c, tolerances) = (&problem.b, &problem.c, &problem.tolerances);
     // Safety: every pointer comes with the length of its own slice, which outlives the call.
@@ -111,6 +165,9 @@ fn call_solve(problem: &Problem, lent: &mut Lent) -> Code {
             problem.limit,
             problem.fractions.centring,
             problem.fractions.damping,
+            file.flag,
+            file.bytes.as_ptr(),
+            file.bytes.len(),
             lent.output.as_mut_ptr(),
             lent.output.len(),
             lent.prices.as_mut_ptr(),
@@ -133,7 +190,7 @@ fn check_outputs_untouched(lent: &Lent) -> Result<(), String> {
     check(lent.prices.iter().all(|&p| p == NUMBER), "a refusal changed the prices")
 }
 
-/// Index and working memory after a no at 1 to 10 or 13.
+/// Index and working memory after any no but 11 and 12.
 fn check_memory_untouched(lent: &Lent) -> Result<(), String> {
     check(lent.index.iter().all(|&word| word == WORD), "a refusal changed the index memory")?;
     check(lent.work.iter().all(|&p| p == NUMBER), "a refusal changed the working memory")
@@ -152,10 +209,15 @@ fn check_left(problem: &Problem, lent: &Lent) -> Result<(), String> {
     check(spare.iter().all(|&p| p == NUMBER), "working numbers past F were changed")
 }
 
-/// The library's answer with this much lent, and a look at every buffer.
+/// The library's answer with this much lent and no file.
 pub fn solve_in(problem: &Problem, room: Room) -> Result<Answer, String> {
+    solve_filed(problem, NO_FILE, room)
+}
+
+/// The library's answer with this file and this much lent, and a look at every buffer.
+pub fn solve_filed(problem: &Problem, file: Filing<'_>, room: Room) -> Result<Answer, String> {
     let mut lent = Lent::new(room);
-    let Code { length, told } = call_solve(problem, &mut lent);
+    let Code { length, told } = call_solve(problem, file, &mut lent);
     match told.question {
         0 | 11 | 12 => check_left(problem, &lent)?,
         _ => check_memory_untouched(&lent)?,
@@ -180,9 +242,10 @@ pub fn enough(problem: &Problem) -> Room {
     Room { index: index + SPARE, work: work + SPARE, ..Room::ample(problem) }
 }
 
-pub fn plan_in(matrix: &Matrix, index: usize) -> Result<Planned, String> {
+/// What a call leaves in so much index memory: the plan, and nothing else, or nothing at all.
+fn planned_in(index: usize, call: impl FnOnce(&mut [u32]) -> Code) -> Result<Planned, String> {
     let mut words = vec![WORD; index];
-    let Code { length, told } = call_plan(matrix, &mut words);
+    let Code { length, told } = call(&mut words);
     check(length == 0, "a plan has a length")?;
     if told.question != 0 {
         check(words.iter().all(|&word| word == WORD), "a refusal changed the index memory")?;
@@ -192,6 +255,53 @@ pub fn plan_in(matrix: &Matrix, index: usize) -> Result<Planned, String> {
     check(words[told.place..].iter().all(|&word| word == WORD), "index words past W were changed")?;
     words.truncate(told.place);
     Ok(Ok(words))
+}
+
+pub fn plan_in(matrix: &Matrix, index: usize) -> Result<Planned, String> {
+    planned_in(index, |words| call_plan(matrix, words))
+}
+
+/// What reading a file leaves in so much index memory.
+pub fn read_in(matrix: &Matrix, file: &[u8], index: usize) -> Result<Planned, String> {
+    planned_in(index, |words| call_read_plan(matrix, file, words))
+}
+
+/// What writing leaves in so much index memory and a file of so many bytes.
+pub fn write_in(matrix: &Matrix, index: usize, bytes: usize) -> Result<Filed, String> {
+    let (mut words, mut file) = (vec![WORD; index], vec![BYTE; bytes]);
+    let Code { length, told } = call_write_plan(matrix, &mut words, &mut file);
+    check(length == 0, "a file has a length")?;
+    if told.question != 0 {
+        check(words.iter().all(|&word| word == WORD), "a refusal changed the index memory")?;
+        check(file.iter().all(|&byte| byte == BYTE), "a refusal changed the file")?;
+        return Ok(Err(told));
+    }
+    check(told.place <= bytes && told.place >= HEADS && told.lane == 0, "a yes with another place or lane")?;
+    let used = (told.place - HEADS) / NUMBER_BYTES;
+    check(used <= index, "a plan longer than its memory")?;
+    check(words[used..].iter().all(|&word| word == WORD), "index words past W were changed")?;
+    check(file[told.place..].iter().all(|&byte| byte == BYTE), "bytes past the file were changed")?;
+    words.truncate(used);
+    file.truncate(told.place);
+    Ok(Ok(Written { words, bytes: file }))
+}
+
+/// The same file in just enough memory; a no at 6 with one word less, whatever the file's length; a no at 8 with one
+/// byte less; and the plan again when it is read.
+fn check_written(matrix: &Matrix, written: &Written) -> Result<(), String> {
+    let (words, bytes) = (written.words.len(), written.bytes.len());
+    let no = |question| Refusal::at(question, 0);
+    check(write_in(matrix, words, bytes)?.as_ref() == Ok(written), "just enough memory gives another file")?;
+    for bytes in [0, bytes - 1, bytes, bytes + SPARE] {
+        check(write_in(matrix, words - 1, bytes)? == Err(no(6)), "a file is written with an index word too few")?;
+    }
+    for (words, bytes) in [(words, bytes - 1), (words + SPARE, bytes - 1), (words, 0)] {
+        check(write_in(matrix, words, bytes)? == Err(no(8)), "a file is written with a byte too few")?;
+    }
+    for index in [words, words + SPARE] {
+        check(read_in(matrix, &written.bytes, index)?.as_ref() == Ok(&written.words), "a file is read as another")?;
+    }
+    check(read_in(matrix, &written.bytes, words - 1)? == Err(no(6)), "a file is read with an index word too few")
 }
 
 /// The most E and D that so many rows have.
@@ -256,5 +366,14 @@ impl Backend for Library {
 
     fn sizes(&mut self, matrix: &Matrix, s: usize) -> Result<Option<Measured>, String> {
         measure(matrix, s).map(Some)
+    }
+
+    fn file(&mut self, matrix: &Matrix) -> Result<Option<Filed>, String> {
+        let index = ask_plan(matrix, usize::MAX).map_or(0, |counts| plan_words(matrix, counts));
+        let filed = write_in(matrix, index + SPARE, NUMBER_BYTES * index + HEADS + SPARE)?;
+        if let Ok(written) = &filed {
+            check_written(matrix, written)?;
+        }
+        Ok(Some(filed))
     }
 }

@@ -4,8 +4,13 @@ mod backend;
 mod cases;
 mod compare;
 #[cfg(ipm_c)]
+mod decide;
+#[cfg(ipm_c)]
 #[path = "../../../bindings/rust/src/extern_c.rs"]
 mod extern_c;
+mod file;
+#[cfg(ipm_c)]
+mod files;
 #[cfg(ipm_c)]
 mod fractions;
 mod generate;
@@ -146,6 +151,7 @@ fn compare(seed: u64, scale: usize) -> Result<(), String> {
         fractions::compare(&mut comparison, &mut random::Random::new(seed), scale);
         roots::compare(&mut comparison, &mut random::Random::new(seed), scale);
         sizes::compare(&mut comparison, &mut random::Random::new(seed), 10 * scale);
+        files::compare(&mut comparison, &mut random::Random::new(seed), scale);
     }
     if comparison.report() { Ok(()) } else { Err("there are differences".into()) }
 }

@@ -4,6 +4,7 @@ use std::io::Write;
 use std::process::{Command, Stdio};
 
 use crate::backend::{Backend, Told};
+use crate::file::Filed;
 use crate::plan::Measured;
 use crate::problem::{Answer, Fractions, LANES, Matrix, Planned, Problem, Refusal};
 use crate::record::{READING, read, write};
@@ -71,6 +72,10 @@ impl Backend for ReadingProgram {
     }
 
     fn sizes(&mut self, _: &Matrix, _: usize) -> Result<Option<Measured>, String> {
+        Ok(None)
+    }
+
+    fn file(&mut self, _: &Matrix) -> Result<Option<Filed>, String> {
         Ok(None)
     }
 }

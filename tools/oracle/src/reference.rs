@@ -1,10 +1,11 @@
 //! The answers of document 01, by the machine and the lists written from it.
 
 use crate::backend::{Backend, Test, Told, Trace};
+use crate::file::{Filed, written};
 use crate::machine::{Machine, Shape, Verdict};
 use crate::plan::{Counts, Measured, Sizes, lists, plan_words, work_numbers};
 use crate::problem::{Answer, LANES, Matrix, Planned, Problem, Refusal, settled_bits};
-use crate::questions::{Room, ask_plan, ask_slack_rows, ask_solve};
+use crate::questions::{Room, ask_matrix, ask_plan, ask_slack_rows, ask_solve};
 
 /// A run of the four machines: its answer, how it came about, and the lanes that were spoilt by their wait.
 pub struct Run {
@@ -83,6 +84,12 @@ pub fn sizes(matrix: &Matrix, s: usize, counts: Counts) -> Measured {
     Ok(Sizes { counts, words: plan_words(matrix, counts), numbers: work_numbers(matrix, s, counts) })
 }
 
+/// The plan's words and its file.
+pub fn file(matrix: &Matrix) -> Filed {
+    ask_matrix(matrix, None)?;
+    Ok(written(&lists(matrix)))
+}
+
 pub struct Reference;
 
 impl Backend for Reference {
@@ -101,5 +108,9 @@ impl Backend for Reference {
 
     fn sizes(&mut self, matrix: &Matrix, s: usize) -> Result<Option<Measured>, String> {
         Ok(Some(ask_plan(matrix, usize::MAX).and_then(|counts| sizes(matrix, s, counts))))
+    }
+
+    fn file(&mut self, matrix: &Matrix) -> Result<Option<Filed>, String> {
+        Ok(Some(file(matrix)))
     }
 }

@@ -8,6 +8,7 @@ use ipm_simd::{PathFollowingDirectSimdSolver, inside};
 use wide::watch;
 
 use crate::backend::{Backend, Numbers, Test, Told, Trace};
+use crate::file::{Filed, written};
 use crate::plan::{Measured, Sizes, listed_counts, work_numbers};
 use crate::problem::{Answer, Fractions, Matrix, Planned, Problem, Refusal, all_settled_bits, settled_bits};
 use crate::questions::{Room, ask_matrix, ask_solve};
@@ -109,5 +110,13 @@ impl Backend for Unchanged {
         let counts = listed_counts(&lists);
         let words = lists.iter().map(Vec::len).sum();
         Ok(Some(Ok(Sizes { counts, words, numbers: work_numbers(matrix, s, counts) })))
+    }
+
+    /// Its lists as records. It writes no file itself.
+    fn file(&mut self, matrix: &Matrix) -> Result<Option<Filed>, String> {
+        if ask_matrix(matrix, None).is_err() {
+            return Ok(None);
+        }
+        Ok(Some(Ok(written(&lists(matrix)))))
     }
 }

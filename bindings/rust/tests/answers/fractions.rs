@@ -34,7 +34,7 @@ fn ask(b: &[f64], limit: usize, centring: f64, damping: f64) -> (Answer, bool) {
     let (_, c) = entries();
     let mut memory = Memory::new(LANES * matrix.n, LANES * matrix.m);
     let before = memory.clone();
-    let sides = Sides { b, c: c.as_flattened(), tolerances: &[1e9; 3 * LANES], limit };
+    let sides = Sides { b, c: c.as_flattened(), tolerances: &[1e9; 3 * LANES], limit, file: None };
     let answer = library::solve_with(&matrix, sides, memory.lent(), centring, damping);
     (answer, memory == before)
 }
@@ -65,7 +65,8 @@ fn a_solve_that_is_given_neither_has_the_constants() {
     assert!(plain.is_ok());
     assert_eq!(plain, solved_with(CENTRING, DAMPING));
 
-    let sides = Sides { b: b.as_flattened(), c: c.as_flattened(), tolerances: &[1e-8; 3 * LANES], limit: 100 };
+    let sides =
+        Sides { b: b.as_flattened(), c: c.as_flattened(), tolerances: &[1e-8; 3 * LANES], limit: 100, file: None };
     let matrix = three_rows_matrix();
     let mut memory = Memory::new(LANES * matrix.n, LANES * matrix.m);
     let mut other = memory.clone();

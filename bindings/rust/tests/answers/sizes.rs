@@ -21,7 +21,7 @@ const FULL: u32 = 64;
 const FAR: [usize; 4] = [(1 << 16) + 1, (1 << 32) + 1, (1 << 63) + 1, usize::MAX];
 
 /// Rows of these columns, all of them inequalities. `sizes` asks for no values.
-fn of_rows(n: usize, rows: &[&[u32]]) -> Matrix {
+pub fn of_rows(n: usize, rows: &[&[u32]]) -> Matrix {
     let mut offsets = vec![0];
     offsets.extend(rows.iter().scan(0, |end, row| {
         *end += row.len() as u32;
@@ -36,7 +36,7 @@ fn sized([stored, shared, products, words, numbers]: [usize; 5]) -> Sizes {
 }
 
 /// Four matrices and their sizes.
-fn known() -> [(Matrix, Sizes); 4] {
+pub fn known() -> [(Matrix, Sizes); 4] {
     [
         (of_rows(1, &[&[0]]), sized([1, 1, 0, 19, 44])),
         (of_rows(2, &[&[0, 1], &[0], &[1]]), sized([6, 6, 4, 80, 124])),
@@ -100,7 +100,7 @@ fn call_sizes(matrix: &Matrix) -> (u64, [u64; 5]) {
     (answer, results)
 }
 
-fn refused_at(question: u32, place: u32) -> Answer {
+pub fn refused_at(question: u32, place: u32) -> Answer {
     Answer { length: 0, question, place, lane: 0 }
 }
 
@@ -146,7 +146,7 @@ fn just_w_words_and_f_numbers_are_enough() {
         assert_eq!(plan(words - 1), refused_at(6, 0));
 
         let (b, c) = (vec![1.0; LANES * matrix.m], vec![1.0; LANES * matrix.n]);
-        let sides = Sides { b: &b, c: &c, tolerances: &[1e9; 3 * LANES], limit: 1 };
+        let sides = Sides { b: &b, c: &c, tolerances: &[1e9; 3 * LANES], limit: 1, file: None };
         let solve = |words, numbers| {
             let mut memory = Memory::new(c.len(), b.len());
             memory.index.resize(words, 0);
