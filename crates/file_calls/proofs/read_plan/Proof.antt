@@ -1,47 +1,37 @@
+-- `file_calls::read_plan` meets its contract. Assumes nothing.
+use mathlib.Core.Path.{_≡_, refl, sym, ap, _∙_}
 use borrow.Author.Needs.{needs}
+use lib.ListN.{length}
+use Rattle.csr.specs.Verdict.{Verdict, toldAsked}
+use Rattle.csr.proofs.Yes.{accepted-of}
+use Rattle.file_calls.specs.Calls.{wordsAfter}
+use Rattle.file_calls.proofs.Carried.{read-on, read-not, first-passed}
 use Rattle.file_calls.proofs.read_plan.Statement.{statement}
 use Rattle.file_calls.proofs.read_plan.Tie as tie
-use Rattle.file_calls.proofs.read_plan.Reads as reads
-use Rattle.file_calls.proofs.read_plan.Lts as lts
-use Rattle.file_questions.proofs.ask.Reads as ask-reads
-use Rattle.ipm_common.proofs.plan_accepted.Reads as plan-accepted-reads
 
--- src/lib.rt:80:11
-ask-requires : tie.Need-ask-requires
-ask-requires c κs = search needs
-
--- src/lib.rt:82:74
-enum-told : tie.Need-enum-told
-enum-told c = search needs
-
--- src/lib.rt:82:24
 plan-accepted-requires : tie.Need-plan-accepted-requires
-plan-accepted-requires c κs = ?
+plan-accepted-requires c κs = accepted-of (c .before .before .before .before .before .before .before .before .args .m) (c .before .before .before .before .before .before .before .before .args .n) (c .before .before .before .before .before .before .before .before .args .offsets .now) (c .before .before .before .before .before .before .before .before .args .columns .now) (length (c .before .before .before .before .before .before .before .before .args .columns .now)) (first-passed (c .before .before .before .before .before .before .before .before .args .m) (c .before .before .before .before .before .before .before .before .args .n) (c .before .before .before .before .before .before .before .before .args .offsets .now) (c .before .before .before .before .before .before .before .before .args .columns .now) _ _ (sym (c .before .before .before .ask .ensures) ∙ ap toldAsked (c .before .enum-told .given .1)))
 
--- src/lib.rt:83:24
-enum-known-r : tie.Need-enum-known-r
-enum-known-r c = search needs
-
--- src/lib.rt:69:1
-same-length : tie.Need-same-length
-same-length c = search needs
-
--- src/lib.rt:69:1
 returns : tie.Need-returns
-returns c = ?
+returns c =
+    let e = sym (c .before .before .before .before .before .before .ask .ensures) ∙ ap toldAsked (c .before .before .before .before .enum-told .given .1) in
+    let w = c .before .before .plan-accepted .ensures in
+    let v = read-on (c .before .before .before .before .before .before .before .before .before .before .before .args .m) (c .before .before .before .before .before .before .before .before .before .before .before .args .n) (c .before .before .before .before .before .before .before .before .before .before .before .args .offsets .now) (c .before .before .before .before .before .before .before .before .before .before .before .args .columns .now) (c .before .before .before .before .before .before .before .before .before .before .before .args .file .now) (length (c .before .before .before .before .before .before .before .before .before .before .before .args .index .now)) _ e (w .says) in
+    (v, w .words ∙ ap (λ (x : Verdict). wordsAfter (c .before .before .before .before .before .before .before .before .before .before .before .args .m) (c .before .before .before .before .before .before .before .before .before .before .before .args .n) (c .before .before .before .before .before .before .before .before .before .before .before .args .offsets .now) (c .before .before .before .before .before .before .before .before .before .before .before .args .columns .now) x (c .before .before .before .before .before .before .before .before .before .before .before .args .index .now)) v)
 
--- src/lib.rt:69:1
 returns-2 : tie.Need-returns-2
-returns-2 c = ?
+returns-2 c =
+    let v = read-not (c .before .before .before .before .before .before .before .before .args .m) (c .before .before .before .before .before .before .before .before .args .n) (c .before .before .before .before .before .before .before .before .args .offsets .now) (c .before .before .before .before .before .before .before .before .args .columns .now) (c .before .before .before .before .before .before .before .before .args .file .now) (length (c .before .before .before .before .before .before .before .before .args .index .now)) _ _ _ (sym (ap toldAsked (c .before .r .given .1)) ∙ c .before .before .before .ask .ensures) in
+    (v, ap (λ (x : Verdict). wordsAfter (c .before .before .before .before .before .before .before .before .args .m) (c .before .before .before .before .before .before .before .before .args .n) (c .before .before .before .before .before .before .before .before .args .offsets .now) (c .before .before .before .before .before .before .before .before .args .columns .now) x (c .before .before .before .before .before .before .before .before .args .index .now)) v)
 
 pub read-plan-spec : {M : Type 1} → statement M
 read-plan-spec =
     tie.close
     (tie.spec
-    ask-requires
-    enum-told
+    (λ c κs. search needs)
+    (λ c. search needs)
     plan-accepted-requires
-    enum-known-r
-    same-length
+    (λ c. search needs)
+    (λ c. search needs)
     returns
     returns-2)

@@ -1,52 +1,38 @@
+-- `file_calls::write_plan` meets its contract. Assumes nothing.
+use mathlib.Core.Path.{_≡_, refl, sym, ap, _∙_}
 use borrow.Author.Needs.{needs}
+use lib.ListN.{length}
+use Rattle.csr.specs.Verdict.{Verdict, toldAsked}
+use Rattle.csr.proofs.Yes.{accepted-of}
+use Rattle.file_calls.specs.Calls.{wordsAfter, bytesAfter}
+use Rattle.file_calls.proofs.Carried.{write-on, write-not}
 use Rattle.file_calls.proofs.write_plan.Statement.{statement}
 use Rattle.file_calls.proofs.write_plan.Tie as tie
-use Rattle.file_calls.proofs.write_plan.Reads as reads
-use Rattle.file_calls.proofs.write_plan.Lts as lts
-use Rattle.csr.proofs.ask.Reads as ask-reads
-use Rattle.file_calls.proofs.write_accepted.Reads as write-accepted-reads
 
--- src/lib.rt:62:11
-ask-requires : tie.Need-ask-requires
-ask-requires c κs = search needs
-
--- src/lib.rt:63:63
-enum-told : tie.Need-enum-told
-enum-told c = search needs
-
--- src/lib.rt:63:24
 write-accepted-requires : tie.Need-write-accepted-requires
-write-accepted-requires c κs = ?
+write-accepted-requires c κs = accepted-of (c .before .before .before .before .before .before .before .before .before .args .m) (c .before .before .before .before .before .before .before .before .before .args .n) (c .before .before .before .before .before .before .before .before .before .args .offsets .now) (c .before .before .before .before .before .before .before .before .before .args .columns .now) (length (c .before .before .before .before .before .before .before .before .before .args .columns .now)) (sym (c .before .before .before .before .ask .ensures) ∙ ap toldAsked (c .before .before .enum-told .given .1))
 
--- src/lib.rt:64:24
-enum-known-r : tie.Need-enum-known-r
-enum-known-r c = search needs
-
--- src/lib.rt:50:1
-same-length : tie.Need-same-length
-same-length c = search needs
-
--- src/lib.rt:50:1
-same-length-2 : tie.Need-same-length-2
-same-length-2 c = search needs
-
--- src/lib.rt:50:1
 returns : tie.Need-returns
-returns c = ?
+returns c =
+    let e = sym (c .before .before .before .before .before .before .before .before .before .ask .ensures) ∙ ap toldAsked (c .before .before .before .before .before .before .before .enum-told .given .1) in
+    let w = c .before .before .before .before .write-accepted .ensures in
+    let v = write-on (c .before .before .before .before .before .before .before .before .before .before .before .before .before .before .args .m) (c .before .before .before .before .before .before .before .before .before .before .before .before .before .before .args .n) (c .before .before .before .before .before .before .before .before .before .before .before .before .before .before .args .offsets .now) (c .before .before .before .before .before .before .before .before .before .before .before .before .before .before .args .columns .now) (c .before .before .before .before .before .before .before .before .before .before .before .before .before .before .args .index .now) (c .before .before .before .before .before .before .before .before .before .before .before .before .before .before .args .file .now) _ e (w .0) in
+    (v, (w .1 .0 ∙ ap (λ (x : Verdict). wordsAfter (c .before .before .before .before .before .before .before .before .before .before .before .before .before .before .args .m) (c .before .before .before .before .before .before .before .before .before .before .before .before .before .before .args .n) (c .before .before .before .before .before .before .before .before .before .before .before .before .before .before .args .offsets .now) (c .before .before .before .before .before .before .before .before .before .before .before .before .before .before .args .columns .now) x (c .before .before .before .before .before .before .before .before .before .before .before .before .before .before .args .index .now)) v, w .1 .1 ∙ ap (λ (x : Verdict). bytesAfter (c .before .before .before .before .before .before .before .before .before .before .before .before .before .before .args .m) (c .before .before .before .before .before .before .before .before .before .before .before .before .before .before .args .n) (c .before .before .before .before .before .before .before .before .before .before .before .before .before .before .args .offsets .now) (c .before .before .before .before .before .before .before .before .before .before .before .before .before .before .args .columns .now) x (c .before .before .before .before .before .before .before .before .before .before .before .before .before .before .args .file .now)) v))
 
--- src/lib.rt:50:1
 returns-2 : tie.Need-returns-2
-returns-2 c = ?
+returns-2 c =
+    let v = write-not (c .before .before .before .before .before .before .before .before .args .m) (c .before .before .before .before .before .before .before .before .args .n) (c .before .before .before .before .before .before .before .before .args .offsets .now) (c .before .before .before .before .before .before .before .before .args .columns .now) (length (c .before .before .before .before .before .before .before .before .args .index .now)) (length (c .before .before .before .before .before .before .before .before .args .file .now)) _ _ _ (sym (ap toldAsked (c .before .r .given .1)) ∙ c .before .before .before .ask .ensures) in
+    (v, (ap (λ (x : Verdict). wordsAfter (c .before .before .before .before .before .before .before .before .args .m) (c .before .before .before .before .before .before .before .before .args .n) (c .before .before .before .before .before .before .before .before .args .offsets .now) (c .before .before .before .before .before .before .before .before .args .columns .now) x (c .before .before .before .before .before .before .before .before .args .index .now)) v, ap (λ (x : Verdict). bytesAfter (c .before .before .before .before .before .before .before .before .args .m) (c .before .before .before .before .before .before .before .before .args .n) (c .before .before .before .before .before .before .before .before .args .offsets .now) (c .before .before .before .before .before .before .before .before .args .columns .now) x (c .before .before .before .before .before .before .before .before .args .file .now)) v))
 
 pub write-plan-spec : {M : Type 1} → statement M
 write-plan-spec =
     tie.close
     (tie.spec
-    ask-requires
-    enum-told
+    (λ c κs. search needs)
+    (λ c. search needs)
     write-accepted-requires
-    enum-known-r
-    same-length
-    same-length-2
+    (λ c. search needs)
+    (λ c. search needs)
+    (λ c. search needs)
     returns
     returns-2)
