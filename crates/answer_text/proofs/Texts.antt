@@ -12,7 +12,7 @@ use lib.ListN.{length, getD, set, take, length-append}
 use lib.Seq.{take-suc}
 use Rattle.io.specs.Digits.{glyph, digits, Fewest}
 use Rattle.base.specs.Cat.{Wrote}
-use Rattle.base.proofs.Write.{wrote-join, then-written, same-text}
+use Rattle.base.proofs.Write.{wrote-join, wrote-as, then-written, same-text}
 use Rattle.answer_text.specs.Text.{decimalTo, hexText}
 
 pub length-digits : (b k n : ℕ) → length (digits b k n) ≡ k

@@ -29,6 +29,7 @@ use Rattle.plan_file.specs.Promises.{planFile}
 use Rattle.plan_file.proofs.Bounds.{sixteen-long}
 use Rattle.plan_file.proofs.Plans.{joined-plan, sizes-are, file-bytes, files}
 use Rattle.file_write.specs.Writable.{Writable}
+use Rattle.file_questions.proofs.Three.{then-passed}
 use Rattle.file_calls.specs.Calls.{fileBytes, roomsVerdict, writeVerdict, wordsAfter, bytesAfter, readVerdict, Carried}
 
 module _ (m n : ℕ) (off cols : List ℕ) where
@@ -97,18 +98,7 @@ module _ (m n : ℕ) (off cols : List ℕ) where
   unfolding readVerdict
   read-not file words q p l e = ap (λ (x : Verdict). andThen x (roomVerdict m n off cols words)) e
 
-  -- a pass of both parts is a pass of the first
-  pub first-passed : (v w : Verdict) → andThen v w ≡ passed → v ≡ passed
-  first-passed passed w e = refl
-  first-passed (told a) w e = e
-  first-passed (refused q p l) w e = e
-
   -- ---- what the two promise together
-
-  then-passed : (v : Verdict) → andThen v passed ≡ v
-  then-passed passed = refl
-  then-passed (told a) = refl
-  then-passed (refused q p l) = refl
 
   as-plan : (file : List ℕ) (words : ℕ) → fileVerdict wide (matrixLists off cols m n) file ≡ passed → readVerdict m n off cols file words ≡ planVerdict m n off cols words
   unfolding readVerdict planVerdict

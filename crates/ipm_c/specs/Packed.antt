@@ -1,6 +1,8 @@
 -- An answer as one number, for callers in other languages. Definitions only.
 use mathlib.Core.Path.{_≡_}
+use mathlib.Core.Bool.{Bool}
 use Prim.Native.Nat.{ℕ, _+_, _*_, _^_}
+use lib.Dec.{ltb}
 use Rattle.csr.specs.Verdict.{Verdict, Told, passed, told, planned, accepted, sized, costs, written, refused}
 use Rattle.machine.specs.declared.Outcome.{Outcome}
 use Rattle.machine.specs.Demand3.{Buffers, Demand3}
@@ -23,7 +25,11 @@ packed passed = inOne 0 0 0 0
 packed (told a) = packedTold a
 packed (refused q p l) = inOne 0 q p l
 
--- a solve with its answer in one number: the answer, the lent lists, and demand 3 whole once questions 1 to 10 and 13 got a yes
+-- a flag: 0 is no, anything else yes
+abbrev pub isFiled : ℕ → Bool
+isFiled flag = ltb 0 flag
+
+-- a solve with its answer in one number: the answer, the lent lists, and demand 3 whole once questions 1 to 10, 13 and, of a file that is lent, 14 to 16 got a yes
 pub record SolvedInOne (a : Given) (B B′ : Buffers) (r : ℕ) : Type 0 where
   pub answer : r ≡ packed (solveVerdict a B)
   pub buffers : B′ ≡ solveBuffers a B

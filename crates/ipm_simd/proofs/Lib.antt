@@ -1,2 +1,3 @@
 pub mod Questions
 pub mod Solves
+pub mod Filed

@@ -1,5 +1,6 @@
 -- From the parts of a solve to its contract. Assumes nothing.
 use mathlib.Core.Path.{_≡_, refl, sym, ap, ap₂, _∙_}
+use mathlib.Core.Bool.{Bool}
 use mathlib.Core.List.{List, _++_}
 use Prim.Native.Nat.{ℕ, suc, _+_, _-_, _*_, _≤_, _<_}
 use native.Mathlib.Omega.{arith}
@@ -27,6 +28,9 @@ use Rattle.machine.specs.Demand3.{Buffers, Memory, outputAfter, leaves}
 use Rattle.machine.specs.Work.{Ran}
 use Rattle.machine.proofs.Demand3.{solved-ends, demand3}
 use Rattle.machine.proofs.Turns.{ran-field}
+use Rattle.plan_file.specs.Matrix.{matrixLists}
+use Rattle.plan_file.specs.Tables.{wide}
+use Rattle.plan_file.specs.Verdicts.{fileVerdict}
 use Rattle.plan_laws.proofs.Low.{row-cut}
 use Rattle.plan_laws.proofs.Picked.{picked-has}
 use Rattle.layout.specs.declared.Block.{Block}
@@ -42,7 +46,7 @@ use Rattle.outputs.specs.Outputs.{outputOf}
 use Rattle.step.specs.Steps.{Untouched}
 use Rattle.ipm_simd.specs.declared.SolveAnswer.{SolveAnswer}
 use Rattle.ipm_simd.specs.declared.SolveAnswer.the-variants as answers
-use Rattle.ipm_simd.specs.Solve.{Given, lent, controlsOf, call, words, room, priceCount, lengthsOf, plannedHas, toldSolve, outcomeVerdict, lengthsVerdict, memoryVerdict, begun, solveVerdict, ifPassed, solveBuffers, Solved}
+use Rattle.ipm_simd.specs.Solve.{Given, lent, controlsOf, call, words, room, priceCount, lengthsOf, plannedHas, toldSolve, outcomeVerdict, lengthsVerdict, memoryVerdict, withFile, ifFiled, matrixVerdict, begun, solveVerdict, ifPassed, solveBuffers, Solved}
 use Rattle.ipm_simd.specs.Parts.{Asked10, Finished, Continued}
 use Rattle.ipm_simd.proofs.Questions.{lengths-passed, not-passed}
 
@@ -225,11 +229,7 @@ module _ (a : Given) (B : Buffers) where
     demand3 = λ p. absurd (not-passed (r .question) (r .place) (r .lane) (v ∙ p));
   }
 
-  -- ---- questions 1 to 5
-  abbrev early : Verdict
-  early = firstNo (a .m) (a .n) (a .offsets) (a .columns) (length (a .values))
-
-  begun-is : (v : Verdict) → early ≡ v → begun a B ≡ andThen v (memoryVerdict a B)
+  begun-is : (v : Verdict) → matrixVerdict a ≡ v → begun a B ≡ andThen v (memoryVerdict a B)
   unfolding begun
   begun-is v e = ap (λ (x : Verdict). andThen x (memoryVerdict a B)) e
 
@@ -241,7 +241,7 @@ module _ (a : Given) (B : Buffers) where
   unfolding solveBuffers
   buffers-are v e = ap (λ (x : Verdict). ifPassed a x (leaves (call a) (words a) (room a) (a .limit) B) B) e
 
-  pub solved-on : {B′ : Buffers} {r : SolveAnswer} → passed ≡ early → Continued a B B′ r → Solved a B B′ r
+  pub solved-on : {B′ : Buffers} {r : SolveAnswer} → passed ≡ matrixVerdict a → Continued a B B′ r → Solved a B B′ r
   solved-on {B′} {r} v K =
       let z : begun a B ≡ memoryVerdict a B = begun-is passed (sym v) in
       record {
@@ -252,7 +252,7 @@ module _ (a : Given) (B : Buffers) where
             (solved (call a) (a .limit), K .answer ∙ ap (λ (x : Verdict). andThen x (outcomeVerdict (priceCount a) (solved (call a) (a .limit)))) q, K .demand3 q);
       }
 
-  pub solved-not : (r : Refusal) → refusal r ≡ early → Solved a B B (answers.Refused r)
+  pub solved-not : (r : Refusal) → refusal r ≡ matrixVerdict a → Solved a B B (answers.Refused r)
   solved-not r v =
       let z : begun a B ≡ refusal r = begun-is (refusal r) (sym v) in
       record {
@@ -260,3 +260,16 @@ module _ (a : Given) (B : Buffers) where
         buffers = sym (buffers-are (refusal r) z);
         demand3 = λ p. absurd (not-passed (r .question) (r .place) (r .lane) (sym z ∙ p));
       }
+
+-- ---- a file that is lent or not
+
+-- what follows questions 1 to 5 and 14 to 16 does not look at it
+pub with-file : (filed : Bool) (file : List ℕ) (a : Given) {B B′ : Buffers} {r : SolveAnswer} → Continued a B B′ r → Continued (withFile filed file a) B B′ r
+unfolding memoryVerdict
+with-file filed file a K = record { answer = K .answer; buffers = K .buffers; demand3 = K .demand3 }
+
+pub matrix-is : (a : Given) {v : Verdict}
+    → v ≡ andThen (firstNo (a .m) (a .n) (a .offsets) (a .columns) (length (a .values))) (ifFiled (a .filed) (fileVerdict wide (matrixLists (a .offsets) (a .columns) (a .m) (a .n)) (a .file)))
+    → v ≡ matrixVerdict a
+unfolding matrixVerdict
+matrix-is a e = e

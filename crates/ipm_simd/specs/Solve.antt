@@ -1,8 +1,8 @@
 -- The public call `solve`: its questions, its answer, what it leaves in the lent lists, and demand 3. Definitions only.
 use mathlib.Core.Path.{_≡_}
-use mathlib.Core.Bool.{Bool, _&&_}
-use mathlib.Core.List.{List}
-use Prim.Native.Nat.{ℕ, _*_}
+use mathlib.Core.Bool.{Bool, true, false, _&&_}
+use mathlib.Core.List.{List, []}
+use Prim.Native.Nat.{ℕ, _*_, _≤_}
 use lib.Dec.{eqb, leb}
 use lib.ListN.{length}
 use lib.Ieee.{Float}
@@ -15,6 +15,9 @@ use Rattle.csr.specs.Counts.{countE, sizeW, sizeF}
 use Rattle.csr.specs.Pattern.{has, row}
 use Rattle.lists.specs.Lists.{shape, listOf, planWords}
 use Rattle.lists.specs.declared.Which.the-variants.{Lindptr, Lindices}
+use Rattle.plan_file.specs.Matrix.{matrixLists}
+use Rattle.plan_file.specs.Tables.{wide}
+use Rattle.plan_file.specs.Verdicts.{fileVerdict}
 use Rattle.machine.specs.Machine.{asGiven}
 use Rattle.machine.specs.declared.Outcome.{Outcome}
 use Rattle.machine.specs.declared.Outcome.the-variants.{Accepted as accepted, NoAt11 as noAt11, NoAt12 as noAt12}
@@ -39,7 +42,11 @@ pub record Given : Type 0 where
   pub limit : ℕ
   pub centring : Float
   pub damping : Float
+  -- whether a plan's file is lent, and its bytes
+  pub filed : Bool
+  pub file : List ℕ
 
+-- with no file
 abbrev pub given : ℕ → ℕ → ℕ → List ℕ → List ℕ → List Float → List Float → List Float → List Float → Controls → Given
 given m n s offsets columns values b c tolerances k =
     record {
@@ -55,7 +62,32 @@ given m n s offsets columns values b c tolerances k =
       limit = k .limit;
       centring = k .centring;
       damping = k .damping;
+      filed = false;
+      file = [];
     }
+
+-- the same, where a file is lent or not
+abbrev pub withFile : Bool → List ℕ → Given → Given
+withFile filed file a =
+    record {
+      m = a .m;
+      n = a .n;
+      s = a .s;
+      offsets = a .offsets;
+      columns = a .columns;
+      values = a .values;
+      b = a .b;
+      c = a .c;
+      tolerances = a .tolerances;
+      limit = a .limit;
+      centring = a .centring;
+      damping = a .damping;
+      filed = filed;
+      file = file;
+    }
+
+abbrev pub unfiled : Given → Given
+unfiled a = withFile false [] a
 
 abbrev pub lent : List Float → List Float → List ℕ → List Float → Buffers
 lent output prices index work = record { output = output; prices = prices; index = index; work = work }
@@ -91,6 +123,11 @@ lengthsVerdict W E m n s L k =
     (refused 8 0 0))
     (refused 7 0 0))
     (refused 6 0 0)
+
+-- 'A solve may take such a file': 14 to 16 are asked where one is lent
+abbrev pub ifFiled : Bool → Verdict → Verdict
+ifFiled true asked = asked
+ifFiled false asked = passed
 
 module _ (a : Given) where
   -- what the caller set
@@ -143,17 +180,24 @@ module _ (a : Given) where
   memoryVerdict B =
       lengthsVerdict (sizeW (a .offsets) (a .columns) (a .m) (a .n)) (countE (a .offsets) (a .columns) (a .m)) (a .m) (a .n) (a .s) (lengthsOf B) controlsOf
 
-  -- questions 1 to 10 and 13
-  unfoldable pub begun : Buffers → Verdict
-  unfolding firstNo memoryVerdict
-  begun B = andThen (firstNo (a .m) (a .n) (a .offsets) (a .columns) (length (a .values))) (memoryVerdict B)
+  -- questions 1 to 5 and, of a file that is lent, 14 to 16
+  unfoldable pub matrixVerdict : Verdict
+  unfolding firstNo fileVerdict
+  matrixVerdict =
+      andThen (firstNo (a .m) (a .n) (a .offsets) (a .columns) (length (a .values)))
+      (ifFiled (a .filed) (fileVerdict wide (matrixLists (a .offsets) (a .columns) (a .m) (a .n)) (a .file)))
 
-  -- 1 to 10 and 13, then 11 and 12 by the machines
+  -- questions 1 to 5, 14 to 16, 6 to 10 and 13
+  unfoldable pub begun : Buffers → Verdict
+  unfolding matrixVerdict memoryVerdict
+  begun B = andThen matrixVerdict (memoryVerdict B)
+
+  -- all these, then 11 and 12 by the machines
   unfoldable pub solveVerdict : Buffers → Verdict
   unfolding begun solved
   solveVerdict B = andThen (begun B) (outcomeVerdict priceCount (solved call (a .limit)))
 
-  -- 'A no at 1 to 10 changes no buffer.' And 13: 'no buffer changed'
+  -- 'A no at 1 to 10 changes no buffer.' And 13, and 14 to 16: 'no buffer changed'
   abbrev pub ifPassed : Verdict → Buffers → Buffers → Buffers
   ifPassed passed new old = new
   ifPassed (told v) new old = old
@@ -163,8 +207,14 @@ module _ (a : Given) where
   unfolding begun sizeF solved
   solveBuffers B = ifPassed (begun B) (leaves call words room (a .limit) B) B
 
-  -- the answer, the lent lists, and demand 3 whole once questions 1 to 10 and 13 got a yes
+  -- the answer, the lent lists, and demand 3 whole once questions 1 to 10, 13 and, of a file that is lent, 14 to 16 got a yes
   pub record Solved (B B′ : Buffers) (r : SolveAnswer) : Type 0 where
     pub answer : toldSolve r ≡ solveVerdict B
     pub buffers : B′ ≡ solveBuffers B
     pub demand3 : begun B ≡ passed → (o : Outcome) × (toldSolve r ≡ outcomeVerdict priceCount o) × Demand3 call words room plannedHas (a .limit) B B′ o
+
+-- 'where these don't arise it gives the answer and buffers that it gives without one': unless the answer is a no at 14, 15 or 16, it is that of the
+-- solve without a file, and so is every buffer. `as-unfiled` of proofs/Filed.antt, for all numbers and lists
+pub record AsUnfiled (a : Given) (B : Buffers) : Type 0 where
+  pub same : ((q : ℕ) → 14 ≤ q → q ≤ 16 → solveVerdict a B ≡ refused q 0 0 → ⊥)
+      → (solveVerdict a B ≡ solveVerdict (unfiled a) B) × (solveBuffers a B ≡ solveBuffers (unfiled a) B)

@@ -6,15 +6,18 @@ ghost use Prim.Native.Nat.{ℕ, _<_, _≤_};
 ghost use lib.Dec.{leb};
 ghost use lib.ListN.{length, drop, replicate};
 ghost use Rattle.csr.specs.Csr.{Accepted, maxStored};
-ghost use Rattle.csr.specs.Verdict.{toldAsked};
+ghost use Rattle.csr.specs.Verdict.{toldAsked, andThen};
 ghost use Rattle.lanes.specs.Arithmetic.{null};
 ghost use Rattle.lanes.specs.Controls.{controls};
 ghost use Rattle.machine.specs.declared.Outcome.the-variants.{NoAt11};
 ghost use Rattle.machine.specs.Outcome.{largestLimit};
 ghost use Rattle.memory.specs.Planned.{Planned};
-ghost use Rattle.ipm_simd.specs.Solve.{given, lent, toldSolve, outcomeVerdict, lengthsRight, lengthsVerdict, Solved};
+ghost use Rattle.ipm_simd.specs.Solve.{given, withFile, lent, toldSolve, outcomeVerdict, lengthsRight, lengthsVerdict, ifFiled, Solved};
 ghost use Rattle.ipm_simd.specs.Parts.{Asked10, Ends, Continued};
-ghost use Rattle.csr.specs.Questions.{maxRows, maxColumns};
+ghost use Rattle.csr.specs.Questions.{maxRows, maxColumns, firstNo};
+ghost use Rattle.plan_file.specs.Matrix.{matrixLists};
+ghost use Rattle.plan_file.specs.Tables.{wide};
+ghost use Rattle.plan_file.specs.Verdicts.{fileVerdict};
 use csr::Asked;
 use csr::Refusal;
 use lanes::Controls;
@@ -237,7 +240,26 @@ fn solve_accepted(
     }
 }
 
-// Solve four linear programs. Any numbers, any lists, any floats.
+// Questions 1 to 5, of a matrix with so many values, and 14 to 16, of a file that is lent.
+fn ask_matrix(
+    m: usize,
+    n: usize,
+    offsets: &[u32],
+    columns: &[u32],
+    values: usize,
+    filed: bool,
+    file: &[u8],
+) -> Asked
+    ensures { λ r. ⌜ toldAsked r ≡ andThen (firstNo m n (now (offsets .entry)) (now (columns .entry)) values) (ifFiled filed (fileVerdict wide (matrixLists (now (offsets .entry)) (now (columns .entry)) m n) (now (file .entry)))) ⌝ }
+{
+    if filed {
+        file_questions::ask(m, n, offsets, columns, values, file)
+    } else {
+        csr::ask(m, n, offsets, columns, values)
+    }
+}
+
+// Solve four linear programs. A plan's file is looked at where `filed` says that one is lent. Any numbers, any lists, any floats, any bytes.
 pub fn solve(
     m: usize,
     n: usize,
@@ -251,19 +273,21 @@ pub fn solve(
     limit: usize,
     centring: f64,
     damping: f64,
+    filed: bool,
+    file: &[u8],
     output: &mut [f64],
     prices: &mut [f64],
     index: &mut [u32],
     work: &mut [f64],
 ) -> SolveAnswer
-    ensures { λ r. ⌜ Solved (given m n s (now (offsets .entry)) (now (columns .entry)) (now (values .entry)) (now (b .entry)) (now (c .entry)) (now (tolerances .entry)) (controls limit centring damping)) (lent (now (output .entry)) (now (prices .entry)) (now (index .entry)) (now (work .entry))) (lent (now (output .exit)) (now (prices .exit)) (now (index .exit)) (now (work .exit))) r ⌝ }
+    ensures { λ r. ⌜ Solved (withFile filed (now (file .entry)) (given m n s (now (offsets .entry)) (now (columns .entry)) (now (values .entry)) (now (b .entry)) (now (c .entry)) (now (tolerances .entry)) (controls limit centring damping))) (lent (now (output .entry)) (now (prices .entry)) (now (index .entry)) (now (work .entry))) (lent (now (output .exit)) (now (prices .exit)) (now (index .exit)) (now (work .exit))) r ⌝ }
 {
     let controls = Controls {
         limit,
         centring,
         damping,
     };
-    match csr::ask(m, n, offsets, columns, values.len()) {
+    match ask_matrix(m, n, offsets, columns, values.len(), filed, file) {
         Asked::Refused(r) => SolveAnswer::Refused(r),
         Asked::Good => solve_accepted(
             m,

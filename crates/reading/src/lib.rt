@@ -44,6 +44,7 @@ fn solve_text(
     let price_count = LANES * m;
     let centring = Controls::CENTRING;
     let damping = Controls::DAMPING;
+    let no_file = [0u8; 0];
     let answer = ipm_simd::solve(
         m,
         n,
@@ -57,6 +58,8 @@ fn solve_text(
         limit,
         centring,
         damping,
+        false,
+        &no_file,
         output,
         &mut prices[..price_count],
         index,

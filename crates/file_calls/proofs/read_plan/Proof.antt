@@ -5,12 +5,13 @@ use lib.ListN.{length}
 use Rattle.csr.specs.Verdict.{Verdict, toldAsked}
 use Rattle.csr.proofs.Yes.{accepted-of}
 use Rattle.file_calls.specs.Calls.{wordsAfter}
-use Rattle.file_calls.proofs.Carried.{read-on, read-not, first-passed}
+use Rattle.file_calls.proofs.Carried.{read-on, read-not}
+use Rattle.file_questions.proofs.Three.{passes}
 use Rattle.file_calls.proofs.read_plan.Statement.{statement}
 use Rattle.file_calls.proofs.read_plan.Tie as tie
 
 plan-accepted-requires : tie.Need-plan-accepted-requires
-plan-accepted-requires c κs = accepted-of (c .before .before .before .before .before .before .before .before .args .m) (c .before .before .before .before .before .before .before .before .args .n) (c .before .before .before .before .before .before .before .before .args .offsets .now) (c .before .before .before .before .before .before .before .before .args .columns .now) (length (c .before .before .before .before .before .before .before .before .args .columns .now)) (first-passed (c .before .before .before .before .before .before .before .before .args .m) (c .before .before .before .before .before .before .before .before .args .n) (c .before .before .before .before .before .before .before .before .args .offsets .now) (c .before .before .before .before .before .before .before .before .args .columns .now) _ _ (sym (c .before .before .before .ask .ensures) ∙ ap toldAsked (c .before .enum-told .given .1)))
+plan-accepted-requires c κs = accepted-of (c .before .before .before .before .before .before .before .before .args .m) (c .before .before .before .before .before .before .before .before .args .n) (c .before .before .before .before .before .before .before .before .args .offsets .now) (c .before .before .before .before .before .before .before .before .args .columns .now) (length (c .before .before .before .before .before .before .before .before .args .columns .now)) (passes _ _ (sym (c .before .before .before .ask .ensures) ∙ ap toldAsked (c .before .enum-told .given .1)) .0)
 
 returns : tie.Need-returns
 returns c =

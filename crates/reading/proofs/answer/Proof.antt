@@ -3,7 +3,7 @@ use native.Mathlib.Omega.{arith}
 use lib.Seq.{length-take-le}
 use Rattle.reading.proofs.Parts.{front-room, front-long, read-text}
 use Rattle.reading.proofs.Parts.{shortCount, floatCount, shorts-fit, floats-fit, output-long}
-use Rattle.answer_text.proofs.Texts.{same-text}
+use Rattle.base.proofs.Write.{same-text}
 use borrow.Author.Needs.{needs}
 use Rattle.reading.proofs.answer.Statement.{statement}
 use Rattle.reading.proofs.answer.Tie as tie

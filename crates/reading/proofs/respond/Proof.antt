@@ -6,7 +6,7 @@ use Rattle.reading.specs.Answer.{givenOf, lentFor}
 use Rattle.answer_text.proofs.Lengths.{input-length}
 use Rattle.reading.proofs.Lengths.{solve-length}
 use Rattle.reading.proofs.Headers.{whole, narrow, matched-text, mismatch-text}
-use Rattle.answer_text.proofs.Texts.{same-text}
+use Rattle.base.proofs.Write.{same-text}
 use borrow.Author.Needs.{needs}
 use Rattle.reading.proofs.respond.Statement.{statement}
 use Rattle.reading.proofs.respond.Tie as tie

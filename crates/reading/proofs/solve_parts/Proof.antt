@@ -2,7 +2,7 @@ use mathlib.Core.Path.{sym}
 use native.Mathlib.Omega.{arith}
 use lib.Seq.{length-take-le}
 use Rattle.reading.proofs.Parts.{cut-text}
-use Rattle.answer_text.proofs.Texts.{same-text}
+use Rattle.base.proofs.Write.{same-text}
 use borrow.Author.Needs.{needs}
 use Rattle.reading.proofs.solve_parts.Statement.{statement}
 use Rattle.reading.proofs.solve_parts.Tie as tie

@@ -7,7 +7,7 @@ use Rattle.lanes.proofs.Consts.{tenth-bits, damping-bits}
 use Rattle.reading.specs.Parts.{mostPrices}
 use Rattle.reading.proofs.Answers.{accepted-text, refused-text}
 use Rattle.reading.proofs.Parts.{blank-long, blank-front}
-use Rattle.answer_text.proofs.Texts.{same-text}
+use Rattle.base.proofs.Write.{same-text}
 use borrow.Author.Needs.{needs}
 use Rattle.reading.proofs.solve_text.Statement.{statement}
 use Rattle.reading.proofs.solve_text.Tie as tie
