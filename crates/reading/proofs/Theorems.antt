@@ -3,11 +3,12 @@ use mathlib.Core.Path.{_≡_, refl, sym, ap, _∙_}
 use mathlib.Core.Logic.{_≢_}
 use mathlib.Core.Bool.{Bool, true, false, not, _&&_, _||_, false≢true}
 use mathlib.Core.List.{List}
-use Prim.Native.Nat.{ℕ, suc, _+_, _*_, _≤_}
+use Prim.Native.Nat.{ℕ, suc, _+_, _*_, _≤_, _<_}
 use native.Mathlib.Omega.{arith}
 use native.Mathlib.Nat.{mul-le-mul}
-use borrow.Author.Tests.{eq-eqb, le-leb, leb-true}
+use borrow.Author.Tests.{eq-eqb, le-leb, leb-true, leb-false, not-true}
 use lib.Dec.{eqb, leb, ltb}
+use Rattle.base.proofs.Bools.{or-none}
 use lib.ListN.{length}
 use Rattle.base.specs.Sums.{sum}
 use Rattle.base.proofs.Sums.{sum-more}
@@ -29,7 +30,8 @@ use Rattle.machine.specs.declared.Outcome.the-variants as outcomes
 use Rattle.machine.specs.Outcome.{largestLimit, solved}
 use Rattle.machine.specs.Demand3.{Buffers}
 use Rattle.ipm_simd.specs.declared.Lengths.{Lengths}
-use Rattle.ipm_simd.specs.Solve.{lengthsRight, outcomeVerdict, lengthsVerdict, controlsOf, call, priceCount, lengthsOf, memoryVerdict, begun, solveVerdict}
+use Rattle.ipm_simd.specs.Solve.{lengthsRight, outcomeVerdict, lengthsVerdict, controlsOf, call, priceCount, lengthsOf, memoryVerdict, matrixVerdict, begun, solveVerdict}
+use Rattle.file_questions.proofs.Three.{then-passed}
 use Rattle.ipm_simd.proofs.Questions.{lengths-last}
 use Rattle.record.specs.Little.{shorts, floats}
 use Rattle.record.specs.Record.{mOf, nOf, sOf, tOf, limitOf, offsetsOf, columnsOf, valuesOf, mostRows, mostColumns, mostEntries, wellFormed, columnsAt}
@@ -38,15 +40,15 @@ use Rattle.reading.specs.Theorems as theorems
 use Rattle.reading.proofs.Headers.{own-whole}
 use Rattle.reading.proofs.Parts.{zeros-long, blank-long}
 
--- ---- answers that are no refusal at 6, 8, 9 or 13
+-- ---- answers that are no refusal at 6, 8, 9, 13 or above
 fine : Verdict → Bool
 fine passed = true
 fine (told a) = true
-fine (refused q p l) = not (eqb q 6 || eqb q 8 || eqb q 9 || eqb q 13)
+fine (refused q p l) = not (eqb q 6 || eqb q 8 || eqb q 9 || leb 13 q)
 
-fine-not : (q p l : ℕ) → fine (refused q p l) ≡ true → (q ≢ 6) × (q ≢ 8) × (q ≢ 9) × (q ≢ 13)
+fine-not : (q p l : ℕ) → fine (refused q p l) ≡ true → (q ≢ 6) × (q ≢ 8) × (q ≢ 9) × (q < 13)
 unfolding fine
-fine-not q p l h = (λ e. false≢true (rw e at h), λ e. false≢true (rw e at h), λ e. false≢true (rw e at h), λ e. false≢true (rw e at h))
+fine-not q p l h = (λ e. false≢true (rw e at h), λ e. false≢true (rw e at h), leb-false 13 q (or-none (eqb q 6 || eqb q 8 || eqb q 9) (leb 13 q) (not-true _ h) .1))
 
 -- a question that may get a no, one that gets a yes, and what follows a first part of the questions
 either : (t : Bool) (next : Verdict) (q p l : ℕ) → fine (refused q p l) ≡ true → (t ≡ true → fine next ≡ true) → fine (ask t next (refused q p l)) ≡ true
@@ -139,10 +141,11 @@ module _ (s : List ℕ) (w : wellFormed s ≡ true) where
       (standard-proper (limitOf s))
 
   begun-fine : fine (begun (givenOf s) memories) ≡ true
-  unfolding begun
+  unfolding begun matrixVerdict fine
   begun-fine =
-      then-fine _ _ (early-fine (mOf s) (nOf s) (offsetsOf s) (columnsOf s) (length (valuesOf s)))
-      (λ e. memory-fine (accepted-of (mOf s) (nOf s) (offsetsOf s) (columnsOf s) (length (valuesOf s)) e))
+      let first5 = firstNo (mOf s) (nOf s) (offsetsOf s) (columnsOf s) (length (valuesOf s)) in
+      then-fine (andThen first5 passed) _ (then-fine first5 passed (early-fine (mOf s) (nOf s) (offsetsOf s) (columnsOf s) (length (valuesOf s))) (λ _. refl))
+      (λ e. memory-fine (accepted-of (mOf s) (nOf s) (offsetsOf s) (columnsOf s) (length (valuesOf s)) (sym (then-passed first5) ∙ e)))
 
   solve-fine : fine (solveVerdict (givenOf s) memories) ≡ true
   unfolding solveVerdict
