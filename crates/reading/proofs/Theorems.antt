@@ -48,7 +48,7 @@ fine (refused q p l) = not (eqb q 6 || eqb q 8 || eqb q 9 || leb 13 q)
 
 fine-not : (q p l : ℕ) → fine (refused q p l) ≡ true → (q ≢ 6) × (q ≢ 8) × (q ≢ 9) × (q < 13)
 unfolding fine
-fine-not q p l h = (λ e. false≢true (rw e at h), λ e. false≢true (rw e at h), leb-false 13 q (or-none (eqb q 6 || eqb q 8 || eqb q 9) (leb 13 q) (not-true _ h) .1))
+fine-not q p l h = (λ e. false≢true (rw e at h), λ e. false≢true (rw e at h), λ e. false≢true (rw e at h), leb-false 13 q (or-none (eqb q 6 || eqb q 8 || eqb q 9) (leb 13 q) (not-true _ h) .1))
 
 -- a question that may get a no, one that gets a yes, and what follows a first part of the questions
 either : (t : Bool) (next : Verdict) (q p l : ℕ) → fine (refused q p l) ≡ true → (t ≡ true → fine next ≡ true) → fine (ask t next (refused q p l)) ≡ true
