@@ -1,6 +1,6 @@
 // What the kinds of a file mean.
 ghost use mathlib.Core.Path.{_≡_};
-ghost use Prim.Native.Nat.{_+_, _<_};
+ghost use Prim.Native.Nat.{_+_, _<_, _≤_};
 ghost use Rattle.plan_file.specs.Tables.{wide, widthOf};
 ghost use Rattle.plan_file.specs.Verdicts.{wholeBody, isNext, after};
 use plan_file::Meaning;
@@ -54,7 +54,7 @@ pub fn is_next(m: Meaning, next: usize) -> bool
 
 // The next list after it.
 pub fn after_one(m: Meaning, next: usize) -> usize
-    requires { ⌜ next < 1000 ⌝ }
+    requires { ⌜ next ≤ 17 ⌝ }
     ensures { λ r. ⌜ r ≡ after m next ⌝ }
 {
     match m {

@@ -6,3 +6,4 @@ pub mod Files
 pub mod Bounds
 pub mod Cuts
 pub mod Plans
+pub mod Examples

@@ -5,3 +5,4 @@ pub mod Verdicts
 pub mod Written
 pub mod Matrix
 pub mod Promises
+pub mod Examples
