@@ -8,13 +8,14 @@ use borrow.Author.Tests.{le-leb, lt-leb, leb-true}
 use lib.Dec.{leb, ltb}
 use lib.ListN.{length, getD, take, drop}
 use lib.Seq.{take-at}
-use Rattle.base.specs.Cat.{Wrote}
+use Rattle.base.specs.Cat.{join, Wrote}
+use Rattle.base.proofs.Write.{same-text}
 use Rattle.csr.specs.Csr.{Accepted}
 use Rattle.csr.specs.Counts.{countE, countS, countD, sizeW}
 use Rattle.csr.specs.Verdict.{Verdict, Told, passed, told, written, refused, ask, andThen}
 use Rattle.csr.specs.Pattern.{row}
 use Rattle.csr.specs.Questions.{maxColumns, firstFrom, empty, badRow, offsetsRight, rowsRight, firstNo}
-use Rattle.csr.proofs.Yes.{accepted-of}
+use Rattle.csr.proofs.Yes.{accepted-of, asked}
 use Rattle.layout.specs.declared.Plan.{Plan}
 use Rattle.layout.specs.Layout.{planOf}
 use Rattle.layout.specs.Lists.{sizesOf}
@@ -24,9 +25,10 @@ use Rattle.lists.proofs.Whole.{as-written}
 use Rattle.ipm_common.specs.Plan.{roomVerdict, left, planVerdict, planIndex}
 use Rattle.plan_file.specs.Matrix.{matrixLists}
 use Rattle.plan_file.specs.Tables.{wide}
-use Rattle.plan_file.specs.Verdicts.{fileVerdict}
+use Rattle.plan_file.specs.Verdicts.{fileVerdict, wholeFile, listsIn}
 use Rattle.plan_file.specs.Promises.{planFile}
 use Rattle.plan_file.proofs.Bounds.{sixteen-long}
+use Rattle.plan_file.proofs.Files.{one-by-one}
 use Rattle.plan_file.proofs.Plans.{joined-plan, sizes-are, file-bytes, files}
 use Rattle.file_write.specs.Writable.{Writable}
 use Rattle.file_questions.proofs.Three.{then-passed}
@@ -68,6 +70,21 @@ module _ (m n : ℕ) (off cols : List ℕ) where
     file-after old new r room w =
         as-written old new (planFile off cols m n) r (omega (arith, file-bytes off cols m n ok)) w .0
         ∙ ap (λ (k : ℕ). planFile off cols m n ++ drop k old) (file-bytes off cols m n ok)
+
+    -- a file with a yes at 14 to 16 is whole, and its words are the plan's
+    pub file-whole : (file : List ℕ) → fileVerdict wide (matrixLists off cols m n) file ≡ passed → wholeFile wide file ≡ true
+    file-whole file e = asked (wholeFile wide file) _ 14 0 0 (sym (one-by-one wide (matrixLists off cols m n) file) ∙ e) .0
+
+    pub file-words : (file : List ℕ) → fileVerdict wide (matrixLists off cols m n) file ≡ passed → join (listsIn wide file) ≡ planWords off cols m n
+    file-words file e = ap join (files off cols m n ok .gives file e) ∙ files off cols m n ok .words
+
+    -- the plan and the old rest
+    pub words-after : (file old new : List ℕ) (r : ℕ) → fileVerdict wide (matrixLists off cols m n) file ≡ passed → sizeW off cols m n ≤ length old
+        → Wrote old new 0 (join (listsIn wide file)) r → new ≡ planWords off cols m n ++ drop (sizeW off cols m n) old
+    words-after file old new r e room w =
+        let size = plan-size off cols m n ok in
+        as-written old new (planWords off cols m n) r (omega (arith, size)) (same-text (file-words file e) w) .0
+        ∙ ap (λ (k : ℕ). planWords off cols m n ++ drop k old) size
 
     -- a yes: the answer and both lists
     pub written-so : (index file : List ℕ) {index1 file1 : List ℕ} {r : ℕ} → sizeW off cols m n ≤ length index → fileBytes m n off cols ≤ length file

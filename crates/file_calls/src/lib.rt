@@ -2,7 +2,11 @@
 ghost use mathlib.Core.Path.{_≡_};
 ghost use lib.ListN.{length};
 ghost use Rattle.csr.specs.Csr.{Accepted};
-ghost use Rattle.ipm_common.specs.Plan.{toldPlan};
+ghost use Rattle.csr.specs.Verdict.{passed};
+ghost use Rattle.ipm_common.specs.Plan.{toldPlan, Answered};
+ghost use Rattle.plan_file.specs.Matrix.{matrixLists};
+ghost use Rattle.plan_file.specs.Tables.{wide};
+ghost use Rattle.plan_file.specs.Verdicts.{fileVerdict};
 ghost use Rattle.file_calls.specs.Calls.{toldWrite, roomsVerdict, writeVerdict, wordsAfter, bytesAfter, readVerdict};
 use csr::Asked;
 use csr::Refusal;
@@ -65,6 +69,27 @@ pub fn write_plan(
     }
 }
 
+// Question 6 of a matrix that is accepted and of a file that is its plan's, and the file's lists in the index memory.
+fn read_accepted(
+    m: usize,
+    n: usize,
+    offsets: &[u32],
+    columns: &[u32],
+    file: &[u8],
+    index: &mut [u32],
+) -> PlanAnswer
+    requires { ⌜ Accepted (now offsets) (now columns) m n × (fileVerdict wide (matrixLists (now offsets) (now columns) m n) (now file) ≡ passed) ⌝ }
+    ensures { λ r. ⌜ Answered m n (now (offsets .entry)) (now (columns .entry)) (now (index .entry)) (now (index .exit)) (toldPlan r) ⌝ }
+{
+    let plan = counts::plan_sizes(m, n, 0, offsets, columns);
+    let words = plan.words();
+    if index.len() < words {
+        return PlanAnswer::Refused(Refusal::new(Refusal::INDEX_MEMORY, 0, 0));
+    }
+    file_copy::copy_plan(file, index);
+    PlanAnswer::Planned(words)
+}
+
 // Questions 1 to 5, 14 to 16 and 6, and after these the plan. Any numbers, any lists, any bytes.
 pub fn read_plan(
     m: usize,
@@ -78,8 +103,8 @@ pub fn read_plan(
     ensures words { λ _. ⌜ now (index .exit) ≡ wordsAfter m n (now (offsets .entry)) (now (columns .entry)) (readVerdict m n (now (offsets .entry)) (now (columns .entry)) (now (file .entry)) (length (now (index .entry)))) (now (index .entry)) ⌝ }
 {
     match file_questions::ask(m, n, offsets, columns, columns.len(), file) {
-        // The file's lists are the matrix's, so its plan is theirs.
-        Asked::Good => ipm_common::plan_accepted(m, n, offsets, columns, index),
+        // The file's lists are the matrix's.
+        Asked::Good => read_accepted(m, n, offsets, columns, file, index),
         Asked::Refused(r) => PlanAnswer::Refused(r),
     }
 }

@@ -16,9 +16,8 @@ use Rattle.plan_file.specs.declared.Meaning.{Meaning}
 use Rattle.plan_file.specs.declared.Meaning.the-variants.{Listed, Note, Neither}
 use Rattle.plan_file.specs.Tables.{Table, firstNote, isList, wide}
 use Rattle.plan_file.specs.Verdicts.{same, wholeFile, isMatrixs, areMatrixs, matrixsCut, matrixsFile}
-use Rattle.plan_file.proofs.Parse.{records-first, starts-out}
-use Rattle.plan_file.proofs.Little.{le4-is}
-use Rattle.file_walk.proofs.Walks.{whole-starts, kind-is}
+use Rattle.plan_file.proofs.Parse.{records-first}
+use Rattle.file_walk.proofs.Walks.{some-left, both-parts, meant, body-there, rest-there, good-there, within-there}
 use Rattle.file_numbers.specs.Agree.{numbersOf}
 use Rattle.file_questions.specs.Takes.{Takes}
 
@@ -71,13 +70,6 @@ module _ (t : Table) (lists : ℕ → List ℕ) where
     pub good : wholeFile t (drop at file) ≡ true
     pub left : matrixsFile t lists (drop at file) ≡ matrixsFile t lists file
 
-  -- a record stands there
-  pub record Head (file : List ℕ) (at : ℕ) : Type 0 where
-    pub four : at + 4 ≤ length file
-    pub six : at + 4 + 2 ≤ length file
-    pub kinded : 2 ≤ le4 file at
-    pub room : at + 4 + le4 file at ≤ length file
-
   module _ (file : List ℕ) where
     pub asking-none : wholeFile t file ≡ true → Asking file 0
     asking-none e = record { within = omega arith; good = e; left = refl }
@@ -85,47 +77,23 @@ module _ (t : Table) (lists : ℕ → List ℕ) where
     pub asking-all : (at : ℕ) → length file ≤ at → Asking file at → true ≡ matrixsFile t lists file
     asking-all at h w = sym matrixs-none ∙ sym (ap (matrixsFile t lists) (drop-of-length-le file {i = at} h)) ∙ w .left
 
-    module _ (at : ℕ) (w : Asking file at) (more : at < length file) where
-      bytes-left : length (drop at file) ≡ length file - at
-      bytes-left = length-drop at file
+    module _ (at : ℕ) (w : Asking file at) (more : at < length file) (size : ℕ) (is : size ≡ le4 file at)
+        (kind : ℕ) (has : kind ≡ le2 file (at + 4)) (m : Meaning) (means : m ≡ t kind) (b : Bool)
+        (said : b ≡ isMatrixs lists m (take (at + 4 + size - (at + 6)) (drop (at + 6) file))) where
+      onward : b && matrixsFile t lists (restAt (drop at file)) ≡ matrixsFile t lists file
+      onward =
+          ap (λ (x : Bool). x && matrixsFile t lists (restAt (drop at file)))
+          (said ∙ ap₂ (isMatrixs lists) (meant t file at (w .good) more kind has m means) (body-there t file at (w .good) more size is))
+          ∙ sym (matrixs-first (drop at file) (some-left t file at (w .good) more) (both-parts t file at (w .good) more .0)) ∙ w .left
 
-      both-parts : (startsWhole (drop at file) ≡ true) × (wholeFile t (restAt (drop at file)) ≡ true)
-      both-parts = whole-starts t (drop at file) (omega (arith, bytes-left)) (w .good)
+      pub asking-no : b ≡ false → false ≡ matrixsFile t lists file
+      asking-no e = sym (ap (λ (x : Bool). x && matrixsFile t lists (restAt (drop at file))) e) ∙ onward
 
-      pub head : Head file at
-      head =
-          let s = starts-out (drop at file) (both-parts .0) in
-          let f : at + 4 ≤ length file = omega (arith, s .long, bytes-left) in
-          let l = le4-is file at f in
-          record { four = f; six = omega (arith, s .room, s .kinded, bytes-left); kinded = omega (arith, s .kinded, l); room = omega (arith, s .room, bytes-left, l) }
-
-      module _ (size : ℕ) (is : size ≡ le4 file at) (kind : ℕ) (has : kind ≡ le2 file (at + 4)) (m : Meaning) (means : m ≡ t kind) (b : Bool)
-          (said : b ≡ isMatrixs lists m (take (at + 4 + size - (at + 6)) (drop (at + 6) file))) where
-        meant : m ≡ t (kindAt (drop at file))
-        meant = means ∙ ap t (has ∙ kind-is file at (head .six))
-
-        sized : size ≡ lengthAt (drop at file)
-        sized = is ∙ le4-is file at (head .four)
-
-        cut : take (at + 4 + size - (at + 6)) (drop (at + 6) file) ≡ bodyAt (drop at file)
-        cut =
-            let z : at + 4 + size - (at + 6) ≡ lengthAt (drop at file) - 2 = omega (arith, sized) in
-            ap₂ (λ (n : ℕ) (l : List ℕ). take n l) z (sym (drop-drop 6 at file))
-
-        onward : b && matrixsFile t lists (restAt (drop at file)) ≡ matrixsFile t lists file
-        onward =
-            ap (λ (x : Bool). x && matrixsFile t lists (restAt (drop at file))) (said ∙ ap₂ (isMatrixs lists) meant cut)
-            ∙ sym (matrixs-first (drop at file) (omega (arith, bytes-left)) (both-parts .0)) ∙ w .left
-
-        pub asking-no : b ≡ false → false ≡ matrixsFile t lists file
-        asking-no e = sym (ap (λ (x : Bool). x && matrixsFile t lists (restAt (drop at file))) e) ∙ onward
-
-        pub asking-on : b ≡ true → Asking file (at + 4 + size)
-        asking-on e =
-            let there : restAt (drop at file) ≡ drop (at + 4 + size) file =
-            ap (λ (n : ℕ). drop n (drop 4 (drop at file))) (sym sized) ∙ ap (drop size) (drop-drop 4 at file) ∙ drop-drop size (at + 4) file in
-            record {
-              within = omega (arith, head .room, is);
-              good = ap (wholeFile t) (sym there) ∙ both-parts .1;
-              left = ap (matrixsFile t lists) (sym there) ∙ sym (ap (λ (x : Bool). x && matrixsFile t lists (restAt (drop at file))) e) ∙ onward;
-            }
+      pub asking-on : b ≡ true → Asking file (at + 4 + size)
+      asking-on e = record {
+        within = within-there t file at (w .good) more size is;
+        good = good-there t file at (w .good) more size is;
+        left =
+            ap (matrixsFile t lists) (sym (rest-there t file at (w .good) more size is))
+            ∙ sym (ap (λ (x : Bool). x && matrixsFile t lists (restAt (drop at file))) e) ∙ onward;
+      }

@@ -132,6 +132,55 @@ module _ (t : Table) where
                   ∙ sym (ap (λ (x : Bool). x && wholeFile t (restAt (drop at file))) e) ∙ goes;
             }
 
+-- ---- a record of a file that got a yes at 14
+
+-- a record stands there
+pub record Headed (file : List ℕ) (at : ℕ) : Type 0 where
+  pub four : at + 4 ≤ length file
+  pub six : at + 4 + 2 ≤ length file
+  pub kinded : 2 ≤ le4 file at
+  pub room : at + 4 + le4 file at ≤ length file
+
+module _ (t : Table) (file : List ℕ) (at : ℕ) (good : wholeFile t (drop at file) ≡ true) (more : at < length file) where
+  bytes-left : length (drop at file) ≡ length file - at
+  bytes-left = length-drop at file
+
+  pub some-left : 0 < length (drop at file)
+  some-left = omega (arith, bytes-left)
+
+  -- it is whole, and so is what follows it
+  pub both-parts : (startsWhole (drop at file) ≡ true) × (wholeFile t (restAt (drop at file)) ≡ true)
+  both-parts = whole-starts t (drop at file) some-left good
+
+  pub headed : Headed file at
+  headed =
+      let s = starts-out (drop at file) (both-parts .0) in
+      let f : at + 4 ≤ length file = omega (arith, s .long, bytes-left) in
+      let l = le4-is file at f in
+      record { four = f; six = omega (arith, s .room, s .kinded, bytes-left); kinded = omega (arith, s .kinded, l); room = omega (arith, s .room, bytes-left, l) }
+
+  pub meant : (kind : ℕ) → kind ≡ le2 file (at + 4) → (m : Meaning) → m ≡ t kind → m ≡ t (kindAt (drop at file))
+  meant kind has m means = means ∙ ap t (has ∙ kind-is file at (headed .six))
+
+  module _ (size : ℕ) (is : size ≡ le4 file at) where
+    sized : size ≡ lengthAt (drop at file)
+    sized = is ∙ le4-is file at (headed .four)
+
+    -- its body, and where the next begins
+    pub body-there : take (at + 4 + size - (at + 6)) (drop (at + 6) file) ≡ bodyAt (drop at file)
+    body-there =
+        let z : at + 4 + size - (at + 6) ≡ lengthAt (drop at file) - 2 = omega (arith, sized) in
+        ap₂ (λ (n : ℕ) (l : List ℕ). take n l) z (sym (drop-drop 6 at file))
+
+    pub rest-there : restAt (drop at file) ≡ drop (at + 4 + size) file
+    rest-there = ap (λ (n : ℕ). drop n (drop 4 (drop at file))) (sym sized) ∙ ap (drop size) (drop-drop 4 at file) ∙ drop-drop size (at + 4) file
+
+    pub good-there : wholeFile t (drop (at + 4 + size) file) ≡ true
+    good-there = ap (wholeFile t) (sym rest-there) ∙ both-parts .1
+
+    pub within-there : at + 4 + size ≤ length file
+    within-there = omega (arith, headed .room, is)
+
 -- ---- question 15, record by record, in a file that got a yes at 14
 
 module _ (t : Table) (most : (kind k w : ℕ) → t kind ≡ Listed k w → k ≤ 16) where
@@ -166,12 +215,6 @@ module _ (t : Table) (most : (kind k w : ℕ) → t kind ≡ Listed k w → k �
     pub good : wholeFile t (drop at file) ≡ true
     pub left : orderedFile t next (drop at file) ≡ orderedFile t 1 file
 
-  -- a record stands there
-  pub record Headed (file : List ℕ) (at : ℕ) : Type 0 where
-    pub four : at + 4 ≤ length file
-    pub six : at + 4 + 2 ≤ length file
-    pub room : at + 4 + le4 file at ≤ length file
-
   module _ (file : List ℕ) where
     pub started : wholeFile t file ≡ true → Ordered file 0 1
     started e = record { within = omega arith; few = omega arith; good = e; left = refl }
@@ -179,41 +222,25 @@ module _ (t : Table) (most : (kind k w : ℕ) → t kind ≡ Listed k w → k �
     pub ended-at : (at next : ℕ) → length file ≤ at → Ordered file at next → eqb next 17 ≡ orderedFile t 1 file
     ended-at at next h w = sym (ordered-none next) ∙ sym (ap (orderedFile t next) (drop-of-length-le file {i = at} h)) ∙ w .left
 
-    module _ (at next : ℕ) (w : Ordered file at next) (more : at < length file) where
-      bytes-left : length (drop at file) ≡ length file - at
-      bytes-left = length-drop at file
+    module _ (at next : ℕ) (w : Ordered file at next) (more : at < length file) (size : ℕ) (is : size ≡ le4 file at)
+        (kind : ℕ) (has : kind ≡ le2 file (at + 4)) (m : Meaning) (means : m ≡ t kind) (b : Bool) (said : b ≡ isNext m next) where
+      means-there : m ≡ t (kindAt (drop at file))
+      means-there = meant t file at (w .good) more kind has m means
 
-      both-parts : (startsWhole (drop at file) ≡ true) × (wholeFile t (restAt (drop at file)) ≡ true)
-      both-parts = whole-starts t (drop at file) (omega (arith, bytes-left)) (w .good)
+      onward : b && orderedFile t (after m next) (restAt (drop at file)) ≡ orderedFile t 1 file
+      onward =
+          ap₂ (λ (x : Bool) (q : Meaning). x && orderedFile t (after q next) (restAt (drop at file))) (said ∙ ap (λ (q : Meaning). isNext q next) means-there) means-there
+          ∙ sym (ordered-first (drop at file) next (some-left t file at (w .good) more) (both-parts t file at (w .good) more .0)) ∙ w .left
 
-      pub headed : Headed file at
-      headed =
-          let s = starts-out (drop at file) (both-parts .0) in
-          let f : at + 4 ≤ length file = omega (arith, s .long, bytes-left) in
-          let l = le4-is file at f in
-          record { four = f; six = omega (arith, s .room, s .kinded, bytes-left); room = omega (arith, s .room, bytes-left, l) }
+      pub not-next : b ≡ false → false ≡ orderedFile t 1 file
+      not-next e = sym (ap (λ (x : Bool). x && orderedFile t (after m next) (restAt (drop at file))) e) ∙ onward
 
-      module _ (size : ℕ) (is : size ≡ le4 file at) (kind : ℕ) (has : kind ≡ le2 file (at + 4)) (m : Meaning) (means : m ≡ t kind) (b : Bool) (said : b ≡ isNext m next) where
-        meant : m ≡ t (kindAt (drop at file))
-        meant = means ∙ ap t (has ∙ kind-is file at (headed .six))
-
-        onward : b && orderedFile t (after m next) (restAt (drop at file)) ≡ orderedFile t 1 file
-        onward =
-            ap₂ (λ (x : Bool) (q : Meaning). x && orderedFile t (after q next) (restAt (drop at file))) (said ∙ ap (λ (q : Meaning). isNext q next) meant) meant
-            ∙ sym (ordered-first (drop at file) next (omega (arith, bytes-left)) (both-parts .0)) ∙ w .left
-
-        pub not-next : b ≡ false → false ≡ orderedFile t 1 file
-        not-next e = sym (ap (λ (x : Bool). x && orderedFile t (after m next) (restAt (drop at file))) e) ∙ onward
-
-        pub ordered-on : b ≡ true → (r : ℕ) → r ≡ after m next → Ordered file (at + 4 + size) r
-        ordered-on e r q =
-            let there : restAt (drop at file) ≡ drop (at + 4 + size) file =
-            ap (λ (n : ℕ). drop n (drop 4 (drop at file))) (sym (is ∙ le4-is file at (headed .four))) ∙ ap (drop size) (drop-drop 4 at file) ∙ drop-drop size (at + 4) file in
-            record {
-              within = omega (arith, headed .room, is);
-              few = omega (arith, q, after-few m next (λ k v z. most kind k v (sym means ∙ z)) (w .few) (sym said ∙ e));
-              good = ap (wholeFile t) (sym there) ∙ both-parts .1;
-              left =
-                  ap₂ (λ (n : ℕ) (l : List ℕ). orderedFile t n l) q (sym there)
-                  ∙ sym (ap (λ (x : Bool). x && orderedFile t (after m next) (restAt (drop at file))) e) ∙ onward;
-            }
+      pub ordered-on : b ≡ true → (r : ℕ) → r ≡ after m next → Ordered file (at + 4 + size) r
+      ordered-on e r q = record {
+        within = within-there t file at (w .good) more size is;
+        few = omega (arith, q, after-few m next (λ k v z. most kind k v (sym means ∙ z)) (w .few) (sym said ∙ e));
+        good = good-there t file at (w .good) more size is;
+        left =
+            ap₂ (λ (n : ℕ) (l : List ℕ). orderedFile t n l) q (sym (rest-there t file at (w .good) more size is))
+            ∙ sym (ap (λ (x : Bool). x && orderedFile t (after m next) (restAt (drop at file))) e) ∙ onward;
+      }

@@ -10,14 +10,15 @@ use Rattle.file_questions.proofs.Three.{passes}
 use Rattle.file_calls.proofs.read_plan.Statement.{statement}
 use Rattle.file_calls.proofs.read_plan.Tie as tie
 
-plan-accepted-requires : tie.Need-plan-accepted-requires
-plan-accepted-requires c κs = accepted-of (c .before .before .before .before .before .before .before .before .args .m) (c .before .before .before .before .before .before .before .before .args .n) (c .before .before .before .before .before .before .before .before .args .offsets .now) (c .before .before .before .before .before .before .before .before .args .columns .now) (length (c .before .before .before .before .before .before .before .before .args .columns .now)) (passes _ _ (sym (c .before .before .before .ask .ensures) ∙ ap toldAsked (c .before .enum-told .given .1)) .0)
+read-accepted-requires : tie.Need-read-accepted-requires
+read-accepted-requires c κs =
+    let both = passes _ _ (sym (c .before .before .before .ask .ensures) ∙ ap toldAsked (c .before .enum-told .given .1)) in
+    (accepted-of (c .before .before .before .before .before .before .before .before .args .m) (c .before .before .before .before .before .before .before .before .args .n) (c .before .before .before .before .before .before .before .before .args .offsets .now) (c .before .before .before .before .before .before .before .before .args .columns .now) (length (c .before .before .before .before .before .before .before .before .args .columns .now)) (both .0), both .1)
 
 returns : tie.Need-returns
 returns c =
-    let e = sym (c .before .before .before .before .before .before .ask .ensures) ∙ ap toldAsked (c .before .before .before .before .enum-told .given .1) in
-    let w = c .before .before .plan-accepted .ensures in
-    let v = read-on (c .before .before .before .before .before .before .before .before .before .before .before .args .m) (c .before .before .before .before .before .before .before .before .before .before .before .args .n) (c .before .before .before .before .before .before .before .before .before .before .before .args .offsets .now) (c .before .before .before .before .before .before .before .before .before .before .before .args .columns .now) (c .before .before .before .before .before .before .before .before .before .before .before .args .file .now) (length (c .before .before .before .before .before .before .before .before .before .before .before .args .index .now)) _ e (w .says) in
+    let w = c .before .before .read-accepted .ensures in
+    let v = read-on (c .before .before .before .before .before .before .before .before .before .before .before .args .m) (c .before .before .before .before .before .before .before .before .before .before .before .args .n) (c .before .before .before .before .before .before .before .before .before .before .before .args .offsets .now) (c .before .before .before .before .before .before .before .before .before .before .before .args .columns .now) (c .before .before .before .before .before .before .before .before .before .before .before .args .file .now) (length (c .before .before .before .before .before .before .before .before .before .before .before .args .index .now)) _ (sym (c .before .before .before .before .before .before .ask .ensures) ∙ ap toldAsked (c .before .before .before .before .enum-told .given .1)) (w .says) in
     (v, w .words ∙ ap (λ (x : Verdict). wordsAfter (c .before .before .before .before .before .before .before .before .before .before .before .args .m) (c .before .before .before .before .before .before .before .before .before .before .before .args .n) (c .before .before .before .before .before .before .before .before .before .before .before .args .offsets .now) (c .before .before .before .before .before .before .before .before .before .before .before .args .columns .now) x (c .before .before .before .before .before .before .before .before .before .before .before .args .index .now)) v)
 
 returns-2 : tie.Need-returns-2
@@ -31,7 +32,7 @@ read-plan-spec =
     (tie.spec
     (λ c κs. search needs)
     (λ c. search needs)
-    plan-accepted-requires
+    read-accepted-requires
     (λ c. search needs)
     (λ c. search needs)
     returns

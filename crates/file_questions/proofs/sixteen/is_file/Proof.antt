@@ -6,8 +6,9 @@ use borrow.Author.Tests.{not-true, not-false}
 use lib.ListN.{length}
 use Rattle.plan_file.specs.Matrix.{matrixLists}
 use Rattle.plan_file.specs.Tables.{wide}
+use Rattle.file_walk.proofs.Walks.{Headed, headed}
 use Rattle.file_questions.specs.Takes.{Takes}
-use Rattle.file_questions.proofs.Walk.{room-kept, Asking, Head, head, asking-none, asking-all, asking-no, asking-on, takes-wide}
+use Rattle.file_questions.proofs.Walk.{room-kept, Asking, asking-none, asking-all, asking-no, asking-on, takes-wide}
 use Rattle.file_questions.proofs.sixteen.is_file.Statement.{statement}
 use Rattle.file_questions.proofs.sixteen.is_file.Tie as tie
 
@@ -19,8 +20,8 @@ abbrev μ-loop : tie.MeasureT-loop
 μ-loop file off cols plan p lindptr lindices next₀ again₀ made₀ at₀ next again made at = length file - at
 
 -- the record that the walk stands at
-there : (c : tie.In-loop Inv-loop μ-loop) → Head wide (matrixLists (c .before .before .before .before .before .before .before .before .before .before .before .args .off .now) (c .before .before .before .before .before .before .before .before .before .before .before .args .cols .now) (c .before .before .before .before .before .before .before .before .before .before .before .args .plan .m) (c .before .before .before .before .before .before .before .before .before .before .before .args .plan .n)) (c .before .before .before .before .before .before .before .before .before .before .before .args .file .now) (c .before .loop .at)
-there c = head wide (matrixLists (c .before .before .before .before .before .before .before .before .before .before .before .args .off .now) (c .before .before .before .before .before .before .before .before .before .before .before .args .cols .now) (c .before .before .before .before .before .before .before .before .before .before .before .args .plan .m) (c .before .before .before .before .before .before .before .before .before .before .before .args .plan .n)) (c .before .before .before .before .before .before .before .before .before .before .before .args .file .now) (c .before .loop .at) (c .before .loop .inv .0) (c .loop-test .taken)
+there : (c : tie.In-loop Inv-loop μ-loop) → Headed (c .before .before .before .before .before .before .before .before .before .before .before .args .file .now) (c .before .loop .at)
+there c = headed wide (c .before .before .before .before .before .before .before .before .before .before .before .args .file .now) (c .before .loop .at) (c .before .loop .inv .0 .good) (c .loop-test .taken)
 
 loop-holds : tie.Need-loop-holds Inv-loop μ-loop
 loop-holds c = (asking-none wide (matrixLists (c .before .before .before .before .before .before .before .before .before .args .off .now) (c .before .before .before .before .before .before .before .before .before .args .cols .now) (c .before .before .before .before .before .before .before .before .before .args .plan .m) (c .before .before .before .before .before .before .before .before .before .args .plan .n)) (c .before .before .before .before .before .before .before .before .before .args .file .now) (c .before .before .before .before .before .before .before .before .before .pre .0), refl, refl, refl)

@@ -15,8 +15,8 @@ Inv-loop file at₀ next₀ at next = Ordered wide wide-most file at next
 abbrev μ-loop : tie.MeasureT-loop
 μ-loop file at₀ next₀ at next = length file - at
 
-head : (c : tie.In-loop Inv-loop μ-loop) → Headed wide wide-most (c .before .before .before .args .file .now) (c .before .loop .at)
-head c = headed wide wide-most _ _ _ (c .before .loop .inv) (c .loop-test .taken)
+head : (c : tie.In-loop Inv-loop μ-loop) → Headed (c .before .before .before .args .file .now) (c .before .loop .at)
+head c = headed wide _ _ (c .before .loop .inv .good) (c .loop-test .taken)
 
 loop-holds : tie.Need-loop-holds Inv-loop μ-loop
 loop-holds c = started wide wide-most _ (c .before .pre)
