@@ -1,11 +1,12 @@
 //! Writes the lists of cases that are replayed with no Rust at hand.
 //!
 //! A solve case: number of bytes, record, number of bytes, answer. A plan case: m, n, t, offsets, columns, W, the W
-//! words. Every number beside record and answer is a u32, little-endian.
+//! words. Every number beside record and answer is a u32, little-endian. A plan's file: `file_cases.rs`.
 
 use std::path::Path;
 
 use crate::backend::Backend;
+use crate::file_cases::file_cases;
 use crate::generate;
 use crate::problem::{Answer, LANES, MOST_TESTS, Matrix, Problem};
 use crate::questions::Room;
@@ -223,9 +224,10 @@ fn write_pieces(folder: &Path, name: &str, cases: Vec<Vec<u8>>, most: usize) -> 
     Ok(())
 }
 
-/// Writes solve.bin and plan.bin, or solve-1.bin and so on if one file would have more than `most` bytes.
+/// Writes solve.bin, plan.bin and files.bin, or solve-1.bin and so on if one file would have more than `most` bytes.
 pub fn write_cases(folder: &Path, seed: u64, most: usize) -> Result<(), String> {
     let random = &mut Random::new(seed);
     write_pieces(folder, "solve", solve_cases(random)?, most)?;
-    write_pieces(folder, "plan", plan_cases(random)?, most)
+    write_pieces(folder, "plan", plan_cases(random)?, most)?;
+    write_pieces(folder, "files", file_cases(random)?, most)
 }

@@ -1,15 +1,9 @@
-//! Questions 14 to 16 by their text, of any bytes. It shares nothing with what is under test.
+//! Questions 14 to 16 by their text, of any bytes, and the calls that ask them. It shares nothing with what is under
+//! test.
 
-use crate::file::{KIND, Record};
+use crate::file::{FIRST_NOTE, Filed, KIND, LENGTH, NUMBER, Record, written};
 use crate::plan::Lists;
-use crate::problem::Refusal;
-
-/// Kinds from here on are notes.
-pub const FIRST_NOTE: u16 = 0x8000;
-
-/// The bytes of a record's length, and of a number in a list.
-pub const LENGTH: usize = 4;
-pub const NUMBER: usize = 4;
+use crate::problem::{Planned, Refusal};
 
 /// The place of the list that a kind says, 1 to 16, whatever the turn.
 fn list_of(record: &Record) -> Option<usize> {
@@ -49,4 +43,29 @@ pub fn ask_file(lists: &Lists, file: &[u8]) -> Result<(), Refusal> {
         return no(16);
     }
     Ok(())
+}
+
+/// A matrix's lists, or its no at 1 to 5.
+pub type Listed = Result<Lists, Refusal>;
+
+/// Questions 1 to 5, then 14 to 16.
+pub fn ask_listed<'a>(lists: &'a Listed, file: &[u8]) -> Result<&'a Lists, Refusal> {
+    let lists = lists.as_ref().map_err(|&no| no)?;
+    ask_file(lists, file)?;
+    Ok(lists)
+}
+
+/// A reading call in so many index words: questions 1 to 5, 14 to 16, then 6, and the plan.
+pub fn read_plan(lists: &Listed, file: &[u8], index: usize) -> Planned {
+    let words = ask_listed(lists, file)?.concat();
+    if index < words.len() { Err(Refusal::at(6, 0)) } else { Ok(words) }
+}
+
+/// A writing call in so many index words and bytes: questions 1 to 6, then 8, and the plan with its file.
+pub fn write_plan(lists: &Listed, index: usize, bytes: usize) -> Filed {
+    let whole = written(lists.as_ref().map_err(|&no| no)?);
+    if index < whole.words.len() {
+        return Err(Refusal::at(6, 0));
+    }
+    if bytes < whole.bytes.len() { Err(Refusal::at(8, 0)) } else { Ok(whole) }
 }

@@ -4,8 +4,16 @@
 use crate::plan::Lists;
 use crate::problem::Refusal;
 
-/// The bytes of a record's kind.
+/// The bytes of a record's length, of its kind, and of a number in a list.
+pub const LENGTH: usize = 4;
 pub const KIND: usize = 2;
+pub const NUMBER: usize = 4;
+
+/// Kinds from here on are notes.
+pub const FIRST_NOTE: u16 = 0x8000;
+
+/// The most bytes of a small body; some are not whole numbers.
+pub const SMALL_BODY: usize = 9;
 
 /// The words that a plan has and the bytes of its file.
 #[derive(Clone, Debug, PartialEq, Eq)]
@@ -44,4 +52,20 @@ pub fn listed(lists: &Lists) -> Vec<Record> {
 /// What a writing call gives for a matrix that has these lists.
 pub fn written(lists: &Lists) -> Written {
     Written { words: lists.concat(), bytes: joined(&listed(lists)) }
+}
+
+/// Where each record begins.
+pub fn starts(records: &[Record]) -> Vec<usize> {
+    let sizes = records.iter().map(|record| LENGTH + KIND + record.body.len());
+    sizes.scan(0, |end, size| Some(std::mem::replace(end, *end + size))).collect()
+}
+
+/// A note in every gap, bodies of 0, 1, 2 .. bytes.
+pub fn with_all_notes(records: &[Record]) -> Vec<Record> {
+    let note = |gap: usize| Record { kind: FIRST_NOTE + gap as u16, body: vec![gap as u8; gap % SMALL_BODY] };
+    let mut noted = vec![note(0)];
+    for (gap, record) in (1..).zip(records) {
+        noted.extend([record.clone(), note(gap)]);
+    }
+    noted
 }

@@ -2,13 +2,13 @@
 //! wrong, and bytes of any kind. Each is read, and lent to a solve; questions 14 to 16 are asked in `decide.rs`.
 
 use crate::compare::Comparison;
-use crate::decide::{FIRST_NOTE, LENGTH, NUMBER, ask_file};
-use crate::file::{Filed, KIND, Record, joined, listed, written};
+use crate::decide::{Listed, ask_listed, read_plan, write_plan};
+use crate::file::{FIRST_NOTE, KIND, LENGTH, NUMBER, Record, SMALL_BODY, joined, listed, starts, with_all_notes};
 use crate::fractions::{short_rooms, wrong_before};
 use crate::generate;
 use crate::library::{Filing, SPARE, enough, read_in, solve_filed, write_in};
 use crate::plan::Lists;
-use crate::problem::{Answer, Fractions, Matrix, Planned, Problem, Refusal};
+use crate::problem::{Answer, Fractions, Matrix, Problem, Refusal};
 use crate::questions::{Room, ask_matrix};
 use crate::random::Random;
 use crate::reference;
@@ -25,8 +25,6 @@ const KINDS: [u16; 14] =
 /// Lengths at the edges.
 const LENGTHS: [u32; 10] = [0, 1, 2, 3, 4, 6, 1 << 16, 1 << 31, u32::MAX - 3, u32::MAX];
 
-/// The most bytes of a small body; some are not whole numbers.
-const SMALL_BODY: usize = 9;
 const RANDOM_BYTES: usize = 200;
 const RANDOM_RECORDS: usize = 24;
 
@@ -38,7 +36,7 @@ const OF_EACH: usize = 2;
 /// A problem, the Rust's lists of its matrix or the no at 1 to 5, and its answer without a file.
 struct Subject {
     problem: Problem,
-    lists: Result<Lists, Refusal>,
+    lists: Listed,
     plain: Answer,
 }
 
@@ -55,29 +53,12 @@ impl Subject {
     }
 
     fn ask(&self, file: &[u8]) -> Result<&Lists, Refusal> {
-        let lists = self.lists.as_ref().map_err(|&no| no)?;
-        ask_file(lists, file)?;
-        Ok(lists)
+        ask_listed(&self.lists, file)
     }
 
     /// W; 0 where the matrix is refused.
     fn words(&self) -> usize {
         self.lists.as_ref().map_or(0, |lists| lists.iter().map(Vec::len).sum())
-    }
-
-    /// Questions 1 to 6, then 8, and the plan with its file.
-    fn write(&self, index: usize, bytes: usize) -> Filed {
-        let whole = written(self.lists.as_ref().map_err(|&no| no)?);
-        if index < whole.words.len() {
-            return Err(Refusal::at(6, 0));
-        }
-        if bytes < whole.bytes.len() { Err(Refusal::at(8, 0)) } else { Ok(whole) }
-    }
-
-    /// Questions 1 to 5, 14 to 16, then 6, and the plan.
-    fn read(&self, file: &[u8], index: usize) -> Planned {
-        let words = self.ask(file)?.concat();
-        if index < words.len() { Err(Refusal::at(6, 0)) } else { Ok(words) }
     }
 
     /// Questions 1 to 5 with the number of values, 14 to 16, and then what a solve without a file has.
@@ -113,7 +94,7 @@ fn compare_file(comparison: &mut Comparison, random: &mut Random, kind: &str, su
 }
 
 fn compare_read(comparison: &mut Comparison, subject: &Subject, file: &[u8], index: usize) {
-    let wanted = subject.read(file, index);
+    let wanted = read_plan(&subject.lists, file, index);
     comparison.count("files read: static library");
     match read_in(&subject.problem.matrix, file, index) {
         Ok(told) if told == wanted => {}
@@ -125,7 +106,7 @@ fn compare_read(comparison: &mut Comparison, subject: &Subject, file: &[u8], ind
 }
 
 fn compare_write(comparison: &mut Comparison, subject: &Subject, index: usize, bytes: usize) {
-    let wanted = subject.write(index, bytes);
+    let wanted = write_plan(&subject.lists, index, bytes);
     comparison.count("files written with lengths varied: static library");
     match write_in(&subject.problem.matrix, index, bytes) {
         Ok(told) if told == wanted => {}
@@ -173,16 +154,6 @@ fn with_notes(random: &mut Random, records: &[Record], most: usize) -> Vec<Recor
     for _ in 0..random.between(1, most) {
         let note = any_note(random, records);
         noted.insert(random.below(noted.len() + 1), note);
-    }
-    noted
-}
-
-/// A note in every gap, bodies of 0, 1, 2 .. bytes.
-fn with_all_notes(records: &[Record]) -> Vec<Record> {
-    let note = |gap: usize| Record { kind: FIRST_NOTE + gap as u16, body: vec![gap as u8; gap % SMALL_BODY] };
-    let mut noted = vec![note(0)];
-    for (gap, record) in (1..).zip(records) {
-        noted.extend([record.clone(), note(gap)]);
     }
     noted
 }
@@ -239,12 +210,6 @@ const CHANGES: [(&str, Change); 11] = [
 fn any_of<'a>(random: &mut Random, records: &'a mut [Record]) -> &'a mut Record {
     let place = random.below(records.len());
     &mut records[place]
-}
-
-/// Where each record begins.
-fn starts(records: &[Record]) -> Vec<usize> {
-    let sizes = records.iter().map(|record| LENGTH + KIND + record.body.len());
-    sizes.scan(0, |end, size| Some(std::mem::replace(end, *end + size))).collect()
 }
 
 /// Something done to bytes that are at least one; `heads` are the places where records began.

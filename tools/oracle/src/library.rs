@@ -2,9 +2,8 @@
 //! libipm_c.a. It also looks at every buffer: what a no must leave, and what 11, 12 and acceptance must leave.
 
 use crate::backend::{Backend, Told};
-use crate::decide::{LENGTH, NUMBER as NUMBER_BYTES};
 use crate::extern_c::{ipm_costliest, ipm_plan, ipm_read_plan, ipm_sizes, ipm_solve, ipm_write_plan};
-use crate::file::{Filed, KIND, Written};
+use crate::file::{Filed, KIND, LENGTH, NUMBER as NUMBER_BYTES, Written};
 use crate::plan::{Counts, Measured, NAMES, Sizes, plan_words, work_numbers};
 use crate::problem::{Answer, LANES, Matrix, Planned, Problem, Refusal, all_settled_bits};
 use crate::questions::{Room, ask_plan};

@@ -3,12 +3,12 @@
 mod backend;
 mod cases;
 mod compare;
-#[cfg(ipm_c)]
 mod decide;
 #[cfg(ipm_c)]
 #[path = "../../../bindings/rust/src/extern_c.rs"]
 mod extern_c;
 mod file;
+mod file_cases;
 #[cfg(ipm_c)]
 mod files;
 #[cfg(ipm_c)]
@@ -51,7 +51,7 @@ const USAGE: &str = "usage: oracle COMMAND
   plan FILE [binary]                    the Rust's sixteen lists for each record: text, or u32 little-endian
   lanes FILE                            for each record the first test at which each lane is done
   compare [SEED] [SCALE]                everything beside everything; fails on a difference
-  cases FOLDER [SEED] [BYTES]           writes solve.bin and plan.bin, in pieces of at most BYTES
+  cases FOLDER [SEED] [BYTES]           writes solve.bin, plan.bin and files.bin, in pieces of at most BYTES
   odd                                   what the Rust does with inputs that are refused";
 
 const SEED: u64 = 20261104;
