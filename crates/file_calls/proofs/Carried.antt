@@ -76,7 +76,7 @@ module _ (m n : ℕ) (off cols : List ℕ) where
     file-whole file e = asked (wholeFile wide file) _ 14 0 0 (sym (one-by-one wide (matrixLists off cols m n) file) ∙ e) .0
 
     pub file-words : (file : List ℕ) → fileVerdict wide (matrixLists off cols m n) file ≡ passed → join (listsIn wide file) ≡ planWords off cols m n
-    file-words file e = ap join (files off cols m n ok .gives file e) ∙ files off cols m n ok .words
+    file-words file e = ap join (files off cols m n ok .gives file e) ∙ files off cols m n ok .planned
 
     -- the plan and the old rest
     pub words-after : (file old new : List ℕ) (r : ℕ) → fileVerdict wide (matrixLists off cols m n) file ≡ passed → sizeW off cols m n ≤ length old

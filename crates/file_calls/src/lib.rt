@@ -82,12 +82,12 @@ fn read_accepted(
     ensures { λ r. ⌜ Answered m n (now (offsets .entry)) (now (columns .entry)) (now (index .entry)) (now (index .exit)) (toldPlan r) ⌝ }
 {
     let plan = counts::plan_sizes(m, n, 0, offsets, columns);
-    let words = plan.words();
-    if index.len() < words {
+    let count = plan.words();
+    if index.len() < count {
         return PlanAnswer::Refused(Refusal::new(Refusal::INDEX_MEMORY, 0, 0));
     }
     file_copy::copy_plan(file, index);
-    PlanAnswer::Planned(words)
+    PlanAnswer::Planned(count)
 }
 
 // Questions 1 to 5, 14 to 16 and 6, and after these the plan. Any numbers, any lists, any bytes.

@@ -8,14 +8,10 @@ ghost use Rattle.plan_file.specs.Tables.{wide};
 ghost use Rattle.plan_file.specs.Verdicts.{wholeFile, listsIn};
 ghost use Rattle.file_numbers.specs.Agree.{numbersOf};
 ghost use Rattle.file_copy.specs.Copied.{givenWords, Words};
+use plan_file::HEAD_BYTES;
+use plan_file::LENGTH_BYTES;
 use plan_file::Meaning;
-
-const LENGTH_BYTES: usize = 4;
-
-// The bytes of a record before its body.
-const HEAD_BYTES: usize = 6;
-
-const WORD_BYTES: usize = 4;
+use plan_file::WORD_BYTES;
 
 // The numbers of a body, and the place after them.
 fn copy_body(body: &[u8], index: &mut [u32], start: usize) -> usize

@@ -6,8 +6,7 @@ ghost use Prim.Native.Nat.{_+_, _≤_, _<_};
 ghost use lib.ListN.{length, getD, take};
 ghost use Rattle.base.specs.Sums.{one};
 ghost use Rattle.file_numbers.specs.Agree.{numbersOf, agree};
-
-const WORD_BYTES: usize = 4;
+use plan_file::WORD_BYTES;
 
 // How many there are.
 pub fn count(body: &[u8]) -> usize

@@ -11,12 +11,9 @@ ghost use Rattle.file_lists.specs.Known.{Known};
 ghost use Rattle.file_questions.specs.Sized.{Sized};
 ghost use Rattle.file_questions.specs.Takes.{Takes};
 use layout::Plan;
+use plan_file::HEAD_BYTES;
+use plan_file::LENGTH_BYTES;
 use plan_file::Meaning;
-
-const LENGTH_BYTES: usize = 4;
-
-// The bytes of a record before its body.
-const HEAD_BYTES: usize = 6;
 
 // What is asked of one record.
 fn is_record(

@@ -4,14 +4,13 @@ ghost use Prim.Native.Nat.{_+_, _<_, _≤_};
 ghost use Rattle.plan_file.specs.Tables.{wide, widthOf};
 ghost use Rattle.plan_file.specs.Verdicts.{wholeBody, isNext, after};
 use plan_file::Meaning;
+use plan_file::WORD_BYTES;
 
 const FIRST_NOTE: usize = 0x8000;
 
 pub const LISTS: usize = 16;
 
 const FIRST: usize = 1;
-
-const WORD_BYTES: usize = 4;
 
 // What a kind means: each list has numbers of four bytes.
 pub fn wide_meaning(kind: usize) -> Meaning

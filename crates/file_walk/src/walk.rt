@@ -6,10 +6,8 @@ ghost use lib.ListN.{length};
 ghost use Rattle.plan_file.specs.Tables.{wide};
 ghost use Rattle.plan_file.specs.Verdicts.{wholeFile, orderedFile};
 use crate::kinds;
-
-const LENGTH_BYTES: usize = 4;
-
-const KIND_BYTES: usize = 2;
+use plan_file::KIND_BYTES;
+use plan_file::LENGTH_BYTES;
 
 // Question 14: is no record cut short, none shorter than its kind, and each list's body whole?
 pub fn is_whole(file: &[u8]) -> bool

@@ -12,16 +12,15 @@ ghost use Rattle.file_write.specs.Writable.{Writable};
 mod records;
 
 use layout::Plan;
-
-// The bytes of a record before its body.
-const HEAD_BYTES: usize = 6;
+use plan_file::HEAD_BYTES;
+use plan_file::WORD_BYTES;
 
 // The bytes of the file of a plan with so many words.
 pub fn file_bytes(words: usize) -> usize
     requires { ⌜ 4 * words + 96 ≤ topWord ⌝ }
     ensures { λ r. ⌜ r ≡ 4 * words + 96 ⌝ }
 {
-    records::WORD_BYTES * words + HEAD_BYTES * Plan::LISTS
+    WORD_BYTES * words + HEAD_BYTES * Plan::LISTS
 }
 
 // The sixteen records of the lists that stand one after the other in the index memory, and the place after them.

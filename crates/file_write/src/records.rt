@@ -5,17 +5,15 @@ ghost use lib.ListN.{length};
 ghost use Rattle.base.specs.Cat.{Wrote};
 ghost use Rattle.plan_file.specs.Bytes.{bytesOf, words};
 ghost use Rattle.plan_file.specs.Records.{headOf, recordOf};
+use plan_file::KIND_BYTES;
+use plan_file::WORD_BYTES;
 
 const BYTE: usize = 256;
 
 const SHORT: usize = 65_536;
 
-// The bytes of a number of 16 bits and of one of 32; a record's kind is one of 16.
+// The bytes of a number of 16 bits.
 const SHORT_BYTES: usize = 2;
-
-pub const WORD_BYTES: usize = 4;
-
-const KIND_BYTES: usize = SHORT_BYTES;
 
 fn put16(file: &mut [u8], at: usize, x: usize) -> usize
     requires { ⌜ at + 2 ≤ length (now file) ⌝ }

@@ -1,27 +1,29 @@
 -- A WRITTEN FILE THAT IS CUT, and one that has other lists. Assumes nothing.
-use mathlib.Core.Path.{_≡_, refl, sym, ap, _∙_}
+use mathlib.Core.Path.{_≡_, refl, sym, ap, ap₂, _∙_}
 use mathlib.Core.Logic.{_⊎_, inl, inr}
 use mathlib.Core.Bool.{Bool, true, false, cond, _&&_}
 use mathlib.Core.List.{List, [], _∷_, _++_}
-use Prim.Native.Nat.{ℕ, zero, suc, _+_, _*_, _-_, _^_, _<_, _≤_}
+use Prim.Native.Nat.{ℕ, zero, suc, _+_, _*_, _-_, _/_, _%_, _^_, _<_, _≤_}
 use native.Mathlib.Omega.{arith}
+use native.Mathlib.Nat.{mul-suc}
 use borrow.Author.Tests.{eq-eqb, ne-eqb, leb-true, leb-false, lt-leb, le-leb}
 use lib.Dec.{eqb, leb}
-use lib.ListN.{length, take, length-append}
+use lib.ListN.{length, take, drop, length-append, length-drop}
 use lib.Seq.{take-take, take-append-add, length-take-le}
 use Rattle.base.proofs.Bools.{and-in}
 use Rattle.csr.specs.Verdict.{Verdict, passed, refused, ask}
-use Rattle.plan_file.specs.Bytes.{number, words}
+use Rattle.base.specs.Numbers.{Below}
+use Rattle.plan_file.specs.Bytes.{number, words, numbers, numbersIn, Bytes}
 use Rattle.plan_file.specs.Records.{Entry, recordOf, lengthAt, restAt, firstAt, startsWhole, Cut, short, whole, also, recordsUpTo, recordsOf}
 use Rattle.plan_file.specs.declared.Meaning.{Meaning}
 use Rattle.plan_file.specs.declared.Meaning.the-variants.{Listed}
-use Rattle.plan_file.specs.Tables.{Table}
+use Rattle.plan_file.specs.Tables.{Table, wide}
 use Rattle.plan_file.specs.Verdicts.{wholeBody, wholeBodies, isNext, after, inOrder, areMatrixs, asked, fileVerdict, wholeFile, orderedFile, matrixsFile, Sound, Fitting, listsFrom}
-use Rattle.plan_file.specs.Written.{Writer, writtenFrom, writtenFile}
-use Rattle.plan_file.proofs.Numbers.{length-words, whole-words}
+use Rattle.plan_file.specs.Written.{Writer, wideWriter, writtenFrom, writtenFile, recordsWith}
+use Rattle.plan_file.proofs.Numbers.{length-words, whole-words, words-in-numbers, number-under, bytes-take, bytes-drop, length-numbers}
 use Rattle.plan_file.proofs.Parse.{length-record, length-at, cut-first, cut-record, no-length, no-room}
 use Rattle.plan_file.proofs.Yes.{passes-gives}
-use Rattle.plan_file.proofs.Files.{Numbered, Writes, one-by-one, written-noted, noted-passes}
+use Rattle.plan_file.proofs.Files.{Numbered, Writes, wide-sound, wide-writes, wide-fitting, one-by-one, written-noted, noted-passes}
 
 -- ---- a record that is cut
 
@@ -200,3 +202,43 @@ module _ (t : Table) (wr : Writer) (lists : ℕ → List ℕ) (sound : Sound t) 
       go true e =
           let yes : fileVerdict t matrix file ≡ passed = one-by-one t matrix file ∙ there (matrixsFile t matrix file) ∙ ap (λ (b : Bool). ask b passed (refused 16 0 0)) e in
           absurd (ne (pick-list lists matrix 16 1 k (sym (passes-gives t lists file own) ∙ passes-gives t matrix file yes) l (omega arith)))
+
+-- ---- A WRITTEN FILE WITH OTHER BYTES IN A BODY MEETS 16
+
+-- bodies of whole words are those of their numbers
+with-words : (bodies : ℕ → List ℕ) → ((k : ℕ) → Bytes (bodies k)) → ((k : ℕ) → length (bodies k) % 4 ≡ 0)
+    → (n k : ℕ) → recordsWith bodies k n ≡ writtenFrom wideWriter (λ j. numbersIn 4 (bodies j)) k n
+unfolding recordsWith writtenFrom
+with-words bodies b h zero k = refl
+with-words bodies b h (suc n) k =
+    ap₂ (λ (x y : List ℕ). recordOf k x ++ y) (sym (words-in-numbers 4 (bodies k) (b k) (h k))) (with-words bodies b h n (suc k))
+
+pub own-bodies : (lists : ℕ → List ℕ) (n k : ℕ) → recordsWith (λ j. words 4 (lists j)) k n ≡ writtenFrom wideWriter lists k n
+unfolding recordsWith writtenFrom
+own-bodies lists zero k = refl
+own-bodies lists (suc n) k = ap (λ (y : List ℕ). recordOf k (words 4 (lists k)) ++ y) (own-bodies lists n (suc k))
+
+numbers-low : (w n : ℕ) (s : List ℕ) → Bytes s → w * n ≤ length s → Below (256 ^ w) (numbers w n s)
+unfolding numbers
+numbers-low w zero s b h = tt
+numbers-low w (suc n) s b h = (
+  number-under w (take w s) (bytes-take w s b) (length-take-le w s (omega (arith, mul-suc w n))),
+  numbers-low w n (drop w s) (bytes-drop w s b) (omega (arith, length-drop w s, mul-suc w n)),
+)
+
+module _ (lists bodies : ℕ → List ℕ) (small : (k : ℕ) → 2 + 4 * length (lists k) < 2 ^ 32)
+    (b : (k : ℕ) → Bytes (bodies k)) (long : (k : ℕ) → length (bodies k) ≡ 4 * length (lists k)) where
+  whole-words-in : (k : ℕ) → length (bodies k) % 4 ≡ 0
+  whole-words-in k = omega (arith, long k)
+
+  as-many : (k : ℕ) → length (numbersIn 4 (bodies k)) ≡ length (lists k)
+  as-many k = length-numbers 4 (length (bodies k) / 4) (bodies k) ∙ omega (arith, long k)
+
+  fits : Fitting wide (λ k. numbersIn 4 (bodies k))
+  fits = wide-fitting (λ k. numbersIn 4 (bodies k)) (λ k h. omega (arith, small k, as-many k)) (λ k h. numbers-low 4 (length (bodies k) / 4) (bodies k) (b k) (omega arith))
+
+  pub body-refused : (k : ℕ) → 1 ≤ k → k ≤ 16 → (bodies k ≡ words 4 (lists k) → ⊥) → fileVerdict wide lists (recordsWith bodies 1 16) ≡ refused 16 0 0
+  body-refused k l h ne =
+      ap (fileVerdict wide lists) (with-words bodies b whole-words-in 16 1)
+      ∙ other-refused wide wideWriter (λ j. numbersIn 4 (bodies j)) wide-sound fits wide-writes lists k l h
+      (λ e. ne (sym (words-in-numbers 4 (bodies k) (b k) (whole-words-in k)) ∙ ap (words 4) e))

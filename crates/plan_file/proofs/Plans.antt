@@ -6,6 +6,7 @@ use native.Mathlib.Omega.{arith}
 use lib.ListN.{length, getD, length-append}
 use Rattle.base.specs.Cat.{join}
 use Rattle.csr.specs.Csr.{Accepted}
+use Rattle.csr.proofs.Yes.{accepted-of}
 use Rattle.csr.specs.Counts.{sizeW, Counted}
 use Rattle.layout.specs.declared.Plan.{Plan}
 use Rattle.layout.specs.Lists.{sizesOf}
@@ -19,11 +20,11 @@ use Rattle.plan_file.specs.Tables.{wide}
 use Rattle.plan_file.specs.Verdicts.{listsFrom}
 use Rattle.plan_file.specs.Written.{wideWriter, wordsIn}
 use Rattle.plan_file.specs.Matrix.{matrixLists}
-use Rattle.plan_file.specs.Promises.{planFile, Files}
+use Rattle.plan_file.specs.Promises.{planFile, Files, All-files}
 use Rattle.plan_file.proofs.Yes.{passes-gives, passes-iff}
 use Rattle.plan_file.proofs.Files.{size-wide, wide-sound, wide-writes, written-noted, noted-passes}
-use Rattle.plan_file.proofs.Bounds.{wide-fits}
-use Rattle.plan_file.proofs.Cuts.{cut-refused, other-refused}
+use Rattle.plan_file.proofs.Bounds.{sixteen-long, wide-fits}
+use Rattle.plan_file.proofs.Cuts.{cut-refused, other-refused, own-bodies, body-refused}
 
 pub words-joined : (lists : ℕ → List ℕ) (n k : ℕ) → wordsIn lists k n ≡ length (join (listsFrom lists k n))
 unfolding listsFrom wordsIn
@@ -78,8 +79,13 @@ module _ (off cols : List ℕ) (m n : ℕ) where
       yes = noted-passes wide wideWriter (matrixLists off cols m n) wide-sound (wide-fits off cols m n ok) wide-writes;
       plain = written-noted wide wideWriter (matrixLists off cols m n);
       gives = passes-gives wide (matrixLists off cols m n);
-      words = joined-plan;
+      planned = joined-plan;
       bytes = file-bytes;
       cuts = cut-refused wide wideWriter (matrixLists off cols m n) wide-sound (wide-fits off cols m n ok) wide-writes (matrixLists off cols m n);
       others = λ lists fit. other-refused wide wideWriter lists wide-sound fit wide-writes (matrixLists off cols m n);
+      flipped = λ bodies b long. body-refused (matrixLists off cols m n) bodies (sixteen-long off cols m n ok) b long;
+      own = own-bodies (matrixLists off cols m n) 16 1;
     }
+
+pub all-files : All-files
+all-files m n off cols values e = files off cols m n (accepted-of m n off cols values e)

@@ -46,6 +46,8 @@ rows =
     row (good ++ recordOf 16 (words 4 (self 16))) (refused 15 0 0) ∷
     -- a cut at the end is found before a wrong order at the start
     row (recordOf 2 (words 4 (self 3)) ++ (9 ∷ [])) (refused 14 0 0) ∷
+    -- a list that is missing is found before a wrong number
+    row (writtenFrom wideWriter (λ k. (k + 1) ∷ []) 1 15) (refused 15 0 0) ∷
     -- other numbers
     row (writtenFile wideWriter (λ k. (k + 1) ∷ [])) (refused 16 0 0) ∷ []
 

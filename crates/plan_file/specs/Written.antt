@@ -26,6 +26,12 @@ writtenFrom wr lists k (suc n) =
 abbrev pub writtenFile : Writer → (ℕ → List ℕ) → List ℕ
 writtenFile wr lists = writtenFrom wr lists 1 16
 
+-- n records of these bodies, from kind k on
+unfoldable pub recordsWith : (ℕ → List ℕ) → ℕ → ℕ → List ℕ
+unfolding recordOf
+recordsWith bodies k zero = []
+recordsWith bodies k (suc n) = recordOf k (bodies k) ++ recordsWith bodies (suc k) n
+
 -- 'whatever whole notes a newer writer adds around its records': the records from list number k on, with whole notes anywhere around them
 pub data Noted (wr : Writer) (lists : ℕ → List ℕ) : ℕ → List ℕ → Type 0 where
   last : Noted wr lists 17 []
