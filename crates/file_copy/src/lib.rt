@@ -8,8 +8,6 @@ ghost use Rattle.plan_file.specs.Tables.{wide};
 ghost use Rattle.plan_file.specs.Verdicts.{wholeFile, listsIn};
 ghost use Rattle.file_numbers.specs.Agree.{numbersOf};
 ghost use Rattle.file_copy.specs.Copied.{givenWords, Words};
-use plan_file::HEAD_BYTES;
-use plan_file::LENGTH_BYTES;
 use plan_file::Meaning;
 use plan_file::WORD_BYTES;
 
@@ -47,10 +45,10 @@ pub fn copy_plan(file: &[u8], index: &mut [u32]) -> usize
     let mut at = 0;
     let mut to = 0;
     while at < file.len() {
-        let size = record::le32(file, at);
-        let meaning = file_walk::wide_meaning(record::le16(file, at + LENGTH_BYTES));
-        let body = at + HEAD_BYTES;
-        let end = at + LENGTH_BYTES + size;
+        let r = file_walk::record_at(file, at);
+        let meaning = r.meaning;
+        let body = r.body;
+        let end = r.end;
         to = copy_record(meaning, &file[body..end], index, to);
         at = end;
     }

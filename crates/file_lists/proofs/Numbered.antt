@@ -5,9 +5,9 @@ use mathlib.Core.List.{List}
 use Prim.Native.Nat.{ℕ, zero, suc, _+_, _-_, _<_, _≤_}
 use native.Mathlib.Omega.{arith}
 use borrow.Author.Tests.{lt-ltb, le-ltb}
-use lib.ListN.{length}
+use lib.ListN.{length, getD}
 use Rattle.base.specs.Sums.{sum}
-use Rattle.csr.specs.Counts.{countE, countS, countD, Counted}
+use Rattle.csr.specs.Counts.{countE}
 use Rattle.pattern.specs.Word.{bit}
 use Rattle.lists.specs.Lists.{shape, holds, entry, listOf, endsOf, columnsOf, field}
 use Rattle.pattern.specs.Ready.{Ready}
@@ -16,7 +16,11 @@ use Rattle.lists.specs.declared.Which.{Which}
 use Rattle.lists.specs.declared.Side.the-variants.{Factor, Matrix}
 use Rattle.lists.specs.declared.What.{What}
 use Rattle.lists.specs.declared.What.the-variants.{Numbers, Places}
-use Rattle.lists.proofs.Sizes.{sizeOf, size-list, length-columns, matrix-entries, factor-entries}
+use Rattle.lists.proofs.Sizes.{length-columns, matrix-entries, factor-entries}
+use Rattle.lists.proofs.Few.{few-stored, few-shared, few-products}
+use Rattle.layout.specs.declared.Plan.{Plan}
+use Rattle.layout.specs.Layout.{topWord}
+use Rattle.layout.specs.Lists.{sizesOf, wordsAt}
 use Rattle.transpose.specs.Bins.{roomOf}
 use Rattle.transpose.proofs.Count.{cols-are, cols-long}
 use Rattle.pair_lists.specs.Kept.{Rows}
@@ -24,6 +28,8 @@ use Rattle.pair_lists.proofs.Factor.{ends-same, columns-same}
 use Rattle.plan_file.specs.Verdicts.{same}
 use Rattle.plan_file.specs.Matrix.{sixAt, matrixLists}
 use Rattle.plan_file.proofs.Yes.{same-out}
+use Rattle.plan_file.proofs.Plans.{sizes-are}
+use Rattle.file_lists.specs.Known.{Known}
 use Rattle.file_lists.specs.Matched.{entriesOf}
 use Rattle.file_lists.specs.Sizes.{whatOf, sideList}
 
@@ -33,13 +39,6 @@ not-long s l n = go (same s l) refl
     go : (b : Bool) → same s l ≡ b → false ≡ b
     go false e = refl
     go true e = absurd (n (ap length (same-out s l e)))
-
--- the sizes of a list of pairs, by E, S and D
-pub size-is : (w v : Which) (m e s d r : ℕ) → w ≡ v → r ≡ sizeOf v m e s d → (off cols : List ℕ) → Counted off cols m e s d → r ≡ length (listOf (shape off cols) w m)
-size-is w v m e s d r q h off cols t = h ∙ ap (λ (x : Which). sizeOf x m e s d) (sym q) ∙ counted (t .stored) (t .shared) (t .products) ∙ sym (size-list off cols m w)
-  where
-    counted : e ≡ countE off cols m → s ≡ countS off cols m → d ≡ countD off cols m → sizeOf w m e s d ≡ sizeOf w m (countE off cols m) (countS off cols m) (countD off cols m)
-    counted x y z = ap (λ (k : ℕ). sizeOf w m k s d) x ∙ ap (λ (k : ℕ). sizeOf w m (countE off cols m) k d) y ∙ ap (λ (k : ℕ). sizeOf w m (countE off cols m) (countS off cols m) k) z
 
 pub what-places : (k : ℕ) → 0 < k → (k ≡ 1 → ⊥) → Places ≡ whatOf k
 what-places zero h n = absurd (omega arith)
@@ -105,3 +104,17 @@ module _ (off cols : List ℕ) (m n : ℕ) (ok : Accepted off cols m n) where
     pub factor-room : (e : ℕ) → e ≡ countE off cols m → e ≡ sum m (roomOf lindptr lindices m)
     factor-room e q =
         q ∙ sym (sym (cols-long lindptr lindices m m Numbers) ∙ ap length (cols-are lindptr lindices m m Numbers ∙ columns-same off cols m p ready lindptr lindices v Numbers) ∙ factor-long)
+
+-- ---- the sizes of the lists
+
+module _ {off cols : List ℕ} {plan : Plan} {p lindptr lindices : List ℕ} (known : Known off cols plan p lindptr lindices) where
+  pub words-fit : wordsAt plan ≤ topWord
+  words-fit =
+      let ok = known .accepted in
+      omega (arith, ok .csr .few, ok .offsets .few, ok .wide, known .entries, known .counts .stored, known .counts .shared, known .counts .products, few-stored off cols (plan .m) (ok .csr), few-shared off cols (plan .m) (ok .csr) (ok .offsets .few), few-products off cols (plan .m) (ok .csr))
+
+  pub size-at : (k : ℕ) → 1 ≤ k → k ≤ 16 → getD (sizesOf plan) (k - 1) 0 ≡ length (matrixLists off cols (plan .m) (plan .n) k)
+  size-at k l h =
+      let z : suc (k - 1) ≡ k = omega arith in
+      sizes-are off cols (plan .m) (plan .n) (known .accepted) plan (known .counts) refl refl (known .entries) (k - 1) (omega arith)
+      ∙ ap (λ (j : ℕ). length (matrixLists off cols (plan .m) (plan .n) j)) z

@@ -4,10 +4,6 @@ ghost use mathlib.Core.List.{List};
 ghost use Prim.Native.Nat.{ℕ, _+_, _<_, _≤_};
 ghost use lib.ListN.{length};
 ghost use Rattle.base.specs.Sums.{sum};
-ghost use Rattle.csr.specs.Csr.{maxStored};
-ghost use Rattle.csr.specs.Counts.{Counted};
-ghost use Rattle.csr.specs.Questions.{maxRows};
-ghost use Rattle.lists.specs.Lists.{shape, listOf};
 ghost use Rattle.transpose.specs.Bins.{Room, roomOf, Grid, colsOf};
 ghost use Rattle.plan_file.specs.Matrix.{matrixLists};
 ghost use Rattle.plan_file.specs.Verdicts.{same};
@@ -21,32 +17,10 @@ mod pairs;
 use layout::Plan;
 use lists::Side;
 use lists::What;
-use lists::Which;
-
-// How long a list of pairs is.
-fn words_of(which: Which, plan: Plan) -> usize
-    requires { ⌜ (plan .m ≤ maxRows) × (plan .stored ≤ maxStored) ⌝ }
-    ensures { λ r. ⌜ ((off cols : List ℕ) → Counted off cols (plan .m) (plan .stored) (plan .shared) (plan .products) → r ≡ length (listOf (shape off cols) which (plan .m))) ⌝ }
-{
-    let m = plan.m;
-    let e = plan.stored;
-    match which {
-        Which::AnormIndptr => e + 1,
-        Which::AnormIndptrI => plan.shared,
-        Which::AnormIndptrJ => plan.shared,
-        Which::AnormIndices => plan.shared,
-        Which::LdecompIndptr => e + 1,
-        Which::LdecompIndptrI => plan.products,
-        Which::LdecompIndptrJ => plan.products,
-        Which::Lindptr => m + 1,
-        Which::LdiagIndptr => m,
-        Which::Lindices => e,
-    }
-}
 
 // One of the ten lists of pairs.
 fn is_pair_list(
-    which: Which,
+    k: usize,
     body: &[u8],
     off: &[u32],
     cols: &[u32],
@@ -57,15 +31,18 @@ fn is_pair_list(
     mark: &mut [u32],
     made: &mut [u32],
 ) -> bool
-    requires { ⌜ Known (now off) (now cols) plan (now p) (now lindptr) (now lindices) × (plan .n ≤ length (now mark)) × Room (plan .m) (plan .n) (now made) ⌝ }
-    ensures { λ r. ⌜ r ≡ same (numbersOf (now (body .entry))) (listOf (shape (now (off .entry)) (now (cols .entry))) which (plan .m)) ⌝ }
+    requires { ⌜ (1 ≤ k) × (k ≤ 10) × Known (now off) (now cols) plan (now p) (now lindptr) (now lindices) × (plan .n ≤ length (now mark)) × Room (plan .m) (plan .n) (now made) ⌝ }
+    ensures { λ r. ⌜ r ≡ same (numbersOf (now (body .entry))) (matrixLists (now (off .entry)) (now (cols .entry)) (plan .m) (plan .n) k) ⌝ }
 {
-    if file_numbers::count(body) != words_of(which, plan) {
+    let sizes = plan.sizes();
+    let field = k - 1;
+    if file_numbers::count(body) != sizes[field] {
         return false;
     }
     let m = plan.m;
     let n = plan.n;
     base::clear(mark, n);
+    let which = lists::which_field(field);
     pairs::same_list(which, off, cols, m, p, lindptr, lindices, mark, made, body)
 }
 
@@ -175,7 +152,7 @@ fn is_column_list(
     )
 }
 
-// List number k, 1 to 16. What the three memories hold after is open.
+// List number k, 1 to 16. What the three memories hold after is open, here and in what it calls: each list clears or writes them first.
 pub fn is_list(
     k: usize,
     body: &[u8],
@@ -206,17 +183,5 @@ pub fn is_list(
             made,
         );
     }
-    let which = lists::which_field(k - 1);
-    is_pair_list(
-        which,
-        body,
-        off,
-        cols,
-        plan,
-        p,
-        lindptr,
-        lindices,
-        next,
-        made,
-    )
+    is_pair_list(k, body, off, cols, plan, p, lindptr, lindices, next, made)
 }

@@ -11,11 +11,9 @@ ghost use Rattle.file_lists.specs.Known.{Known};
 ghost use Rattle.file_questions.specs.Sized.{Sized};
 ghost use Rattle.file_questions.specs.Takes.{Takes};
 use layout::Plan;
-use plan_file::HEAD_BYTES;
-use plan_file::LENGTH_BYTES;
 use plan_file::Meaning;
 
-// What is asked of one record.
+// What is asked of one record. What the three memories hold after is open, as in `file_lists::is_list`.
 fn is_record(
     meaning: Meaning,
     body: &[u8],
@@ -69,10 +67,10 @@ fn is_file(
 {
     let mut at = 0;
     while at < file.len() {
-        let size = record::le32(file, at);
-        let meaning = file_walk::wide_meaning(record::le16(file, at + LENGTH_BYTES));
-        let body = at + HEAD_BYTES;
-        let end = at + LENGTH_BYTES + size;
+        let r = file_walk::record_at(file, at);
+        let meaning = r.meaning;
+        let body = r.body;
+        let end = r.end;
         if !is_record(
             meaning,
             &file[body..end],

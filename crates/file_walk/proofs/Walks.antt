@@ -18,6 +18,7 @@ use Rattle.plan_file.specs.declared.Meaning.the-variants.{Listed, Note, Neither
 use Rattle.plan_file.specs.Tables.{Table}
 use Rattle.plan_file.specs.Verdicts.{wholeBody, wholeBodies, wholeCut, wholeFile, isNext, after, inOrder, orderedCut, orderedFile}
 use Rattle.plan_file.proofs.Little.{le2-is, le4-is}
+use Rattle.file_walk.specs.Headed.{Headed}
 use Rattle.plan_file.proofs.Parse.{records-first, no-length, no-room, Starts, starts-out, body-length}
 
 -- ---- the record's fields by their places
@@ -133,13 +134,6 @@ module _ (t : Table) where
             }
 
 -- ---- a record of a file that got a yes at 14
-
--- a record stands there
-pub record Headed (file : List ℕ) (at : ℕ) : Type 0 where
-  pub four : at + 4 ≤ length file
-  pub six : at + 4 + 2 ≤ length file
-  pub kinded : 2 ≤ le4 file at
-  pub room : at + 4 + le4 file at ≤ length file
 
 module _ (t : Table) (file : List ℕ) (at : ℕ) (good : wholeFile t (drop at file) ≡ true) (more : at < length file) where
   bytes-left : length (drop at file) ≡ length file - at

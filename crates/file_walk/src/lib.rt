@@ -2,6 +2,7 @@
 mod kinds;
 mod walk;
 
-pub use kinds::wide_meaning;
+pub use walk::Record;
 pub use walk::is_ordered;
 pub use walk::is_whole;
+pub use walk::record_at;

@@ -4,10 +4,13 @@ ghost use mathlib.Core.Bool.{true};
 ghost use Prim.Native.Nat.{_+_, _≤_};
 ghost use lib.ListN.{length};
 ghost use Rattle.plan_file.specs.Tables.{wide};
+ghost use Rattle.file_walk.specs.Headed.{Headed, recordAt};
 ghost use Rattle.plan_file.specs.Verdicts.{wholeFile, orderedFile};
 use crate::kinds;
+use plan_file::HEAD_BYTES;
 use plan_file::KIND_BYTES;
 use plan_file::LENGTH_BYTES;
+use plan_file::Meaning;
 
 // Question 14: is no record cut short, none shorter than its kind, and each list's body whole?
 pub fn is_whole(file: &[u8]) -> bool
@@ -35,6 +38,27 @@ pub fn is_whole(file: &[u8]) -> bool
     true
 }
 
+// A record of a file that got a yes at 14: what its kind means, and where its body begins and ends.
+pub struct Record {
+    pub meaning: Meaning,
+    pub body: usize,
+    pub end: usize,
+}
+
+// The record that stands at a place.
+pub fn record_at(file: &[u8], at: usize) -> Record
+    requires { ⌜ Headed (now file) at ⌝ }
+    ensures { λ r. ⌜ r ≡ recordAt (now (file .entry)) at ⌝ }
+{
+    let size = record::le32(file, at);
+    let meaning = kinds::wide_meaning(record::le16(file, at + LENGTH_BYTES));
+    Record {
+        meaning,
+        body: at + HEAD_BYTES,
+        end: at + LENGTH_BYTES + size,
+    }
+}
+
 // Question 15, after a yes at 14: is each record the next list or a note, and the sixteenth list there?
 pub fn is_ordered(file: &[u8]) -> bool
     requires { ⌜ wholeFile wide (now file) ≡ true ⌝ }
@@ -43,13 +67,13 @@ pub fn is_ordered(file: &[u8]) -> bool
     let mut at = 0;
     let mut next = 1;
     while at < file.len() {
-        let size = record::le32(file, at);
-        let m = kinds::wide_meaning(record::le16(file, at + LENGTH_BYTES));
+        let r = record_at(file, at);
+        let m = r.meaning;
         if !kinds::is_next(m, next) {
             return false;
         }
         next = kinds::after_one(m, next);
-        at = at + LENGTH_BYTES + size;
+        at = r.end;
     }
     next == kinds::LISTS + 1
 }

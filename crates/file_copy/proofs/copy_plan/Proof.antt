@@ -1,12 +1,14 @@
 -- `file_copy::copy_plan` meets its contract. Assumes nothing.
-use mathlib.Core.Path.{_≡_, sym, subst}
-use Prim.Native.Nat.{_-_}
+use mathlib.Core.Path.{_≡_, refl, ap}
+use Prim.Native.Nat.{_+_, _-_}
 use native.Mathlib.Omega.{arith}
 use lib.ListN.{length}
+use Rattle.record.specs.Little.{le2, le4}
 use Rattle.base.proofs.Write.{same-long}
 use Rattle.plan_file.specs.Tables.{wide}
-use Rattle.file_walk.proofs.Walks.{Headed, headed}
-use Rattle.file_copy.specs.Copied.{Words}
+use Rattle.file_walk.specs.Headed.{Headed}
+use Rattle.file_walk.specs.declared.walk.Record.{Record}
+use Rattle.file_walk.proofs.Walks.{headed}
 use Rattle.file_copy.proofs.Copies.{words-wide, Copying, copying-none, copying-all, next-fits, copying-on}
 use Rattle.file_copy.proofs.copy_plan.Statement.{statement}
 use Rattle.file_copy.proofs.copy_plan.Tie as tie
@@ -24,47 +26,28 @@ there c = headed wide (c .before .before .before .before .args .file .now) (c .b
 loop-holds : tie.Need-loop-holds Inv-loop μ-loop
 loop-holds c = copying-none wide (c .before .before .args .file .now) (c .before .before .args .index .now) (c .before .before .pre .0)
 
-le32-requires : tie.Need-le32-requires Inv-loop μ-loop
-le32-requires c κs = there c .four
-
-add-le16 : tie.Need-add-le16 Inv-loop μ-loop
-add-le16 c = omega (arith, there (c .before) .four)
-
-le16-requires : tie.Need-le16-requires Inv-loop μ-loop
-le16-requires c κs = there (c .before) .six
-
-wide-meaning-requires : tie.Need-wide-meaning-requires Inv-loop μ-loop
-wide-meaning-requires c κs = tt
-
-add-body : tie.Need-add-body Inv-loop μ-loop
-add-body c = omega (arith, there (c .before .before .before) .six)
-
-add-end : tie.Need-add-end Inv-loop μ-loop
-add-end c = omega (arith, there (c .before .before .before) .six)
-
-add-end-2 : tie.Need-add-end-2 Inv-loop μ-loop
-add-end-2 c = omega (arith, there (c .before .before .before) .room, c .before .before .le32 .ensures .0)
+record-at-requires : tie.Need-record-at-requires Inv-loop μ-loop
+record-at-requires c κs = there c
 
 sub-copy-record : tie.Need-sub-copy-record Inv-loop μ-loop
-sub-copy-record c = omega (arith, there (c .before .before .before) .kinded, c .before .before .le32 .ensures .0)
+sub-copy-record c = omega (arith, there (c .before) .kinded, ap (λ (r : Record). r .end) (c .record-at .ensures), ap (λ (r : Record). r .body) (c .record-at .ensures))
 
 part-copy-record-start : tie.Need-part-copy-record-start Inv-loop μ-loop
-part-copy-record-start c = omega (arith, there (c .before .before .before) .kinded, there (c .before .before .before) .room, c .before .before .le32 .ensures .0)
+part-copy-record-start c = omega (arith, there (c .before) .kinded, there (c .before) .room, ap (λ (r : Record). r .end) (c .record-at .ensures), ap (λ (r : Record). r .body) (c .record-at .ensures))
 
 part-copy-record-end : tie.Need-part-copy-record-end Inv-loop μ-loop
-part-copy-record-end c = omega (arith, there (c .before .before .before) .kinded, there (c .before .before .before) .room, c .before .before .le32 .ensures .0)
+part-copy-record-end c = omega (arith, there (c .before) .kinded, there (c .before) .room, ap (λ (r : Record). r .end) (c .record-at .ensures), ap (λ (r : Record). r .body) (c .record-at .ensures))
 
 copy-record-requires : tie.Need-copy-record-requires Inv-loop μ-loop
-copy-record-requires c κs = (
-  subst Words (sym (c .before .before .wide-meaning .ensures)) (words-wide (c .before .before .before .le16 .result)),
-  omega (arith, same-long (c .before .before .before .before .before .before .loop .inv .wrote), next-fits wide (c .before .before .before .before .before .before .before .before .before .args .file .now) (c .before .before .before .before .before .before .before .before .before .args .index .now) (c .before .before .before .before .before .before .loop .index) (c .before .before .before .before .before .before .loop .at) (c .before .before .before .before .before .before .loop .to) (c .before .before .before .before .before .before .loop .inv) (c .before .before .before .before .before .loop-test .taken) (c .before .before .before .before .le32 .result) (c .before .before .before .before .le32 .ensures .0) (c .before .before .before .le16 .result) (c .before .before .before .le16 .ensures .0) (c .before .before .wide-meaning .result) (c .before .before .wide-meaning .ensures) (length (c .before .before .before .before .before .before .before .before .before .args .index .now)) (c .before .before .before .before .before .before .before .before .before .pre .1)),
-)
+copy-record-requires c κs =
+    rw (c .before .before .record-at .ensures)
+    (words-wide (le2 (c .before .before .before .before .before .before .before .args .file .now) (c .before .before .before .before .loop .at + 4)), omega (arith, same-long (c .before .before .before .before .loop .inv .wrote), next-fits wide (c .before .before .before .before .before .before .before .args .file .now) (c .before .before .before .before .before .before .before .args .index .now) (c .before .before .before .before .loop .index) (c .before .before .before .before .loop .at) (c .before .before .before .before .loop .to) (c .before .before .before .before .loop .inv) (c .before .before .before .loop-test .taken) (le4 (c .before .before .before .before .before .before .before .args .file .now) (c .before .before .before .before .loop .at)) refl (le2 (c .before .before .before .before .before .before .before .args .file .now) (c .before .before .before .before .loop .at + 4)) refl (wide (le2 (c .before .before .before .before .before .before .before .args .file .now) (c .before .before .before .before .loop .at + 4))) refl (length (c .before .before .before .before .before .before .before .args .index .now)) (c .before .before .before .before .before .before .before .pre .1)))
 
 loop-less : tie.Need-loop-less Inv-loop μ-loop
-loop-less c = omega (arith, there (c .before .before .before .before .before .before .before .before) .four, there (c .before .before .before .before .before .before .before .before) .room, c .before .before .before .before .before .before .before .le32 .ensures .0)
+loop-less c = omega (arith, there (c .before .before .before .before .before .before) .four, there (c .before .before .before .before .before .before) .room, ap (λ (r : Record). r .end) (c .before .before .before .before .before .record-at .ensures))
 
 loop-again : tie.Need-loop-again Inv-loop μ-loop
-loop-again c = copying-on wide (c .before .before .before .before .before .before .before .before .before .before .before .before .args .file .now) (c .before .before .before .before .before .before .before .before .before .before .before .before .args .index .now) (c .before .before .before .before .before .before .before .before .before .loop .index) (c .before .before .before .before .before .before .before .before .before .loop .at) (c .before .before .before .before .before .before .before .before .before .loop .to) (c .before .before .before .before .before .before .before .before .before .loop .inv) (c .before .before .before .before .before .before .before .before .loop-test .taken) (c .before .before .before .before .before .before .before .le32 .result) (c .before .before .before .before .before .before .before .le32 .ensures .0) (c .before .before .before .before .before .before .le16 .result) (c .before .before .before .before .before .before .le16 .ensures .0) (c .before .before .before .before .before .wide-meaning .result) (c .before .before .before .before .before .wide-meaning .ensures) _ _ (c .before .before .copy-record .ensures)
+loop-again c = rw (c .before .before .before .before .before .record-at .ensures) (copying-on wide (c .before .before .before .before .before .before .before .before .before .before .args .file .now) (c .before .before .before .before .before .before .before .before .before .before .args .index .now) (c .before .before .before .before .before .before .before .loop .index) (c .before .before .before .before .before .before .before .loop .at) (c .before .before .before .before .before .before .before .loop .to) (c .before .before .before .before .before .before .before .loop .inv) (c .before .before .before .before .before .before .loop-test .taken) (le4 (c .before .before .before .before .before .before .before .before .before .before .args .file .now) (c .before .before .before .before .before .before .before .loop .at)) refl (le2 (c .before .before .before .before .before .before .before .before .before .before .args .file .now) (c .before .before .before .before .before .before .before .loop .at + 4)) refl (wide (le2 (c .before .before .before .before .before .before .before .before .before .before .args .file .now) (c .before .before .before .before .before .before .before .loop .at + 4))) refl _ _ (rw (c .before .before .before .before .before .record-at .ensures) at (c .before .before .copy-record .ensures)))
 
 same-length : tie.Need-same-length Inv-loop μ-loop
 same-length c = same-long (c .before .loop .inv .wrote)
@@ -79,13 +62,7 @@ copy-plan-spec =
     Inv-loop
     μ-loop
     loop-holds
-    le32-requires
-    add-le16
-    le16-requires
-    wide-meaning-requires
-    add-body
-    add-end
-    add-end-2
+    record-at-requires
     sub-copy-record
     part-copy-record-start
     part-copy-record-end

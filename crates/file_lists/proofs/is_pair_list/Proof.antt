@@ -1,74 +1,65 @@
 -- `file_lists::is_pair_list` meets its contract. Assumes nothing.
+use mathlib.Core.Path.{_≡_, sym, ap, _∙_}
+use mathlib.Core.List.{List}
+use Prim.Native.Nat.{ℕ, _-_}
 use native.Mathlib.Omega.{arith}
-use mathlib.Core.Path.{_≡_, sym, _∙_}
-use lib.ListN.{length}
+use borrow.Author.Needs.{needs}
+use lib.ListN.{length, getD}
 use Rattle.base.proofs.Front.{cleared-at}
-use Rattle.lists.specs.Lists.{shape, listOf}
-use Rattle.lists.proofs.Few.{few-stored}
 use Rattle.transpose.proofs.Grids.{accepted-grid}
-use Rattle.file_numbers.specs.Agree.{numbersOf}
+use Rattle.plan_file.specs.Matrix.{matrixLists}
+use Rattle.plan_file.specs.Verdicts.{same}
+use Rattle.file_numbers.specs.Agree.{numbersOf, agree}
 use Rattle.file_numbers.proofs.Agrees.{agree-same}
-use Rattle.file_lists.proofs.Numbered.{not-long}
+use Rattle.file_lists.proofs.Numbered.{not-long, ten-list, words-fit, size-at}
 use Rattle.file_lists.proofs.Small.{piece-room}
 use Rattle.file_lists.proofs.is_pair_list.Statement.{statement}
 use Rattle.file_lists.proofs.is_pair_list.Tie as tie
 
-count-requires : tie.Need-count-requires
-count-requires c κs = tt
-
-words-of-requires : tie.Need-words-of-requires
-words-of-requires c κs =
-    let s = c .before .before .before .before .before .before .before .before .before in
-    let a = s .args in
-    (s .pre .0 .rows .few, omega (arith, few-stored (a .off .now) (a .cols .now) (a .plan .m) (s .pre .0 .accepted .csr), s .pre .0 .counts .stored))
+sizes-requires : tie.Need-sizes-requires
+sizes-requires c κs = words-fit (c .before .before .before .before .before .before .before .before .pre .2)
 
 returns : tie.Need-returns
 returns c =
-    let s = c .before .before .before .before .before .before .before .before .before .before .before in
-    let a = s .args in
-    not-long (numbersOf (a .body .now)) (listOf (shape (a .off .now) (a .cols .now)) (a .which) (a .plan .m)) (λ q. c .if1 .taken (c .before .before .count .ensures ∙ q ∙ sym (c .before .words-of .ensures (a .off .now) (a .cols .now) (s .pre .0 .counts))))
-
-clear-requires : tie.Need-clear-requires
-clear-requires c κs = c .before .before .before .before .before .before .before .before .before .before .before .before .pre .1
+    not-long (numbersOf (c .before .before .before .before .before .before .before .before .before .before .before .args .body .now)) (matrixLists (c .before .before .before .before .before .before .before .before .before .before .before .args .off .now) (c .before .before .before .before .before .before .before .before .before .before .before .args .cols .now) (c .before .before .before .before .before .before .before .before .before .before .before .args .plan .m) (c .before .before .before .before .before .before .before .before .before .before .before .args .plan .n) (c .before .before .before .before .before .before .before .before .before .before .before .args .k))
+    (λ q. c .if1 .taken (c .before .count .ensures ∙ q ∙ sym (ap (λ (z : List ℕ). getD z (c .before .before .before .before .before .before .before .before .before .before .before .args .k - 1) 0) (c .before .before .sizes .ensures) ∙ size-at (c .before .before .before .before .before .before .before .before .before .before .before .pre .2) (c .before .before .before .before .before .before .before .before .before .before .before .args .k) (c .before .before .before .before .before .before .before .before .before .before .before .pre .0) (omega (arith, c .before .before .before .before .before .before .before .before .before .before .before .pre .1)))))
 
 same-list-requires : tie.Need-same-list-requires
 same-list-requires c κs =
-    let s = c .before .before .before .before .before .before .before .before .before .before .before .before .before .before .before .before .before in
-    let a = s .args in
-    let grid = accepted-grid (a .off .now) (a .cols .now) (a .plan .m) (a .plan .n) (s .pre .0 .accepted) in
-    let z : length (numbersOf (a .body .now)) ≡ length (listOf (shape (a .off .now) (a .cols .now)) (a .which) (a .plan .m)) = sym (c .before .before .before .before .before .before .before .before .count .ensures) ∙ c .before .before .before .before .before .before .if1 .left ∙ c .before .before .before .before .before .before .before .words-of .ensures (a .off .now) (a .cols .now) (s .pre .0 .counts) in (
+    let known = c .before .before .before .before .before .before .before .before .before .before .before .before .before .before .before .before .before .before .pre .2 in
+    let grid = accepted-grid (c .before .before .before .before .before .before .before .before .before .before .before .before .before .before .before .before .before .before .args .off .now) (c .before .before .before .before .before .before .before .before .before .before .before .before .before .before .before .before .before .before .args .cols .now) (c .before .before .before .before .before .before .before .before .before .before .before .before .before .before .before .before .before .before .args .plan .m) (c .before .before .before .before .before .before .before .before .before .before .before .before .before .before .before .before .before .before .args .plan .n) (known .accepted) in
+    let long : length (numbersOf (c .before .before .before .before .before .before .before .before .before .before .before .before .before .before .before .before .before .before .args .body .now)) ≡ length (matrixLists (c .before .before .before .before .before .before .before .before .before .before .before .before .before .before .before .before .before .before .args .off .now) (c .before .before .before .before .before .before .before .before .before .before .before .before .before .before .before .before .before .before .args .cols .now) (c .before .before .before .before .before .before .before .before .before .before .before .before .before .before .before .before .before .before .args .plan .m) (c .before .before .before .before .before .before .before .before .before .before .before .before .before .before .before .before .before .before .args .plan .n) (c .before .before .before .before .before .before .before .before .before .before .before .before .before .before .before .before .before .before .args .k)) = sym (c .before .before .before .before .before .before .before .before .count .ensures) ∙ c .before .before .before .before .before .before .before .if1 .left ∙ ap (λ (z : List ℕ). getD z (c .before .before .before .before .before .before .before .before .before .before .before .before .before .before .before .before .before .before .args .k - 1) 0) (c .before .before .before .before .before .before .before .before .before .sizes .ensures) ∙ size-at (c .before .before .before .before .before .before .before .before .before .before .before .before .before .before .before .before .before .before .pre .2) (c .before .before .before .before .before .before .before .before .before .before .before .before .before .before .before .before .before .before .args .k) (c .before .before .before .before .before .before .before .before .before .before .before .before .before .before .before .before .before .before .pre .0) (omega (arith, c .before .before .before .before .before .before .before .before .before .before .before .before .before .before .before .before .before .before .pre .1)) in (
       record {
-        wide = a .plan .n;
-        listing = record { ready = s .pre .0 .ready; rows = s .pre .0 .rows; grid = grid };
-        long = omega (arith, s .pre .1, c .before .before .before .before .clear .kept .0);
-        low = λ x h. omega (arith, cleared-at (a .mark .now) (c .before .before .before .before .clear .last .0) 0 0 (a .plan .n) (c .before .before .before .before .clear .ensures) x h);
+        wide = c .before .before .before .before .before .before .before .before .before .before .before .before .before .before .before .before .before .before .args .plan .n;
+        listing = record { ready = known .ready; rows = known .rows; grid = grid };
+        long = omega (arith, c .before .before .before .before .before .before .before .before .before .before .before .before .before .before .before .before .before .before .pre .3, c .before .before .before .before .before .clear .kept .0);
+        low = λ x h. omega (arith, cleared-at (c .before .before .before .before .before .before .before .before .before .before .before .before .before .before .before .before .before .before .args .mark .now) (c .before .before .before .before .before .clear .last .0) 0 0 (c .before .before .before .before .before .before .before .before .before .before .before .before .before .before .before .before .before .before .args .plan .n) (c .before .before .before .before .before .clear .ensures) x h);
       },
-      omega arith,
-      omega (arith, s .pre .2 .rows),
-      λ i h. piece-room (a .off .now) (a .cols .now) (a .plan .m) (a .plan .n) i (a .made .now) grid h (s .pre .2),
+      omega (arith, ap length (ten-list (c .before .before .before .before .before .before .before .before .before .before .before .before .before .before .before .before .before .before .args .off .now) (c .before .before .before .before .before .before .before .before .before .before .before .before .before .before .before .before .before .before .args .cols .now) (c .before .before .before .before .before .before .before .before .before .before .before .before .before .before .before .before .before .before .args .plan .m) (c .before .before .before .before .before .before .before .before .before .before .before .before .before .before .before .before .before .before .args .plan .n) (c .before .before .before .before .before .before .before .before .before .before .before .before .before .before .before .before .before .before .pre .2 .accepted) (c .before .before .before .before .before .before .before .before .before .before .before .before .before .before .before .before .before .before .args .k) (c .before .before .which-field .result) (c .before .before .before .before .before .before .before .before .before .before .before .before .before .before .before .before .before .before .pre .0) (c .before .before .before .before .before .before .before .before .before .before .before .before .before .before .before .before .before .before .pre .1) (c .before .before .which-field .ensures))),
+      omega (arith, c .before .before .before .before .before .before .before .before .before .before .before .before .before .before .before .before .before .before .pre .4 .rows),
+      λ i h. piece-room (c .before .before .before .before .before .before .before .before .before .before .before .before .before .before .before .before .before .before .args .off .now) (c .before .before .before .before .before .before .before .before .before .before .before .before .before .before .before .before .before .before .args .cols .now) (c .before .before .before .before .before .before .before .before .before .before .before .before .before .before .before .before .before .before .args .plan .m) (c .before .before .before .before .before .before .before .before .before .before .before .before .before .before .before .before .before .before .args .plan .n) i (c .before .before .before .before .before .before .before .before .before .before .before .before .before .before .before .before .before .before .args .made .now) grid h (c .before .before .before .before .before .before .before .before .before .before .before .before .before .before .before .before .before .before .pre .4),
     )
-
-same-length : tie.Need-same-length
-same-length c = c .before .before .before .before .same-list .kept .1 .1 .1 .1 .1 .1 .1 .0 ∙ c .before .before .before .before .before .before .before .before .before .clear .kept .0
-
-same-length-2 : tie.Need-same-length-2
-same-length-2 c = c .before .before .before .before .same-list .kept .1 .1 .1 .1 .1 .1 .1 .1 .0
 
 returns-2 : tie.Need-returns-2
 returns-2 c =
-    let s = c .before .before .before .before .before .before .before .before .before .before .before .before .before .before .before .before .before .before .before .before .before .before in
-    let a = s .args in
-    c .before .before .before .before .same-list .ensures ∙ agree-same (numbersOf (a .body .now)) (listOf (shape (a .off .now) (a .cols .now)) (a .which) (a .plan .m)) (sym (c .before .before .before .before .before .before .before .before .before .before .before .before .before .count .ensures) ∙ c .before .before .before .before .before .before .before .before .before .before .before .if1 .left ∙ c .before .before .before .before .before .before .before .before .before .before .before .before .words-of .ensures (a .off .now) (a .cols .now) (s .pre .0 .counts))
+    let list = ten-list (c .before .before .before .before .before .before .before .before .before .before .before .before .before .before .before .before .before .before .before .before .before .before .before .args .off .now) (c .before .before .before .before .before .before .before .before .before .before .before .before .before .before .before .before .before .before .before .before .before .before .before .args .cols .now) (c .before .before .before .before .before .before .before .before .before .before .before .before .before .before .before .before .before .before .before .before .before .before .before .args .plan .m) (c .before .before .before .before .before .before .before .before .before .before .before .before .before .before .before .before .before .before .before .before .before .before .before .args .plan .n) (c .before .before .before .before .before .before .before .before .before .before .before .before .before .before .before .before .before .before .before .before .before .before .before .pre .2 .accepted) (c .before .before .before .before .before .before .before .before .before .before .before .before .before .before .before .before .before .before .before .before .before .before .before .args .k) (c .before .before .before .before .before .before .before .which-field .result) (c .before .before .before .before .before .before .before .before .before .before .before .before .before .before .before .before .before .before .before .before .before .before .before .pre .0) (c .before .before .before .before .before .before .before .before .before .before .before .before .before .before .before .before .before .before .before .before .before .before .before .pre .1) (c .before .before .before .before .before .before .before .which-field .ensures) in
+    c .before .before .before .before .same-list .ensures
+    ∙ ap (λ (l : List ℕ). agree (numbersOf (c .before .before .before .before .before .before .before .before .before .before .before .before .before .before .before .before .before .before .before .before .before .before .before .args .body .now)) 0 l) list
+    ∙ agree-same (numbersOf (c .before .before .before .before .before .before .before .before .before .before .before .before .before .before .before .before .before .before .before .before .before .before .before .args .body .now)) (matrixLists (c .before .before .before .before .before .before .before .before .before .before .before .before .before .before .before .before .before .before .before .before .before .before .before .args .off .now) (c .before .before .before .before .before .before .before .before .before .before .before .before .before .before .before .before .before .before .before .before .before .before .before .args .cols .now) (c .before .before .before .before .before .before .before .before .before .before .before .before .before .before .before .before .before .before .before .before .before .before .before .args .plan .m) (c .before .before .before .before .before .before .before .before .before .before .before .before .before .before .before .before .before .before .before .before .before .before .before .args .plan .n) (c .before .before .before .before .before .before .before .before .before .before .before .before .before .before .before .before .before .before .before .before .before .before .before .args .k)) (sym (c .before .before .before .before .before .before .before .before .before .before .before .before .before .count .ensures) ∙ c .before .before .before .before .before .before .before .before .before .before .before .before .if1 .left ∙ ap (λ (z : List ℕ). getD z (c .before .before .before .before .before .before .before .before .before .before .before .before .before .before .before .before .before .before .before .before .before .before .before .args .k - 1) 0) (c .before .before .before .before .before .before .before .before .before .before .before .before .before .before .sizes .ensures) ∙ size-at (c .before .before .before .before .before .before .before .before .before .before .before .before .before .before .before .before .before .before .before .before .before .before .before .pre .2) (c .before .before .before .before .before .before .before .before .before .before .before .before .before .before .before .before .before .before .before .before .before .before .before .args .k) (c .before .before .before .before .before .before .before .before .before .before .before .before .before .before .before .before .before .before .before .before .before .before .before .pre .0) (omega (arith, c .before .before .before .before .before .before .before .before .before .before .before .before .before .before .before .before .before .before .before .before .before .before .before .pre .1)))
 
 pub is-pair-list-spec : {M : Type 1} → statement M
 is-pair-list-spec =
     tie.close
     (tie.spec
-    count-requires
-    words-of-requires
+    sizes-requires
+    (λ c. search needs)
+    (λ c κs. search needs)
+    (λ c. search needs)
+    (λ c. search needs)
     returns
-    clear-requires
+    (λ c κs. search needs)
+    (λ c κs. search needs)
     same-list-requires
-    same-length
-    same-length-2
+    (λ c. search needs)
+    (λ c. search needs)
     returns-2)

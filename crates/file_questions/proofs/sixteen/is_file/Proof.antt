@@ -1,13 +1,15 @@
 -- `file_questions::sixteen::is_file` meets its contract. Assumes nothing.
-use mathlib.Core.Path.{_≡_, refl, sym, _∙_, subst}
-use Prim.Native.Nat.{_-_}
+use mathlib.Core.Path.{_≡_, refl, ap, _∙_}
+use Prim.Native.Nat.{_+_, _-_}
 use native.Mathlib.Omega.{arith}
 use borrow.Author.Tests.{not-true, not-false}
 use lib.ListN.{length}
+use Rattle.record.specs.Little.{le2, le4}
 use Rattle.plan_file.specs.Matrix.{matrixLists}
 use Rattle.plan_file.specs.Tables.{wide}
-use Rattle.file_walk.proofs.Walks.{Headed, headed}
-use Rattle.file_questions.specs.Takes.{Takes}
+use Rattle.file_walk.specs.Headed.{Headed}
+use Rattle.file_walk.specs.declared.walk.Record.{Record}
+use Rattle.file_walk.proofs.Walks.{headed}
 use Rattle.file_questions.proofs.Walk.{room-kept, Asking, asking-none, asking-all, asking-no, asking-on, takes-wide}
 use Rattle.file_questions.proofs.sixteen.is_file.Statement.{statement}
 use Rattle.file_questions.proofs.sixteen.is_file.Tie as tie
@@ -26,63 +28,45 @@ there c = headed wide (c .before .before .before .before .before .before .before
 loop-holds : tie.Need-loop-holds Inv-loop μ-loop
 loop-holds c = (asking-none wide (matrixLists (c .before .before .before .before .before .before .before .before .before .args .off .now) (c .before .before .before .before .before .before .before .before .before .args .cols .now) (c .before .before .before .before .before .before .before .before .before .args .plan .m) (c .before .before .before .before .before .before .before .before .before .args .plan .n)) (c .before .before .before .before .before .before .before .before .before .args .file .now) (c .before .before .before .before .before .before .before .before .before .pre .0), refl, refl, refl)
 
-le32-requires : tie.Need-le32-requires Inv-loop μ-loop
-le32-requires c κs = there c .four
-
-add-le16 : tie.Need-add-le16 Inv-loop μ-loop
-add-le16 c = omega (arith, there (c .before) .four)
-
-le16-requires : tie.Need-le16-requires Inv-loop μ-loop
-le16-requires c κs = there (c .before) .six
-
-wide-meaning-requires : tie.Need-wide-meaning-requires Inv-loop μ-loop
-wide-meaning-requires c κs = tt
-
-add-body : tie.Need-add-body Inv-loop μ-loop
-add-body c = omega (arith, there (c .before .before .before) .six)
-
-add-end : tie.Need-add-end Inv-loop μ-loop
-add-end c = omega (arith, there (c .before .before .before) .six)
-
-add-end-2 : tie.Need-add-end-2 Inv-loop μ-loop
-add-end-2 c = omega (arith, there (c .before .before .before) .room, c .before .before .le32 .ensures .0)
+record-at-requires : tie.Need-record-at-requires Inv-loop μ-loop
+record-at-requires c κs = there c
 
 sub-is-record : tie.Need-sub-is-record Inv-loop μ-loop
-sub-is-record c = omega (arith, there (c .before .before .before) .kinded, c .before .before .le32 .ensures .0)
+sub-is-record c = omega (arith, there (c .before) .kinded, ap (λ (r : Record). r .end) (c .record-at .ensures), ap (λ (r : Record). r .body) (c .record-at .ensures))
 
 part-is-record-start : tie.Need-part-is-record-start Inv-loop μ-loop
-part-is-record-start c = omega (arith, there (c .before .before .before) .kinded, there (c .before .before .before) .room, c .before .before .le32 .ensures .0)
+part-is-record-start c = omega (arith, there (c .before) .kinded, there (c .before) .room, ap (λ (r : Record). r .end) (c .record-at .ensures), ap (λ (r : Record). r .body) (c .record-at .ensures))
 
 part-is-record-end : tie.Need-part-is-record-end Inv-loop μ-loop
-part-is-record-end c = omega (arith, there (c .before .before .before) .kinded, there (c .before .before .before) .room, c .before .before .le32 .ensures .0)
+part-is-record-end c = omega (arith, there (c .before) .kinded, there (c .before) .room, ap (λ (r : Record). r .end) (c .record-at .ensures), ap (λ (r : Record). r .body) (c .record-at .ensures))
 
 is-record-requires : tie.Need-is-record-requires Inv-loop μ-loop
 is-record-requires c κs =
-    let keep = room-kept (c .before .before .before .before .before .before .before .before .before .before .before .before .before .before .before .before .before .before .args .plan .m) (c .before .before .before .before .before .before .before .before .before .before .before .before .before .before .before .before .before .before .args .plan .n) in
-    (subst Takes (sym (c .before .before .before .before .wide-meaning .ensures)) (takes-wide (c .before .before .before .before .before .le16 .result)), c .before .before .before .before .before .before .before .before .before .before .before .before .before .before .before .before .before .before .pre .1, keep (c .before .before .before .before .before .before .before .before .before .before .before .before .before .before .before .before .before .before .args .next .now) (c .before .before .before .before .before .before .before .before .loop .next) (c .before .before .before .before .before .before .before .before .loop .inv .1) (c .before .before .before .before .before .before .before .before .before .before .before .before .before .before .before .before .before .before .pre .2), keep (c .before .before .before .before .before .before .before .before .before .before .before .before .before .before .before .before .before .before .args .again .now) (c .before .before .before .before .before .before .before .before .loop .again) (c .before .before .before .before .before .before .before .before .loop .inv .2) (c .before .before .before .before .before .before .before .before .before .before .before .before .before .before .before .before .before .before .pre .3), keep (c .before .before .before .before .before .before .before .before .before .before .before .before .before .before .before .before .before .before .args .made .now) (c .before .before .before .before .before .before .before .before .loop .made) (c .before .before .before .before .before .before .before .before .loop .inv .3) (c .before .before .before .before .before .before .before .before .before .before .before .before .before .before .before .before .before .before .pre .4))
+    let keep = room-kept (c .before .before .before .before .before .before .before .before .before .before .before .before .before .before .before .before .args .plan .m) (c .before .before .before .before .before .before .before .before .before .before .before .before .before .before .before .before .args .plan .n) in
+    (rw (c .before .before .before .before .record-at .ensures) (takes-wide (le2 (c .before .before .before .before .before .before .before .before .before .before .before .before .before .before .before .before .args .file .now) (c .before .before .before .before .before .before .loop .at + 4))), c .before .before .before .before .before .before .before .before .before .before .before .before .before .before .before .before .pre .1, keep (c .before .before .before .before .before .before .before .before .before .before .before .before .before .before .before .before .args .next .now) (c .before .before .before .before .before .before .loop .next) (c .before .before .before .before .before .before .loop .inv .1) (c .before .before .before .before .before .before .before .before .before .before .before .before .before .before .before .before .pre .2), keep (c .before .before .before .before .before .before .before .before .before .before .before .before .before .before .before .before .args .again .now) (c .before .before .before .before .before .before .loop .again) (c .before .before .before .before .before .before .loop .inv .2) (c .before .before .before .before .before .before .before .before .before .before .before .before .before .before .before .before .pre .3), keep (c .before .before .before .before .before .before .before .before .before .before .before .before .before .before .before .before .args .made .now) (c .before .before .before .before .before .before .loop .made) (c .before .before .before .before .before .before .loop .inv .3) (c .before .before .before .before .before .before .before .before .before .before .before .before .before .before .before .before .pre .4))
 
 same-length : tie.Need-same-length Inv-loop μ-loop
-same-length c = c .before .before .before .before .before .before .before .is-record .kept .1 .1 .1 .1 .1 .1 .1 .1 .0 ∙ c .before .before .before .before .before .before .before .before .before .before .before .before .before .before .before .before .loop .inv .1
+same-length c = c .before .before .before .before .before .before .before .is-record .kept .1 .1 .1 .1 .1 .1 .1 .1 .0 ∙ c .before .before .before .before .before .before .before .before .before .before .before .before .before .before .loop .inv .1
 
 same-length-2 : tie.Need-same-length-2 Inv-loop μ-loop
-same-length-2 c = c .before .before .before .before .before .before .before .is-record .kept .1 .1 .1 .1 .1 .1 .1 .1 .1 .0 ∙ c .before .before .before .before .before .before .before .before .before .before .before .before .before .before .before .before .loop .inv .2
+same-length-2 c = c .before .before .before .before .before .before .before .is-record .kept .1 .1 .1 .1 .1 .1 .1 .1 .1 .0 ∙ c .before .before .before .before .before .before .before .before .before .before .before .before .before .before .loop .inv .2
 
 same-length-3 : tie.Need-same-length-3 Inv-loop μ-loop
-same-length-3 c = c .before .before .before .before .before .before .before .is-record .kept .1 .1 .1 .1 .1 .1 .1 .1 .1 .1 .0 ∙ c .before .before .before .before .before .before .before .before .before .before .before .before .before .before .before .before .loop .inv .3
+same-length-3 c = c .before .before .before .before .before .before .before .is-record .kept .1 .1 .1 .1 .1 .1 .1 .1 .1 .1 .0 ∙ c .before .before .before .before .before .before .before .before .before .before .before .before .before .before .loop .inv .3
 
 returns : tie.Need-returns Inv-loop μ-loop
 returns c =
-    asking-no wide (matrixLists (c .before .before .before .before .before .before .before .before .before .before .before .before .before .before .before .before .before .before .before .before .before .before .before .before .before .before .args .off .now) (c .before .before .before .before .before .before .before .before .before .before .before .before .before .before .before .before .before .before .before .before .before .before .before .before .before .before .args .cols .now) (c .before .before .before .before .before .before .before .before .before .before .before .before .before .before .before .before .before .before .before .before .before .before .before .before .before .before .args .plan .m) (c .before .before .before .before .before .before .before .before .before .before .before .before .before .before .before .before .before .before .before .before .before .before .before .before .before .before .args .plan .n)) (c .before .before .before .before .before .before .before .before .before .before .before .before .before .before .before .before .before .before .before .before .before .before .before .before .before .before .args .file .now) (c .before .before .before .before .before .before .before .before .before .before .before .before .before .before .before .before .loop .at) (c .before .before .before .before .before .before .before .before .before .before .before .before .before .before .before .before .loop .inv .0) (c .before .before .before .before .before .before .before .before .before .before .before .before .before .before .before .loop-test .taken) (c .before .before .before .before .before .before .before .before .before .before .before .before .before .before .le32 .result) (c .before .before .before .before .before .before .before .before .before .before .before .before .before .before .le32 .ensures .0) (c .before .before .before .before .before .before .before .before .before .before .before .before .before .le16 .result) (c .before .before .before .before .before .before .before .before .before .before .before .before .before .le16 .ensures .0) (c .before .before .before .before .before .before .before .before .before .before .before .before .wide-meaning .result) (c .before .before .before .before .before .before .before .before .before .before .before .before .wide-meaning .ensures) (c .before .before .before .before .before .before .before .is-record .result) (c .before .before .before .before .before .before .before .is-record .ensures) (not-true _ (c .if1 .taken))
+    asking-no wide (matrixLists (c .before .before .before .before .before .before .before .before .before .before .before .before .before .before .before .before .before .before .before .before .before .before .before .before .args .off .now) (c .before .before .before .before .before .before .before .before .before .before .before .before .before .before .before .before .before .before .before .before .before .before .before .before .args .cols .now) (c .before .before .before .before .before .before .before .before .before .before .before .before .before .before .before .before .before .before .before .before .before .before .before .before .args .plan .m) (c .before .before .before .before .before .before .before .before .before .before .before .before .before .before .before .before .before .before .before .before .before .before .before .before .args .plan .n)) (c .before .before .before .before .before .before .before .before .before .before .before .before .before .before .before .before .before .before .before .before .before .before .before .before .args .file .now) (c .before .before .before .before .before .before .before .before .before .before .before .before .before .before .loop .at) (c .before .before .before .before .before .before .before .before .before .before .before .before .before .before .loop .inv .0) (c .before .before .before .before .before .before .before .before .before .before .before .before .before .loop-test .taken) (le4 (c .before .before .before .before .before .before .before .before .before .before .before .before .before .before .before .before .before .before .before .before .before .before .before .before .args .file .now) (c .before .before .before .before .before .before .before .before .before .before .before .before .before .before .loop .at)) refl (le2 (c .before .before .before .before .before .before .before .before .before .before .before .before .before .before .before .before .before .before .before .before .before .before .before .before .args .file .now) (c .before .before .before .before .before .before .before .before .before .before .before .before .before .before .loop .at + 4)) refl (wide (le2 (c .before .before .before .before .before .before .before .before .before .before .before .before .before .before .before .before .before .before .before .before .before .before .before .before .args .file .now) (c .before .before .before .before .before .before .before .before .before .before .before .before .before .before .loop .at + 4))) refl (c .before .before .before .before .before .before .before .is-record .result) (rw (c .before .before .before .before .before .before .before .before .before .before .before .before .record-at .ensures) at (c .before .before .before .before .before .before .before .is-record .ensures)) (not-true _ (c .if1 .taken))
 
 loop-less : tie.Need-loop-less Inv-loop μ-loop
-loop-less c = omega (arith, there (c .before .before .before .before .before .before .before .before .before .before .before .before .before .before .before) .four, there (c .before .before .before .before .before .before .before .before .before .before .before .before .before .before .before) .room, c .before .before .before .before .before .before .before .before .before .before .before .before .before .before .le32 .ensures .0)
+loop-less c = omega (arith, there (c .before .before .before .before .before .before .before .before .before .before .before .before .before) .four, there (c .before .before .before .before .before .before .before .before .before .before .before .before .before) .room, ap (λ (r : Record). r .end) (c .before .before .before .before .before .before .before .before .before .before .before .before .record-at .ensures))
 
 loop-again : tie.Need-loop-again Inv-loop μ-loop
 loop-again c = (
-  asking-on wide (matrixLists (c .before .before .before .before .before .before .before .before .before .before .before .before .before .before .before .before .before .before .before .before .before .before .before .before .before .before .args .off .now) (c .before .before .before .before .before .before .before .before .before .before .before .before .before .before .before .before .before .before .before .before .before .before .before .before .before .before .args .cols .now) (c .before .before .before .before .before .before .before .before .before .before .before .before .before .before .before .before .before .before .before .before .before .before .before .before .before .before .args .plan .m) (c .before .before .before .before .before .before .before .before .before .before .before .before .before .before .before .before .before .before .before .before .before .before .before .before .before .before .args .plan .n)) (c .before .before .before .before .before .before .before .before .before .before .before .before .before .before .before .before .before .before .before .before .before .before .before .before .before .before .args .file .now) (c .before .before .before .before .before .before .before .before .before .before .before .before .before .before .before .before .loop .at) (c .before .before .before .before .before .before .before .before .before .before .before .before .before .before .before .before .loop .inv .0) (c .before .before .before .before .before .before .before .before .before .before .before .before .before .before .before .loop-test .taken) (c .before .before .before .before .before .before .before .before .before .before .before .before .before .before .le32 .result) (c .before .before .before .before .before .before .before .before .before .before .before .before .before .before .le32 .ensures .0) (c .before .before .before .before .before .before .before .before .before .before .before .before .before .le16 .result) (c .before .before .before .before .before .before .before .before .before .before .before .before .before .le16 .ensures .0) (c .before .before .before .before .before .before .before .before .before .before .before .before .wide-meaning .result) (c .before .before .before .before .before .before .before .before .before .before .before .before .wide-meaning .ensures) (c .before .before .before .before .before .before .before .is-record .result) (c .before .before .before .before .before .before .before .is-record .ensures) (not-false _ (c .if1 .left)),
-  c .before .before .before .before .before .before .before .is-record .kept .1 .1 .1 .1 .1 .1 .1 .1 .0 ∙ c .before .before .before .before .before .before .before .before .before .before .before .before .before .before .before .before .loop .inv .1,
-  c .before .before .before .before .before .before .before .is-record .kept .1 .1 .1 .1 .1 .1 .1 .1 .1 .0 ∙ c .before .before .before .before .before .before .before .before .before .before .before .before .before .before .before .before .loop .inv .2,
-  c .before .before .before .before .before .before .before .is-record .kept .1 .1 .1 .1 .1 .1 .1 .1 .1 .1 .0 ∙ c .before .before .before .before .before .before .before .before .before .before .before .before .before .before .before .before .loop .inv .3,
+  rw (c .before .before .before .before .before .before .before .before .before .before .before .before .record-at .ensures) (asking-on wide (matrixLists (c .before .before .before .before .before .before .before .before .before .before .before .before .before .before .before .before .before .before .before .before .before .before .before .before .args .off .now) (c .before .before .before .before .before .before .before .before .before .before .before .before .before .before .before .before .before .before .before .before .before .before .before .before .args .cols .now) (c .before .before .before .before .before .before .before .before .before .before .before .before .before .before .before .before .before .before .before .before .before .before .before .before .args .plan .m) (c .before .before .before .before .before .before .before .before .before .before .before .before .before .before .before .before .before .before .before .before .before .before .before .before .args .plan .n)) (c .before .before .before .before .before .before .before .before .before .before .before .before .before .before .before .before .before .before .before .before .before .before .before .before .args .file .now) (c .before .before .before .before .before .before .before .before .before .before .before .before .before .before .loop .at) (c .before .before .before .before .before .before .before .before .before .before .before .before .before .before .loop .inv .0) (c .before .before .before .before .before .before .before .before .before .before .before .before .before .loop-test .taken) (le4 (c .before .before .before .before .before .before .before .before .before .before .before .before .before .before .before .before .before .before .before .before .before .before .before .before .args .file .now) (c .before .before .before .before .before .before .before .before .before .before .before .before .before .before .loop .at)) refl (le2 (c .before .before .before .before .before .before .before .before .before .before .before .before .before .before .before .before .before .before .before .before .before .before .before .before .args .file .now) (c .before .before .before .before .before .before .before .before .before .before .before .before .before .before .loop .at + 4)) refl (wide (le2 (c .before .before .before .before .before .before .before .before .before .before .before .before .before .before .before .before .before .before .before .before .before .before .before .before .args .file .now) (c .before .before .before .before .before .before .before .before .before .before .before .before .before .before .loop .at + 4))) refl (c .before .before .before .before .before .before .before .is-record .result) (rw (c .before .before .before .before .before .before .before .before .before .before .before .before .record-at .ensures) at (c .before .before .before .before .before .before .before .is-record .ensures)) (not-false _ (c .if1 .left))),
+  c .before .before .before .before .before .before .before .is-record .kept .1 .1 .1 .1 .1 .1 .1 .1 .0 ∙ c .before .before .before .before .before .before .before .before .before .before .before .before .before .before .loop .inv .1,
+  c .before .before .before .before .before .before .before .is-record .kept .1 .1 .1 .1 .1 .1 .1 .1 .1 .0 ∙ c .before .before .before .before .before .before .before .before .before .before .before .before .before .before .loop .inv .2,
+  c .before .before .before .before .before .before .before .is-record .kept .1 .1 .1 .1 .1 .1 .1 .1 .1 .1 .0 ∙ c .before .before .before .before .before .before .before .before .before .before .before .before .before .before .loop .inv .3,
 )
 
 same-length-4 : tie.Need-same-length-4 Inv-loop μ-loop
@@ -104,13 +88,7 @@ is-file-spec =
     Inv-loop
     μ-loop
     loop-holds
-    le32-requires
-    add-le16
-    le16-requires
-    wide-meaning-requires
-    add-body
-    add-end
-    add-end-2
+    record-at-requires
     sub-is-record
     part-is-record-start
     part-is-record-end
