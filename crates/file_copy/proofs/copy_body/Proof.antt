@@ -29,7 +29,7 @@ mul-le32 : tie.Need-mul-le32 Inv-loop μ-loop
 mul-le32 c = omega (arith, number-room (c .before .before .before .before .before .before .args .body .now) (c .before .before .loop .k) (omega (arith, c .before .loop-test .taken, c .before .before .before .count .ensures)))
 
 le32-requires : tie.Need-le32-requires Inv-loop μ-loop
-le32-requires c κs = number-room (c .before .before .before .before .before .before .args .body .now) (c .before .before .loop .k) (omega (arith, c .before .loop-test .taken, c .before .before .before .count .ensures))
+le32-requires c κs = omega (arith, number-room (c .before .before .before .before .before .before .args .body .now) (c .before .before .loop .k) (omega (arith, c .before .loop-test .taken, c .before .before .before .count .ensures)))
 
 cast-store : tie.Need-cast-store Inv-loop μ-loop
 cast-store c = omega (arith, c .le32 .ensures .1)
