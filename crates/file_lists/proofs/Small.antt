@@ -1,11 +1,11 @@
--- What a pair adds to a list is short, and what was just written to the front of a memory. Assumes nothing.
-use mathlib.Core.Path.{_≡_, refl, ap₂, _∙_}
-use mathlib.Core.Bool.{Bool, _&&_}
+-- What a pair adds to a list is short, what was just written to the front of a memory, and words compared. Assumes nothing.
+use mathlib.Core.Path.{_≡_, refl, sym, ap, ap₂, _∙_}
+use mathlib.Core.Bool.{Bool, true, false, _&&_}
 use mathlib.Core.List.{List}
-use Prim.Native.Nat.{ℕ, suc, _<_, _≤_}
+use Prim.Native.Nat.{ℕ, suc, _+_, _<_, _≤_}
 use native.Mathlib.Omega.{arith}
 use lib.Dec.{eqb}
-use lib.ListN.{length, take, drop, length-map}
+use lib.ListN.{length, getD, take, drop, length-map}
 use lib.Seq.{take-at}
 use Rattle.base.specs.Cat.{pick, Wrote}
 use Rattle.base.proofs.Sums.{one-le, count-le}
@@ -21,7 +21,8 @@ use Rattle.lists.proofs.Whole.{as-written}
 use Rattle.transpose.specs.Bins.{Grid, Room}
 use Rattle.pair_lists.specs.Kept.{kept}
 use Rattle.pair_lists.proofs.Lists.{kept-short}
-use Rattle.file_lists.specs.Sizes.{PieceRoom}
+use Rattle.file_numbers.specs.Agree.{agree}
+use Rattle.file_lists.specs.Sizes.{PieceRoom, Stands}
 
 pub pick-le : (t : Bool) (x : ℕ) → length (pick t x) ≤ 1
 pick-le t x = omega (arith, length-pick t x, one-le t)
@@ -65,3 +66,24 @@ pub front : (a b l : List ℕ) (r : ℕ) → length l ≤ length a → Wrote a b
 front a b l r h w =
     let e = as-written a b l r h w in
     ap₂ (λ (k : ℕ) (x : List ℕ). take k x) (e .1) (e .0) ∙ take-at l (drop (length l) a) (length l) refl
+
+-- ---- words compared
+
+pub stands-as : {s : List ℕ} {at : ℕ} {l k : List ℕ} {words : ℕ} {good : Bool} → l ≡ k → Stands s at l words good → Stands s at k words good
+stands-as {s} {at} e v = record { many = v .many ∙ ap length e; says = v .says ∙ ap (agree s at) e }
+
+and-yes : (b : Bool) → b ≡ b && true
+and-yes true = refl
+and-yes false = refl
+
+module _ (s : List ℕ) (at : ℕ) (keep : Bool) (x : ℕ) where
+  pub word-room : keep ≡ true → at + length (pick keep x) ≤ length s → at < length s
+  word-room e h = omega (arith, h, ap (λ (b : Bool). length (pick b x)) e)
+
+  pub word-stands : (y : ℕ) → keep ≡ true → y ≡ getD s at 0 → Stands s at (pick keep x) 1 (eqb y x)
+  unfolding agree
+  word-stands y e h = stands-as (ap (λ (b : Bool). pick b x) (sym e)) (record { many = refl; says = ap (λ (z : ℕ). eqb z x) h ∙ and-yes (eqb (getD s at 0) x) })
+
+  pub no-word-stands : keep ≡ false → Stands s at (pick keep x) 0 true
+  unfolding agree
+  no-word-stands e = stands-as (ap (λ (b : Bool). pick b x) (sym e)) (record { many = refl; says = refl })

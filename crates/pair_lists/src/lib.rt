@@ -75,7 +75,7 @@ fn places(p: &[u64], q: usize, l: &[u8], base: u32, index: &mut [u32], start: us
 }
 
 // What stands in row r before its entry at t, and in row q too, by its place.
-fn products(
+pub fn products(
     p: &[u64],
     lindptr: &[u32],
     lindices: &[u8],
@@ -152,7 +152,7 @@ pub fn weigh(
 }
 
 // What the stored pair (i, j) adds to a list. t is its place among the stored, n what the list has counted.
-pub fn put_piece(
+fn put_piece(
     which: Which,
     off: &[u32],
     cols: &[u32],

@@ -1,16 +1,15 @@
 -- `file_lists::pairs::same_row` meets its contract. Assumes nothing.
 use native.Mathlib.Omega.{arith}
 use Prim.Native.Nat.{_≤_, _<_, _+_, _-_}
-use mathlib.Core.Path.{_≡_, refl, ap, _∙_}
+use mathlib.Core.Path.{_≡_, refl, _∙_}
 use lib.ListN.{length, getD}
 use Rattle.pattern.specs.Word.{bit}
-use Rattle.lists.specs.Lists.{shape, piece}
 use Rattle.pair_lists.proofs.Lists as law
 use Rattle.pair_lists.proofs.Through as thru
 use Rattle.pair_lists.proofs.Stored as st
-use Rattle.file_numbers.specs.Agree.{numbersOf, agree}
+use Rattle.file_numbers.specs.Agree.{numbersOf}
 use Rattle.file_numbers.proofs.Agrees.{few-numbers}
-use Rattle.file_lists.proofs.Small.{piece-fits, front}
+use Rattle.file_lists.proofs.Small.{piece-fits}
 use Rattle.file_lists.proofs.Compared as turns
 use Rattle.file_lists.proofs.pairs.same_row.Statement.{statement}
 use Rattle.file_lists.proofs.pairs.same_row.Tie as tie
@@ -79,60 +78,49 @@ add-n c =
     let few = turns.met-few (a .off .now) (a .cols .now) (r .at .m) (a .p .now) (r .at .ready) (a .lindptr .now) (a .lindices .now) (r .rows) (a .which) (a .i) (r .at .inside) (loop .t) (c .before .byte-at .result) (loop .inv .0) up (c .before .byte-at .ensures) (numbersOf (a .body .now)) (a .start) (loop .at) (a .count) (loop .n) (loop .good) (loop .inv .3) (omega (arith, r .at .inside, r .rows .few)) in
     omega (arith, few, loop .inv .3 .turned .small, s .pre .1 .few, r .at .inside, r .rows .few, c .weigh .ensures .1)
 
-put-piece-requires : tie.Need-put-piece-requires Inv-loop μ-loop
-put-piece-requires c κs =
+same-piece-requires : tie.Need-same-piece-requires Inv-loop μ-loop
+same-piece-requires c κs =
     let s = c .before .before .before .before .before .before .before .before .before .before .before .before .before .before .before in
     let a = s .args in
     let r = s .pre .0 in
     let loop = c .before .before .before .before .loop in
     let up : loop .t < getD (a .lindptr .now) (a .i + 1) 0 = omega (arith, c .before .before .before .loop-test .taken, c .before .before .before .before .before .before .word-at .ensures) in
-    (r, record { first = loop .inv .0; last = up; column = c .before .before .byte-at .ensures; count = turns.met-count (a .off .now) (a .cols .now) (r .at .m) (a .p .now) (r .at .ready) (a .lindptr .now) (a .lindices .now) (r .rows) (a .which) (a .i) (r .at .inside) (loop .t) (c .before .before .byte-at .result) (loop .inv .0) up (c .before .before .byte-at .ensures) (numbersOf (a .body .now)) (a .start) (loop .at) (a .count) (loop .n) (loop .good) (loop .inv .3) (c .before .weigh .result) (s .pre .1 .count) (c .before .weigh .ensures .0) }, omega (arith, piece-fits (a .off .now) (a .cols .now) (a .i) (c .before .before .byte-at .result) (st.le (a .off .now) (a .cols .now) (r .at .m) (a .p .now) (r .at .ready) (a .lindptr .now) (a .lindices .now) (r .rows) (a .i) (c .before .before .byte-at .result) (loop .t) (r .at .inside) (loop .inv .0) up (c .before .before .byte-at .ensures)) (a .made .now) (s .pre .3) (a .which), loop .inv .2))
-
-is-same-requires : tie.Need-is-same-requires Inv-loop μ-loop
-is-same-requires c κs =
-    let s = c .before .before .before .before .before .before .before .before .before .before .before .before .before .before .before .before .before .before .before in
-    let a = s .args in
-    let r = s .pre .0 in
-    let loop = c .before .before .before .before .before .before .before .before .loop in
-    let up : loop .t < getD (a .lindptr .now) (a .i + 1) 0 = omega (arith, c .before .before .before .before .before .before .before .loop-test .taken, c .before .before .before .before .before .before .before .before .before .before .word-at .ensures) in
-    (omega (arith, turns.met-room (a .off .now) (a .cols .now) (r .at .m) (a .p .now) (r .at .ready) (a .lindptr .now) (a .lindices .now) (r .rows) (a .which) (a .i) (r .at .inside) (loop .t) (c .before .before .before .before .before .before .byte-at .result) (loop .inv .0) up (c .before .before .before .before .before .before .byte-at .ensures) (numbersOf (a .body .now)) (a .start) (loop .at) (a .count) (loop .n) (loop .good) (loop .inv .3) (s .pre .2), c .before .before .before .put-piece .ensures .next), omega (arith, c .before .before .before .put-piece .ensures .next, piece-fits (a .off .now) (a .cols .now) (a .i) (c .before .before .before .before .before .before .byte-at .result) (st.le (a .off .now) (a .cols .now) (r .at .m) (a .p .now) (r .at .ready) (a .lindptr .now) (a .lindices .now) (r .rows) (a .i) (c .before .before .before .before .before .before .byte-at .result) (loop .t) (r .at .inside) (loop .inv .0) up (c .before .before .before .before .before .before .byte-at .ensures)) (a .made .now) (s .pre .3) (a .which), c .before .before .before .put-piece .kept .1 .1 .1 .1 .1 .1 .1 .1 .1 .1 .1 .0, loop .inv .2))
+    (r, record { first = loop .inv .0; last = up; column = c .before .before .byte-at .ensures; count = turns.met-count (a .off .now) (a .cols .now) (r .at .m) (a .p .now) (r .at .ready) (a .lindptr .now) (a .lindices .now) (r .rows) (a .which) (a .i) (r .at .inside) (loop .t) (c .before .before .byte-at .result) (loop .inv .0) up (c .before .before .byte-at .ensures) (numbersOf (a .body .now)) (a .start) (loop .at) (a .count) (loop .n) (loop .good) (loop .inv .3) (c .before .weigh .result) (s .pre .1 .count) (c .before .weigh .ensures .0) }, omega (arith, piece-fits (a .off .now) (a .cols .now) (a .i) (c .before .before .byte-at .result) (st.le (a .off .now) (a .cols .now) (r .at .m) (a .p .now) (r .at .ready) (a .lindptr .now) (a .lindices .now) (r .rows) (a .i) (c .before .before .byte-at .result) (loop .t) (r .at .inside) (loop .inv .0) up (c .before .before .byte-at .ensures)) (a .made .now) (s .pre .3) (a .which), loop .inv .2), turns.met-room (a .off .now) (a .cols .now) (r .at .m) (a .p .now) (r .at .ready) (a .lindptr .now) (a .lindices .now) (r .rows) (a .which) (a .i) (r .at .inside) (loop .t) (c .before .before .byte-at .result) (loop .inv .0) up (c .before .before .byte-at .ensures) (numbersOf (a .body .now)) (a .start) (loop .at) (a .count) (loop .n) (loop .good) (loop .inv .3) (s .pre .2))
 
 both-requires : tie.Need-both-requires Inv-loop μ-loop
 both-requires c κs = tt
 
 add-at : tie.Need-add-at Inv-loop μ-loop
 add-at c =
-    let s = c .before .before .before .before .before .before .before .before .before .before .before .before .before .before .before .before .before .before .before .before .before in
+    let s = c .before .before .before .before .before .before .before .before .before .before .before .before .before .before .before .before .before .before .before .before in
     let a = s .args in
     let r = s .pre .0 in
-    let loop = c .before .before .before .before .before .before .before .before .before .before .loop in
-    let up : loop .t < getD (a .lindptr .now) (a .i + 1) 0 = omega (arith, c .before .before .before .before .before .before .before .before .before .loop-test .taken, c .before .before .before .before .before .before .before .before .before .before .before .before .word-at .ensures) in
-    omega (arith, turns.met-room (a .off .now) (a .cols .now) (r .at .m) (a .p .now) (r .at .ready) (a .lindptr .now) (a .lindices .now) (r .rows) (a .which) (a .i) (r .at .inside) (loop .t) (c .before .before .before .before .before .before .before .before .byte-at .result) (loop .inv .0) up (c .before .before .before .before .before .before .before .before .byte-at .ensures) (numbersOf (a .body .now)) (a .start) (loop .at) (a .count) (loop .n) (loop .good) (loop .inv .3) (s .pre .2), c .before .before .before .before .before .put-piece .ensures .next, few-numbers (a .body .now), s .good .1 .1 .1 .1 .1 .1 .1 .1 .1 .1 .0)
+    let loop = c .before .before .before .before .before .before .before .before .before .loop in
+    let up : loop .t < getD (a .lindptr .now) (a .i + 1) 0 = omega (arith, c .before .before .before .before .before .before .before .before .loop-test .taken, c .before .before .before .before .before .before .before .before .before .before .before .word-at .ensures) in
+    omega (arith, turns.met-room (a .off .now) (a .cols .now) (r .at .m) (a .p .now) (r .at .ready) (a .lindptr .now) (a .lindices .now) (r .rows) (a .which) (a .i) (r .at .inside) (loop .t) (c .before .before .before .before .before .before .before .byte-at .result) (loop .inv .0) up (c .before .before .before .before .before .before .before .byte-at .ensures) (numbersOf (a .body .now)) (a .start) (loop .at) (a .count) (loop .n) (loop .good) (loop .inv .3) (s .pre .2), c .before .before .before .before .same-piece .ensures .many, few-numbers (a .body .now), s .good .1 .1 .1 .1 .1 .1 .1 .1 .1 .1 .0)
 
 add-t : tie.Need-add-t Inv-loop μ-loop
 add-t c =
-    let s = c .before .before .before .before .before .before .before .before .before .before .before .before .before .before .before .before .before .before .before .before .before in
+    let s = c .before .before .before .before .before .before .before .before .before .before .before .before .before .before .before .before .before .before .before .before in
     let a = s .args in
     let r = s .pre .0 in
-    omega (arith, c .before .before .before .before .before .before .before .before .before .loop-test .taken, c .before .before .before .before .before .before .before .before .before .before .before .before .word-at .ensures, law.rows-fit (bit (a .p .now)) (a .lindptr .now) (a .lindices .now) (r .at .m) (r .rows) (a .i + 1) (omega (arith, r .at .inside)), r .rows .short)
+    omega (arith, c .before .before .before .before .before .before .before .before .loop-test .taken, c .before .before .before .before .before .before .before .before .before .before .before .word-at .ensures, law.rows-fit (bit (a .p .now)) (a .lindptr .now) (a .lindices .now) (r .at .m) (r .rows) (a .i + 1) (omega (arith, r .at .inside)), r .rows .short)
 
 loop-less : tie.Need-loop-less Inv-loop μ-loop
-loop-less c = omega (arith, c .before .before .before .before .before .before .before .before .before .loop-test .taken)
+loop-less c = omega (arith, c .before .before .before .before .before .before .before .before .loop-test .taken)
 
 loop-again : tie.Need-loop-again Inv-loop μ-loop
 loop-again c =
-    let s = c .before .before .before .before .before .before .before .before .before .before .before .before .before .before .before .before .before .before .before .before .before in
+    let s = c .before .before .before .before .before .before .before .before .before .before .before .before .before .before .before .before .before .before .before .before in
     let a = s .args in
     let r = s .pre .0 in
-    let loop = c .before .before .before .before .before .before .before .before .before .before .loop in
-    let up : loop .t < getD (a .lindptr .now) (a .i + 1) 0 = omega (arith, c .before .before .before .before .before .before .before .before .before .loop-test .taken, c .before .before .before .before .before .before .before .before .before .before .before .before .word-at .ensures) in
-    let words = c .before .before .before .before .before .put-piece in
-    let fits : length (piece (shape (a .off .now) (a .cols .now)) (a .which) (a .i) (c .before .before .before .before .before .before .before .before .byte-at .result)) ≤ length (loop .made) = omega (arith, piece-fits (a .off .now) (a .cols .now) (a .i) (c .before .before .before .before .before .before .before .before .byte-at .result) (st.le (a .off .now) (a .cols .now) (r .at .m) (a .p .now) (r .at .ready) (a .lindptr .now) (a .lindices .now) (r .rows) (a .i) (c .before .before .before .before .before .before .before .before .byte-at .result) (loop .t) (r .at .inside) (loop .inv .0) up (c .before .before .before .before .before .before .before .before .byte-at .ensures)) (a .made .now) (s .pre .3) (a .which), loop .inv .2) in
-    let said = c .before .is-same .ensures ∙ ap (agree (numbersOf (a .body .now)) (loop .at)) (front (loop .made) (words .last .1 .1 .1 .1 .1 .1 .1 .1 .1 .1 .1 .0) (piece (shape (a .off .now) (a .cols .now)) (a .which) (a .i) (c .before .before .before .before .before .before .before .before .byte-at .result)) (words .result) fits (words .ensures)) in (
+    let loop = c .before .before .before .before .before .before .before .before .before .loop in
+    let up : loop .t < getD (a .lindptr .now) (a .i + 1) 0 = omega (arith, c .before .before .before .before .before .before .before .before .loop-test .taken, c .before .before .before .before .before .before .before .before .before .before .before .word-at .ensures) in
+    let words = c .before .before .before .before .same-piece in (
       omega (arith, loop .inv .0),
       omega (arith, up),
       words .kept .1 .1 .1 .1 .1 .1 .1 .1 .1 .1 .1 .0 ∙ loop .inv .2,
-      turns.met-next (a .off .now) (a .cols .now) (r .at .m) (a .p .now) (r .at .ready) (a .lindptr .now) (a .lindices .now) (r .rows) (a .which) (a .i) (r .at .inside) (loop .t) (c .before .before .before .before .before .before .before .before .byte-at .result) (loop .inv .0) up (c .before .before .before .before .before .before .before .before .byte-at .ensures) (numbersOf (a .body .now)) (a .start) (loop .at) (a .count) (loop .n) (loop .good) (loop .inv .3) (c .before .before .before .before .before .before .before .weigh .result) (words .result) (c .before .is-same .result) (c .both .result) (c .before .before .before .before .before .before .before .weigh .ensures .0) (c .before .before .before .before .before .before .before .weigh .ensures .1) (omega (arith, words .ensures .next)) said (c .both .ensures),
+      turns.met-next (a .off .now) (a .cols .now) (r .at .m) (a .p .now) (r .at .ready) (a .lindptr .now) (a .lindices .now) (r .rows) (a .which) (a .i) (r .at .inside) (loop .t) (c .before .before .before .before .before .before .before .byte-at .result) (loop .inv .0) up (c .before .before .before .before .before .before .before .byte-at .ensures) (numbersOf (a .body .now)) (a .start) (loop .at) (a .count) (loop .n) (loop .good) (loop .inv .3) (c .before .before .before .before .before .before .weigh .result) (words .result .words) (words .result .good) (c .before .both .result) (c .before .before .before .before .before .before .weigh .ensures .0) (c .before .before .before .before .before .before .weigh .ensures .1) (words .ensures .many) (words .ensures .says) (c .before .both .ensures),
     )
 
 same-length : tie.Need-same-length Inv-loop μ-loop
@@ -159,8 +147,7 @@ same-row-spec =
     byte-at-requires
     weigh-requires
     add-n
-    put-piece-requires
-    is-same-requires
+    same-piece-requires
     both-requires
     add-at
     add-t
