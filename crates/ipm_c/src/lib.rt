@@ -87,8 +87,8 @@ pub extern "C" fn ipm_read_plan(
     ensures words { λ _. ⌜ now (index .exit) ≡ wordsAfter m n (now (offsets .entry)) (now (columns .entry)) (readVerdict m n (now (offsets .entry)) (now (columns .entry)) (now (file .entry)) (length (now (index .entry)))) (now (index .entry)) ⌝ }
 {
     match file_calls::read_plan(m, n, offsets, columns, file, index) {
-        PlanAnswer::Planned(w) => pack(0, YES, w, 0),
-        PlanAnswer::Refused(r) => pack(0, r.question, r.place, r.lane),
+        PlanAnswer::Planned(words) => pack(0, YES, words, 0),
+        PlanAnswer::Refused(no) => pack(0, no.question, no.place, no.lane),
     }
 }
 
