@@ -1,4 +1,6 @@
 // The text of an answer, written to a lent buffer.
+#![tactic(auto)]
+
 ghost use Rattle.std.specs.Prelude.{◌≡◌, ◌+◌, ◌*◌, ◌≤◌, length};
 ghost use Rattle.base.specs.Cat.{cat, Wrote};
 ghost use Rattle.answer_text.specs.Text.{whole_bytes, float_bytes, line_bytes, accepted_bytes, refused_bytes, input_bytes, whole_text, float_text, line_text, accepted_text, refused_text, input_text};

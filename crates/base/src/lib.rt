@@ -1,4 +1,6 @@
 // Words and bytes of a lent list: read, stored, and written one after the other.
+#![tactic(auto)]
+
 ghost use Rattle.std.specs.Prelude.{◌≡◌, [], ◌∷◌, ◌++◌, ◌+◌, ◌<◌, ◌≤◌, length, get_or, set, drop, replicate};
 ghost use Rattle.base.specs.Cat.{pick, Wrote};
 ghost use Rattle.base.specs.Numbers.{span, Part};

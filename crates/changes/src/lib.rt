@@ -1,4 +1,6 @@
 // The changes of x, z and w in a step, and the largest ratio that bounds its length, over the one working memory.
+#![tactic(auto)]
+
 ghost use Rattle.std.specs.Prelude.{◌≡◌};
 ghost use Rattle.std.specs.Float.Ieee.{neg};
 ghost use Rattle.lanes.specs.Lists.{at};

@@ -1,4 +1,6 @@
 // E, S and D, counted along parents: no pattern is kept.
+#![tactic(auto)]
+
 ghost use Rattle.std.specs.Prelude.{◌≡◌, ◌+◌, ◌≤◌, ◌<◌, length, get_or, set};
 ghost use Rattle.layout.specs.Layout.{plan_of};
 ghost use Rattle.csr.specs.Csr.{Accepted, max_places};

@@ -1,4 +1,6 @@
 // The lent matrix: its rows, and questions 1 to 5.
+#![tactic(auto)]
+
 ghost use Rattle.std.specs.Prelude.{◌≡◌, ◌&&◌, ℕ, ◌+◌, ◌≤◌, leb, ltb, length, get_or};
 ghost use Rattle.base.specs.Numbers.{Part};
 ghost use Rattle.csr.specs.Pattern.{row};

@@ -1,4 +1,6 @@
 // The factor of the normal matrix and the two substitutions, in the lanes of a block, by the plan's lists.
+#![tactic(auto)]
+
 ghost use Rattle.std.specs.Prelude.{List, ℕ, ◌<◌, ◌≤◌};
 ghost use Rattle.lanes.specs.Lanes.{On, Width, room};
 ghost use Rattle.lanes.specs.Region.{Fills};

@@ -1,4 +1,6 @@
 // Entries of a lent list of lanes: read into an array of four by value, and stored from one.
+#![tactic(auto)]
+
 ghost use Rattle.std.specs.Prelude.{◌≡◌, ◌+◌, ◌<◌, ◌≤◌, ◌*◌, length};
 ghost use Rattle.lanes.specs.Lists.{at};
 ghost use Rattle.lanes.specs.Lanes.{lanes, cell, put, On, Width, room};

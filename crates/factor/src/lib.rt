@@ -1,4 +1,6 @@
 // A row of the factor of the normal matrix, with its entry of the forward substitution, in the lanes of a block, by the plan's lists.
+#![tactic(auto)]
+
 ghost use Rattle.std.specs.Prelude.{List, ℕ};
 ghost use Rattle.factor.specs.Row.{RowDue, SomeDue, RowDone};
 

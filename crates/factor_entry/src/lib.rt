@@ -1,4 +1,6 @@
 // An entry of the factor: its shared columns' sum, its products, its diagonal.
+#![tactic(auto)]
+
 ghost use Rattle.std.specs.Prelude.{◌≡◌, cond, ◌+◌, ◌<◌, ◌≤◌, ltb, get_or};
 ghost use Rattle.lanes.specs.Lists.{at as lane};
 ghost use Rattle.lanes.specs.Lanes.{lanes, cell as here, On, Width, room};

@@ -1,4 +1,6 @@
 // A plan as a file: written to lent bytes, and read back.
+#![tactic(auto)]
+
 ghost use Rattle.std.specs.Prelude.{◌≡◌, length};
 ghost use Rattle.csr.specs.Csr.{Accepted};
 ghost use Rattle.csr.specs.Verdict.{passed};

@@ -4,6 +4,8 @@
 // how many offsets, how many columns; the words of index memory and, for a writing call, the bytes of file memory lent;
 // the answer's question, 0 for a yes, its place and its lane; how many words; how many bytes of the file, which is read,
 // or is what a writing call leaves. All numbers are u32, little-endian.
+#![tactic(auto)]
+
 ghost use Rattle.std.specs.Prelude.{◌≡◌, ◌≤◌, ◌<◌, ◌*◌, length};
 
 use csr::Refusal;

@@ -1,4 +1,6 @@
 // The lists of a file, copied to an index memory.
+#![tactic(auto)]
+
 ghost use Rattle.std.specs.Prelude.{◌≡◌, true, ◌+◌, ◌≤◌, length};
 ghost use Rattle.base.specs.Cat.{join, Wrote};
 ghost use Rattle.plan_file.specs.Tables.{wide};

@@ -1,4 +1,6 @@
 // Question 16 for one list: are a body's numbers the matrix's list k?
+#![tactic(auto)]
+
 ghost use Rattle.std.specs.Prelude.{◌≡◌, List, ℕ, ◌+◌, ◌<◌, ◌≤◌, length};
 ghost use Rattle.base.specs.Sums.{sum};
 ghost use Rattle.transpose.specs.Bins.{Room, room_of, Grid, cols_of};

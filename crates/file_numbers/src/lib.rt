@@ -1,4 +1,6 @@
 // The numbers of a record's body, compared with a list.
+#![tactic(auto)]
+
 ghost use Rattle.std.specs.Prelude.{◌≡◌, not, ◌&&◌, eqb, ◌+◌, ◌≤◌, ◌<◌, length, get_or, take};
 ghost use Rattle.base.specs.Sums.{one};
 ghost use Rattle.file_numbers.specs.Agree.{numbers_of, agree};

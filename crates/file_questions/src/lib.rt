@@ -1,4 +1,6 @@
 // Questions 1 to 5 and 14 to 16 of a matrix and a file, each asked of the whole file before the next. No memory is lent for them.
+#![tactic(auto)]
+
 ghost use Rattle.std.specs.Prelude.{◌≡◌};
 ghost use Rattle.csr.specs.Csr.{Accepted};
 ghost use Rattle.csr.specs.Questions.{first_no};

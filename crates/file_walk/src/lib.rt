@@ -1,4 +1,6 @@
 // Questions 14 and 15, over the records of a lent file.
+#![tactic(auto)]
+
 mod kinds;
 mod walk;
 

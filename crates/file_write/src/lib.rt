@@ -1,4 +1,6 @@
 // A plan's file, written to lent bytes.
+#![tactic(auto)]
+
 ghost use Rattle.std.specs.Prelude.{◌≡◌, ℕ, ◌+◌, ◌*◌, ◌≤◌, List, length};
 ghost use Rattle.base.specs.Cat.{Wrote};
 ghost use Rattle.layout.specs.Layout.{top_word};

@@ -1,4 +1,6 @@
 // The calls and the square root for callers in C and Rust. An answer is one number; what else a call tells goes through pointers.
+#![tactic(auto)]
+
 ghost use Rattle.std.specs.Prelude.{◌≡◌, ◌≤◌, ◌<◌, ◌^◌, length};
 ghost use Rattle.ipm_common.specs.Plan.{plan_verdict, plan_index};
 ghost use Rattle.root.specs.Root.{root_bits};

@@ -1,4 +1,6 @@
 // The plan: the sixteen lists of a matrix, by the Rust's `from_matrix` with its transpose.
+#![tactic(auto)]
+
 ghost use Rattle.std.specs.Prelude.{◌≡◌, ◌+◌, ◌*◌, ◌≤◌, length};
 ghost use Rattle.pattern.specs.Word.{bit};
 ghost use Rattle.base.specs.Cat.{Wrote};

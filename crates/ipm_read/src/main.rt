@@ -1,4 +1,6 @@
 // The reading program: one record from standard input, its answer to standard output.
+#![tactic(auto)]
+
 use libc::{STDIN_FILENO, STDOUT_FILENO};
 
 // The largest record has 2,962 bytes, so a full buffer matches none.

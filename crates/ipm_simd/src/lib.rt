@@ -1,4 +1,6 @@
 // Four linear programs over one matrix, solved lane by lane: the public call.
+#![tactic(auto)]
+
 ghost use Rattle.std.specs.Prelude.{◌≡◌, ◌&&◌, ◌++◌, ℕ, ◌<◌, ◌≤◌, leb, length, drop, replicate};
 ghost use Rattle.csr.specs.Csr.{Accepted, max_stored};
 ghost use Rattle.csr.specs.Verdict.{told_asked, and_then};

@@ -1,4 +1,6 @@
 // The test of a block of lanes, on their numbers in the working memory.
+#![tactic(auto)]
+
 ghost use Rattle.std.specs.Prelude.{◌≡◌, ℕ, ◌+◌, ◌<◌, ◌≤◌, ◌*◌, length, get_or};
 ghost use Rattle.lanes.specs.Lists.{at};
 ghost use Rattle.lanes.specs.Arithmetic.{◌⊕◌, ◌⊗◌, ◌⊘◌, √, Σ, norm, one, whole};

@@ -1,4 +1,6 @@
 // The plan of a solve by value, and the layout of its two memories: where each region of the working memory and each list of the index memory begins.
+#![tactic(auto)]
+
 ghost use Rattle.std.specs.Prelude.{◌≡◌, ◌*◌, ◌≤◌, length};
 ghost use Rattle.base.specs.Numbers.{cut};
 ghost use Rattle.layout.specs.Layout.{plan_of, l_in, top_in, numbers_of, regions_of, top_word};

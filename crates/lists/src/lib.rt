@@ -1,4 +1,6 @@
 // The words of the plan's lists, and their order.
+#![tactic(auto)]
+
 ghost use Rattle.std.specs.Prelude.{◌≡◌};
 ghost use Rattle.lists.specs.Lists.{begins, field};
 

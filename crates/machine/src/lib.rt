@@ -1,3 +1,5 @@
+#![tactic(auto)]
+
 ghost use Rattle.std.specs.Prelude.{◌≡◌, not, ◌≤◌, get_or};
 ghost use Rattle.lanes.specs.Lists.{first};
 ghost use Rattle.machine.specs.Machine.{spoilt};

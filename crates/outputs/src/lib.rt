@@ -1,4 +1,6 @@
 // x and y of each lane, from the working memory to the outputs that a solve is lent.
+#![tactic(auto)]
+
 ghost use Rattle.std.specs.Prelude.{◌≡◌, ◌+◌, ◌*◌, ◌≤◌, length};
 ghost use Rattle.base.specs.Numbers.{cut};
 ghost use Rattle.machine.specs.Machine.{State};

@@ -1,4 +1,6 @@
 // The ten lists that are written pair by pair, for the stored pairs of the factor.
+#![tactic(auto)]
+
 ghost use Rattle.std.specs.Prelude.{◌≡◌, true, false, suc, ◌+◌, ◌-◌, ◌<◌, ◌≤◌, ◌∷◌, length, get_or};
 ghost use Rattle.std.proofs.lemmas.List.Edits.{sets};
 ghost use Rattle.pattern.specs.Word.{bit, pattern_words};

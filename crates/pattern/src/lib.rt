@@ -1,4 +1,6 @@
 // The pattern of the factor: 256 bits for each row, four words of 64.
+#![tactic(auto)]
+
 ghost use Rattle.std.specs.Prelude.{◌≡◌, Bool, true, false, ◌&&◌, ℕ, ◌+◌, ◌<◌, ◌≤◌, length, get_or, cond, eqb};
 ghost use Rattle.std.specs.Int.Count.{ones};
 ghost use Rattle.pattern.specs.Word.{bit, Put, Done, Whole, Seeded, OtherRows, row_ones, CommonWord, Clear, Linked, pattern_words};

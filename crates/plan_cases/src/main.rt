@@ -1,5 +1,7 @@
 // Plans the matrices of data/plan.bin and compares each word with the list there. A case is m, n, t, the m + 1 offsets,
 // the t columns, W and the W words; all numbers are u32, little-endian.
+#![tactic(auto)]
+
 ghost use Rattle.std.specs.Prelude.{◌≤◌, length};
 
 use ipm_common::PlanAnswer;

@@ -1,5 +1,7 @@
 // A plan's file: what its bytes mean, questions 14 to 16, and the theorems about them.
 // The bytes of a record's length, of its kind, and of the two together: its head. Then the bytes of a list's number.
+#![tactic(auto)]
+
 pub const LENGTH_BYTES: usize = 4;
 
 pub const KIND_BYTES: usize = 2;

@@ -1,5 +1,7 @@
 // Runs the cases of the file "solve.bin", as tools/oracle/cases describes it: for each the number of bytes, a record, the
 // number of bytes, its answer. Writes how many records gave their answer and how many did not.
+#![tactic(auto)]
+
 ghost use Rattle.std.specs.Prelude.{◌≤◌, length};
 
 use libc::STDOUT_FILENO;

@@ -1,4 +1,6 @@
 // The reading program's record: from bytes to sizes and rows of numbers.
+#![tactic(auto)]
+
 mod fields;
 mod little;
 

@@ -1,4 +1,6 @@
 // The residuals of a test, and the sums of their squares, over the one working memory.
+#![tactic(auto)]
+
 ghost use Rattle.std.specs.Prelude.{◌<◌};
 ghost use Rattle.lanes.specs.Lanes.{On};
 ghost use Rattle.sparse.specs.Parts.{Rows, Cols};

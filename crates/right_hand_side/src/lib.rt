@@ -1,4 +1,6 @@
 // The right-hand side of a step's normal equations, over the one working memory.
+#![tactic(auto)]
+
 ghost use Rattle.std.specs.Prelude.{◌≡◌, ◌<◌};
 ghost use Rattle.std.specs.Float.Ieee.{neg};
 ghost use Rattle.lanes.specs.Lists.{at};

@@ -1,5 +1,7 @@
 // IEEE 754's squareRoot of an f64, worked out from its bits in four steps: special operands, exponent halved, root digits, rounding.
 // Each step is a function with a promise of its own, and stands below in that order; `root_bits` puts them together. docs/ROOT.md has the clauses beside them.
+#![tactic(auto)]
+
 ghost use Rattle.std.specs.Prelude.{◌≡◌, ◌*◌, ◌^◌, ◌≤◌, ◌<◌};
 ghost use Rattle.std.specs.Float.{binary64};
 ghost use Rattle.std.specs.Float.Ieee.{to_bits, of_bits};

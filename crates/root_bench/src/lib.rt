@@ -1,4 +1,6 @@
 // What bench/root times: the sum of four roots, the lanes together and one after the other.
+#![tactic(auto)]
+
 ghost use Rattle.std.specs.Prelude.{◌≡◌};
 ghost use Rattle.root_bench.specs.Sum.{root_sum};
 

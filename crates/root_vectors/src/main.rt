@@ -1,5 +1,7 @@
 // Runs the published vectors of glibc's square root through `root::root_bits`, and the last four of them at a time through `root4::root4`.
 // A line of the file is the operand's pattern, a space, the root's pattern and a new line; a pattern is 16 hexadecimal digits.
+#![tactic(auto)]
+
 ghost use Rattle.std.specs.Prelude.{◌+◌, ◌<◌, ◌≤◌, length};
 
 use libc::STDOUT_FILENO;

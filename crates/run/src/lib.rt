@@ -1,4 +1,6 @@
 // The tests of a block of lanes, one after the other.
+#![tactic(auto)]
+
 ghost use Rattle.std.specs.Prelude.{◌≡◌, ◌≤◌};
 ghost use Rattle.lanes.specs.Lists.{at};
 ghost use Rattle.lanes.specs.Lanes.{lanes};

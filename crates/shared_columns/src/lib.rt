@@ -1,4 +1,6 @@
 // What rows of the matrix share, found by marks: mark[c] is above off[i] just where row i holds column c.
+#![tactic(auto)]
+
 ghost use Rattle.std.specs.Prelude.{◌≡◌, ◌+◌, ◌<◌, ◌≤◌, length, get_or};
 ghost use Rattle.csr.specs.Csr.{RowOf, max_places};
 ghost use Rattle.csr.specs.Pattern.{row};

@@ -1,4 +1,6 @@
 // How much memory a matrix needs, and how much the costliest of m rows: no plan is written.
+#![tactic(auto)]
+
 ghost use Rattle.std.specs.Prelude.{◌≡◌};
 ghost use Rattle.csr.specs.Csr.{Accepted};
 ghost use Rattle.sizes.specs.Sizes.{told_sizes, told_costliest, slack_verdict, sizes_verdict, costliest_verdict};

@@ -1,4 +1,6 @@
 // A step of the path-following algorithm in a block of lanes, over its working memory.
+#![tactic(auto)]
+
 ghost use Rattle.std.specs.Prelude.{◌≡◌, cond, false, List, ℕ, ◌<◌, ◌≤◌, get_or, Float};
 ghost use Rattle.lanes.specs.Lists.{at};
 ghost use Rattle.lanes.specs.Lanes.{lanes, Width, room};

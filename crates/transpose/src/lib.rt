@@ -1,4 +1,6 @@
 // The transpose of CSR lists by counting, and what pairs of rows share, counted by column.
+#![tactic(auto)]
+
 ghost use Rattle.std.specs.Prelude.{◌≡◌, ℕ, ◌+◌, ◌<◌, ◌≤◌, ◌*◌, length, get_or, set};
 ghost use Rattle.csr.specs.Counts.{count_s};
 ghost use Rattle.std.proofs.lemmas.List.Edits.{sets};
