@@ -13,7 +13,7 @@ ghost use Rattle.counts.specs.Rows.{Rows, Fit, Countable};
 use layout::Plan;
 
 // The counts so far.
-#[derive(Drop)]
+#[derive(Clone, Copy)]
 struct Tally {
     stored: usize,
     shared: usize,
@@ -21,7 +21,7 @@ struct Tally {
 }
 
 // The entries of a row so far, and their products.
-#[derive(Drop)]
+#[derive(Clone, Copy)]
 struct Met {
     stored: usize,
     products: usize,

@@ -11,7 +11,7 @@ ghost use Rattle.csr.specs.Questions.{first_from, bad_row, offsets_right, rows_r
 use base::{span, word_at};
 
 // A no: the question, its place and its lane, 0 where the question names none.
-#[derive(Drop)]
+#[derive(Clone, Copy)]
 pub struct Refusal {
     pub question: u32,
     pub place: usize,
@@ -45,7 +45,7 @@ impl Refusal {
 }
 
 // The answer to questions 1 to 5.
-#[derive(Drop)]
+#[derive(Clone, Copy)]
 pub enum Asked {
     Good,
     Refused(Refusal),

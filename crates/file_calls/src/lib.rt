@@ -17,7 +17,7 @@ use ipm_common::PlanAnswer;
 const FILE_BYTES: u32 = 8;
 
 // The answer of write_plan: the bytes written, or the first no.
-#[derive(Drop)]
+#[derive(Clone, Copy)]
 pub enum WriteAnswer {
     Written(usize),
     Refused(Refusal),

@@ -114,7 +114,7 @@ fn bytes_are(memory: &[u8], bytes: &[u8]) -> bool {
 }
 
 // A call's answer: question 0 for a yes, whose place is what it tells.
-#[derive(Drop)]
+#[derive(Clone, Copy)]
 struct Told {
     question: u32,
     place: usize,
@@ -235,7 +235,7 @@ fn call_right(head: &[u32], offsets: &[u32], columns: &[u32], words: &[u32], byt
 }
 
 // Where the next case starts, and whether this one was answered as it says.
-#[derive(Drop)]
+#[derive(Clone, Copy)]
 struct Case {
     next: usize,
     right: bool,
@@ -271,7 +271,7 @@ fn run_case(s: &[u32], bytes: &[u8], at: usize) -> Case
     Case { next, right }
 }
 
-#[derive(Drop)]
+#[derive(Clone, Copy)]
 struct Tally {
     right: u64,
     wrong: u64,

@@ -16,7 +16,7 @@ use pair_lists::{mark_for, products, row_first, weigh};
 use shared_columns::put_shared;
 
 // How many words a pair adds to a list, and whether they are the body's.
-#[derive(Drop)]
+#[derive(Clone, Copy)]
 struct Compared {
     words: usize,
     good: bool,
@@ -118,7 +118,7 @@ fn same_piece(
 }
 
 // The place after what was compared, what the list has counted, and whether all was the same.
-#[derive(Drop)]
+#[derive(Clone, Copy)]
 struct Seen {
     at: usize,
     n: u32,

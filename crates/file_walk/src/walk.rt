@@ -34,7 +34,7 @@ pub fn is_whole(file: &[u8]) -> bool
 }
 
 // A record of a file that got a yes at 14: what its kind means, and where its body begins and ends.
-#[derive(Drop)]
+#[derive(Clone, Copy)]
 pub struct Record {
     pub meaning: Meaning,
     pub body: usize,

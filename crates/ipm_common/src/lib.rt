@@ -61,7 +61,7 @@ fn put_plan(
 }
 
 // E, S and D.
-#[derive(Drop)]
+#[derive(Clone, Copy)]
 struct Counts {
     e: u32,
     s: usize,
@@ -105,7 +105,7 @@ fn words(m: usize, n: usize, t: usize, counts: Counts) -> usize
 }
 
 // The answer of plan: its words, or the first no.
-#[derive(Drop)]
+#[derive(Clone, Copy)]
 pub enum PlanAnswer {
     Planned(usize),
     Refused(Refusal),

@@ -38,14 +38,14 @@ const FRACTIONS: u32 = 13;
 const TOLERANCES: usize = 3 * LANES;
 
 // The answer of solve: the test at which all lanes were done and how many numbers y has, or the first no.
-#[derive(Drop)]
+#[derive(Clone, Copy)]
 pub enum SolveAnswer {
     Accepted(usize, usize),
     Refused(Refusal),
 }
 
 // How long the lent lists are.
-#[derive(Drop)]
+#[derive(Clone, Copy)]
 pub struct Lengths {
     pub index: usize,
     pub b: usize,

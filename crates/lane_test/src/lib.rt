@@ -110,7 +110,7 @@ fn mu_in(g: [f64; 4], n: usize, s: usize, centring: f64) -> [f64; 4]
 }
 
 // What the test and the step both read, of the lanes: the norms of x and y, g and mu.
-#[derive(Drop)]
+#[derive(Clone, Copy)]
 pub struct Measures {
     pub nx: [f64; 4],
     pub ny: [f64; 4],
@@ -134,7 +134,7 @@ pub fn measure(work: &[f64], width: usize, plan: Plan, centring: f64) -> Measure
 }
 
 // A lane's tolerances of R, Q and G.
-#[derive(Drop)]
+#[derive(Clone, Copy)]
 struct Tolerances {
     primal: f64,
     dual: f64,

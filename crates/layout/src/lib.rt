@@ -10,7 +10,7 @@ ghost use Rattle.layout.specs.Lists.{starts_of, sizes_of, words_at, anorm_indptr
 pub const LANES: usize = 4;
 
 // The sizes of a problem and of its plan: m rows, n columns, s slack rows, t entries of the matrix; E stored pairs, S shared columns, D products.
-#[derive(Drop)]
+#[derive(Clone, Copy)]
 pub struct Plan {
     pub m: usize,
     pub n: usize,
@@ -22,14 +22,14 @@ pub struct Plan {
 }
 
 // A block of lanes that is run by itself: those from lane `first` on, of the `total` lanes of a call. How many they are, at most four, is a number of its own, `width`: a number that is the same at every call is known to the compiler, a field is not.
-#[derive(Drop)]
+#[derive(Clone, Copy)]
 pub struct Block {
     pub total: usize,
     pub first: usize,
 }
 
 // The sizes, and where the regions of a block's working memory begin, counted in entries.
-#[derive(Drop)]
+#[derive(Clone, Copy)]
 pub struct Regions {
     pub m: usize,
     pub n: usize,
@@ -48,7 +48,7 @@ pub struct Regions {
 }
 
 // Where each list of the index memory begins, by the Rust's names, and where the last ends. The last three lists are the matrix's columns.
-#[derive(Drop)]
+#[derive(Clone, Copy)]
 struct Starts {
     anorm_indptr: usize,
     anorm_indptr_i: usize,

@@ -5,7 +5,7 @@ ghost use Rattle.std.specs.Prelude.{◌≡◌};
 ghost use Rattle.lists.specs.Lists.{begins, field};
 
 // The ten lists that are written pair by pair, by the names of the Rust's fields. An entry is a stored pair (i, j) of the factor.
-#[derive(Drop)]
+#[derive(Clone, Copy)]
 pub enum Which {
     // anorm_indptr: the shared columns of entry e stand from number e of this list to number e + 1.
     AnormIndptr,
@@ -30,7 +30,7 @@ pub enum Which {
 }
 
 // What a walk through two rows writes of a column that they share.
-#[derive(Drop)]
+#[derive(Clone, Copy)]
 pub enum Take {
     Left,
     Right,
@@ -56,14 +56,14 @@ pub fn has_head(which: Which) -> bool
 }
 
 // The factor's columns (ltindptr, ltindices, ltmap), or the matrix's (atindptr, atindices, atmap).
-#[derive(Drop)]
+#[derive(Clone, Copy)]
 pub enum Side {
     Factor,
     Matrix,
 }
 
 // An entry of a column by its row (ltindices, atindices), or by its place (ltmap, atmap).
-#[derive(Drop)]
+#[derive(Clone, Copy)]
 pub enum What {
     Numbers,
     Places,

@@ -6,7 +6,7 @@ ghost use Rattle.machine.specs.Machine.{spoilt};
 ghost use Rattle.machine.specs.Outcome.{is_spoilt, is_done};
 
 // What a lane's test yields: spoilt, done, or its mu to step with.
-#[derive(Drop)]
+#[derive(Clone, Copy)]
 pub enum Status {
     Spoilt,
     Done,
@@ -14,7 +14,7 @@ pub enum Status {
 }
 
 // How a solve ends: the test; the test and the lane; the limit.
-#[derive(Drop)]
+#[derive(Clone, Copy)]
 pub enum Outcome {
     Accepted(usize),
     NoAt11(usize, usize),

@@ -210,7 +210,7 @@ pub fn row_first(which: Which, lindptr: &[u32], i: usize) -> usize
 }
 
 // Where a list goes on, and what it has counted.
-#[derive(Drop)]
+#[derive(Clone, Copy)]
 struct Spot {
     at: usize,
     n: u32,

@@ -55,7 +55,7 @@ fn written(index: &[u32], words: &[u32]) -> bool {
 }
 
 // Where the next case starts, or that there is none, and whether this one gave its words.
-#[derive(Drop)]
+#[derive(Clone, Copy)]
 enum Case {
     End,
     Broken,
@@ -106,7 +106,7 @@ fn run_case(s: &[u32], at: usize) -> Case {
     }
 }
 
-#[derive(Drop)]
+#[derive(Clone, Copy)]
 struct Tally {
     right: u64,
     wrong: u64,

@@ -11,7 +11,7 @@ pub const HEAD_BYTES: usize = LENGTH_BYTES + KIND_BYTES;
 pub const WORD_BYTES: usize = 4;
 
 // What a record's kind says: the number of a list and the bytes of each of its numbers, a note, or neither.
-#[derive(Drop)]
+#[derive(Clone, Copy)]
 pub enum Meaning {
     Listed(usize, usize),
     Note,

@@ -12,14 +12,14 @@ const BUFFER: usize = 4096;
 const MOST_CASES: u64 = 100_000;
 
 // What stands where a number of bytes is to be read.
-#[derive(Drop)]
+#[derive(Clone, Copy)]
 enum Count {
     End,
     Broken,
     Bytes(usize),
 }
 
-#[derive(Drop)]
+#[derive(Clone, Copy)]
 enum Case {
     End,
     Broken,
@@ -27,7 +27,7 @@ enum Case {
     Wrong,
 }
 
-#[derive(Drop)]
+#[derive(Clone, Copy)]
 struct Tally {
     right: u64,
     wrong: u64,

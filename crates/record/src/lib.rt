@@ -11,7 +11,7 @@ pub use fields::{
 pub use little::{le16, le32};
 
 // The sizes that a record starts with: rows, columns, slack rows, the limit of tests and the stored entries.
-#[derive(Drop)]
+#[derive(Clone, Copy)]
 pub struct RecordSizes {
     pub m: usize,
     pub n: usize,
@@ -21,7 +21,7 @@ pub struct RecordSizes {
 }
 
 // Whether a record's bytes match, and its sizes where they do.
-#[derive(Drop)]
+#[derive(Clone, Copy)]
 pub enum Header {
     Mismatch,
     Matches(RecordSizes),

@@ -31,7 +31,7 @@ const NAN: u64 = 0x7FF8_0000_0000_0000;
 // ---- 1. special operands
 
 // What the first step makes of an operand: the pattern to answer, or a finite number above zero to go on with.
-#[derive(Drop)]
+#[derive(Clone, Copy)]
 pub enum Operand {
     Answered(u64),
     Positive,
@@ -73,7 +73,7 @@ pub fn special(b: u64) -> Operand
 // ---- 2. exponent halved
 
 // The number is digits * 2 ^ exponent / 4 ^ 1074, and digits has 53 digits.
-#[derive(Drop)]
+#[derive(Clone, Copy)]
 struct Unpacked {
     digits: u64,
     exponent: u64,
@@ -103,7 +103,7 @@ fn unpack(b: u64) -> Unpacked
 }
 
 // The number is digits * 2 ^ 52 * 4 ^ half / 4 ^ 1074, and digits has 53 or 54 digits.
-#[derive(Drop)]
+#[derive(Clone, Copy)]
 pub struct Scaled {
     pub digits: u64,
     pub half: u64,
@@ -132,7 +132,7 @@ pub fn halved(b: u64) -> Scaled
 // ---- 3. root digits
 
 // The whole root of a number, and what the number has above its square.
-#[derive(Drop)]
+#[derive(Clone, Copy)]
 pub struct RootDigits {
     pub whole: u64,
     pub rest: u64,

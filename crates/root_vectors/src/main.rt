@@ -49,7 +49,7 @@ fn four_right(x: [f64; 4], wanted: [u64; 4]) -> bool {
         && root::bits_of(r[3]) == wanted[3]
 }
 
-#[derive(Drop)]
+#[derive(Clone, Copy)]
 struct Tally {
     lines: u64,
     right: u64,

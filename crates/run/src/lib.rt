@@ -18,7 +18,7 @@ use machine::{Outcome, Status};
 use step::{normal_eqn_init, step_lanes};
 
 // What follows a test: the end, or a step.
-#[derive(Drop)]
+#[derive(Clone, Copy)]
 enum Turn {
     Ends(Outcome),
     Steps,

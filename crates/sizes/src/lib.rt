@@ -9,7 +9,7 @@ use csr::{Asked, Refusal};
 use layout::LANES;
 
 // E, S, D, W and F.
-#[derive(Drop)]
+#[derive(Clone, Copy)]
 pub struct MatrixSizes {
     pub stored: usize,
     pub shared: usize,
@@ -19,21 +19,21 @@ pub struct MatrixSizes {
 }
 
 // The answer of sizes, or the first no.
-#[derive(Drop)]
+#[derive(Clone, Copy)]
 pub enum SizesAnswer {
     Sized(MatrixSizes),
     Refused(Refusal),
 }
 
 // E and D of the costliest pattern.
-#[derive(Drop)]
+#[derive(Clone, Copy)]
 pub struct MostCounts {
     pub stored: usize,
     pub products: usize,
 }
 
 // The answer of costliest, or a no.
-#[derive(Drop)]
+#[derive(Clone, Copy)]
 pub enum CostliestAnswer {
     Costs(MostCounts),
     Refused(Refusal),
