@@ -1,0 +1,10 @@
+use Rattle.answer_text.specs.Text.{ascii, refused_text}
+use Rattle.base.proofs.Write.{then_written}
+use Rattle.answer_text.proofs.put_refused.Goals as goal
+
+pub returns : goal.returns
+unfolding refused_text ascii
+returns c =
+    then_written c.put-word.ensures
+    (then_written c.put_whole-a.ensures.0
+    (then_written c.put_whole-b.ensures.0 c.put_whole.ensures.0))

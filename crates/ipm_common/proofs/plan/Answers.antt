@@ -1,0 +1,35 @@
+-- `ipm_common::plan` meets its contract: after five yeses question 6, else the first no. Assumes nothing.
+use mathlib.Core.Path.{sym, ap, ◌∙◌}
+use mathlib.Core.List.{◌++◌}
+use lib.ListN.{length, drop}
+use Rattle.csr.specs.Verdict.{Verdict, and_then}
+use Rattle.csr.specs.Verdict as verdict
+use Rattle.csr.specs.Counts.{size_w}
+use Rattle.csr.proofs.Yes.{accepted_of}
+use Rattle.lists.specs.Lists.{plan_words}
+use Rattle.ipm_common.specs.Plan.{room_verdict, plan_verdict, plan_index, left}
+use Rattle.ipm_common.proofs.plan.Goals as goal
+
+pub plan_accepted-requires : goal.plan_accepted-requires
+plan_accepted-requires c =
+    let a = c.args in
+    accepted_of a.m a.n a.offsets.now a.columns.now (length a.columns.now)
+    (sym c.ask.ensures ∙ ap verdict.told_asked c.in-Good.is)
+
+pub returns-in-Good : goal.returns-in-Good
+unfolding plan_verdict plan_index
+returns-in-Good c =
+    let a = c.args in
+    let room = room_verdict a.m a.n a.offsets.now a.columns.now (length a.index.now) in
+    let new = plan_words a.offsets.now a.columns.now a.m a.n ++ drop (size_w a.offsets.now a.columns.now a.m a.n) a.index.now in
+    let said = c.plan_accepted.ensures.says ∙ ap (λ (v : Verdict). and_then v room) (sym (ap verdict.told_asked c.in-Good.is) ∙ c.ask.ensures) in
+    (said, c.plan_accepted.ensures.words ∙ ap (λ (v : Verdict). left v new a.index.now) said)
+
+pub returns-in-Refused : goal.returns-in-Refused
+unfolding plan_verdict plan_index
+returns-in-Refused c =
+    let a = c.args in
+    let room = room_verdict a.m a.n a.offsets.now a.columns.now (length a.index.now) in
+    let new = plan_words a.offsets.now a.columns.now a.m a.n ++ drop (size_w a.offsets.now a.columns.now a.m a.n) a.index.now in
+    let said = ap (λ (v : Verdict). and_then v room) (sym (ap verdict.told_asked c.in-Refused.is) ∙ c.ask.ensures) in
+    (said, ap (λ (v : Verdict). left v new a.index.now) said)

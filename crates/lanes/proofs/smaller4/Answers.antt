@@ -1,0 +1,4 @@
+use Rattle.lanes.proofs.smaller4.Goals as goal
+
+pub returns : goal.returns
+returns c = cc

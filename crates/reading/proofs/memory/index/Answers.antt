@@ -1,0 +1,7 @@
+use mathlib.Core.Path.{refl}
+use Rattle.reading.specs.Answer.{zeros}
+use Rattle.reading.proofs.memory.index.Goals as goal
+
+pub returns : goal.returns
+unfolding zeros
+returns c = refl

@@ -1,0 +1,27 @@
+use mathlib.Core.Path.{sym, ap}
+use native.Mathlib.Omega.{arith}
+use Prim.Native.Nat.{◌*◌}
+use lib.ListN.{length}
+use lib.Seq.{length-take-le}
+use Rattle.base.proofs.Write.{same_text}
+use Rattle.lanes.proofs.Consts.{tenth_bits, damping_bits_lem}
+use Rattle.reading.specs.Parts.{most_prices}
+use Rattle.reading.proofs.Answers.{accepted_text_lem, refused_text_lem}
+use Rattle.reading.proofs.Parts.{blank_long, blank_front}
+use Rattle.reading.proofs.solve_text.Goals as goal
+
+pub slice_bounds-solve-end-2 : goal.slice_bounds-solve-end-2
+slice_bounds-solve-end-2 c = sym (length-take-le _ _ (omega (arith, ap length c.prices-prices.ensures, blank_long most_prices, c.requires.0)))
+
+pub put_refused-requires : goal.put_refused-requires
+put_refused-requires c = omega (arith, c.requires.3)
+
+pub returns-in-Accepted : goal.returns-in-Accepted
+returns-in-Accepted c =
+    let lent = blank_front (4 * c.args.m) most_prices c.prices-prices.result c.prices-prices.ensures (omega (arith, c.requires.0)) in
+    same_text (rw (lent, tenth_bits, damping_bits_lem) at (accepted_text_lem c.solve-answer.ensures _ _ c.in-Accepted.is)) c.put_accepted.ensures
+
+pub returns-in-Refused : goal.returns-in-Refused
+returns-in-Refused c =
+    let lent = blank_front (4 * c.args.m) most_prices c.prices-prices.result c.prices-prices.ensures (omega (arith, c.requires.0)) in
+    same_text (rw (lent, tenth_bits, damping_bits_lem) at (refused_text_lem c.solve-answer.ensures _ c.in-Refused.is)) c.Put-refused.ensures

@@ -1,0 +1,76 @@
+use native.Mathlib.Omega.{arith}
+use mathlib.Core.Path.{refl, sym, ◌∙◌}
+use Prim.Native.Nat.{◌-◌}
+use Rattle.lanes.specs.Lanes.{room}
+use Rattle.machine.specs.Machine.{Settings}
+use Rattle.machine.proofs.Turns.{start_steps}
+use Rattle.memory.specs.Planned.{problem_in, data_in}
+use Rattle.memory.specs.Calls.{call_in}
+use Rattle.lane_test.specs.Measures.{Measured}
+use Rattle.step.specs.Steps.{With, Told}
+use Rattle.step.proofs.Steps.{untouched_room, untouched_on, untouched_wider}
+use Rattle.step.proofs.Statuses.{fresh_frame}
+use Rattle.run.specs.Tests.{ByNorms}
+use Rattle.run.proofs.Runs.{settings_of, settings_with, settings_norms, bears, ends_ran, ran_tests, goes, goes_on, told_step, stepped}
+use Rattle.run.proofs.run.Goals as goal
+
+pub normal_eqn_init-requires : goal.normal_eqn_init-requires
+normal_eqn_init-requires c = (omega (arith, c.requires.0.room), c.requires.0.lent.wide)
+
+pub loop-outcome-init : goal.loop-outcome-init
+loop-outcome-init c =
+    let f = c.normal_eqn_init.ensures in (
+      (λ H W D. start_steps (call_in H c.args.plan c.args.block c.args.width c.args.off.now c.args.cols.now c.args.vals.now c.args.b.now c.args.c.now c.args.tol.now) c.args.controls.limit _ c.requires.1 f.all),
+      record { size = refl; beyond = λ j l. refl },
+      omega (arith, c.requires.0.room, untouched_room (fresh_frame f)),
+    )
+
+pub overflow_add-k : goal.overflow_add-k
+overflow_add-k c = let f = c.args.controls in let g = (c.loop-outcome.invariant.0 (settings_of f) (settings_with f) (settings_norms f)).under in omega (arith, g, c.well_formed)
+
+pub measure-sums-requires : goal.measure-sums-requires
+measure-sums-requires c = let p = c.requires.0.lent in (p.rows, p.columns, p.slack, omega (arith, c.loop-outcome.invariant.2), p.wide)
+
+pub test_at-statuses-requires : goal.test_at-statuses-requires
+test_at-statuses-requires c =
+    (
+      record { planned = c.requires.0.planned; lent = c.requires.0.lent; room = c.loop-outcome.invariant.2 },
+      c.measure-sums.ensures,
+      λ H W D. bears H c.args.plan c.args.block c.args.width c.requires.0.lent.wide c.args.off.now c.args.cols.now c.args.vals.now c.args.b.now c.args.c.now c.args.tol.now c.args.controls.limit c.loop-outcome.k _ (c.loop-outcome.invariant.0 H W D),
+    )
+
+pub turn_after-requires : goal.turn_after-requires
+turn_after-requires c = c.requires.0.lent.wide.most
+
+pub returns-in-Ends : goal.returns-in-Ends
+returns-in-Ends c =
+    (
+      untouched_on (untouched_wider (fresh_frame c.normal_eqn_init.ensures) (omega arith)) c.loop-outcome.invariant.1,
+      λ H W D. ran_tests (call_in H c.args.plan c.args.block c.args.width c.args.off.now c.args.cols.now c.args.vals.now c.args.b.now c.args.c.now c.args.tol.now) c.args.controls.limit c.requires.1 _ _ (ends_ran (call_in H c.args.plan c.args.block c.args.width c.args.off.now c.args.cols.now c.args.vals.now c.args.b.now c.args.c.now c.args.tol.now) c.args.controls.limit c.loop-outcome.k _ c.test_at-statuses.result (c.loop-outcome.invariant.0 H W D) (c.test_at-statuses.ensures H W D).says _ (sym c.turn_after.ensures ∙ c.in-Ends.is)),
+    )
+
+pub step_lanes-requires : goal.step_lanes-requires
+step_lanes-requires c =
+    let p = c.requires.0.lent in
+    (c.requires.0.planned, record { slack = p.slack; wide = p.wide; within = p.within; b_long = p.b_long; c_long = p.c_long }, c.loop-outcome.invariant.2)
+
+pub loop-outcome-smaller : goal.loop-outcome-smaller
+loop-outcome-smaller c = let f = c.args.controls in let g = (c.loop-outcome.invariant.0 (settings_of f) (settings_with f) (settings_norms f)).under in omega (arith, g)
+
+pub loop-outcome-preserved : goal.loop-outcome-preserved
+loop-outcome-preserved c =
+    let F = c.args.controls in
+    let r = c.measure-sums.result in
+    let A = problem_in c.args.plan c.args.off.now c.args.cols.now c.args.vals.now in
+    let d = data_in c.args.plan c.args.block c.args.b.now c.args.c.now c.args.tol.now in
+    let on = goes c.args.width c.test_at-statuses.result c.args.controls.limit _ (sym c.turn_after.ensures ∙ c.in-Steps.is) in
+    let told : (H : Settings) → With F H → ByNorms A H → Told c.args.width A H d c.test_at-statuses.result r.mu c.loop-outcome.work =
+    λ H W D.
+    let m : Measured c.args.width A.m A.n A.s H.centring c.loop-outcome.work r.nx r.ny r.g r.mu = rw W.centring c.measure-sums.ensures in
+    told_step H c.args.plan c.args.block c.args.width c.requires.0.lent.wide c.args.off.now c.args.cols.now c.args.vals.now c.args.b.now c.args.c.now c.args.tol.now (c.test_at-statuses.ensures H W D).says on m in
+    let step = c.step_lanes.ensures in
+    let f = (step (settings_of F) c.args.tol.now (settings_with F) (told (settings_of F) (settings_with F) (settings_norms F))).frame in (
+      (λ H W D. goes_on (call_in H c.args.plan c.args.block c.args.width c.args.off.now c.args.cols.now c.args.vals.now c.args.b.now c.args.c.now c.args.tol.now) c.args.controls.limit c.loop-outcome.k _ c.test_at-statuses.result (c.loop-outcome.invariant.0 H W D) (c.test_at-statuses.ensures H W D).says _ on (stepped H c.args.plan c.args.block c.args.width c.requires.0.lent.wide c.args.off.now c.args.cols.now c.args.vals.now c.args.b.now c.args.c.now c.args.tol.now (step H c.args.tol.now W (told H W D)))),
+      untouched_on c.loop-outcome.invariant.1 f,
+      omega (arith, c.loop-outcome.invariant.2, untouched_room f),
+    )

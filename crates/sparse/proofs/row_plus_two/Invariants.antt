@@ -1,0 +1,11 @@
+use Prim.Native.Nat.{◌-◌}
+use lib.ListN.{length}
+use lib.Ieee.{binary64, add}
+use Rattle.sparse.proofs.Loops.{row_term, Sum}
+use Rattle.sparse.proofs.row_plus_two.Given as goal
+
+abbrev pub invariant-loop-k : goal.invariant-loop-k
+invariant-loop-k l = Sum l.width (add binary64) (row_term l.width l.work l.x l.es l.vs) (length l.es) l.initial.first l.first l.k × Sum l.width (add binary64) (row_term l.width l.work l.u l.es l.vs) (length l.es) l.initial.second l.second l.k
+
+abbrev pub decreases-loop-k : goal.decreases-loop-k
+decreases-loop-k l = length l.es - l.k

@@ -1,0 +1,37 @@
+use Rattle.lanes.proofs.Quads.{on}
+use Rattle.lanes.proofs.Regions.{room_le, kept_room}
+use native.Mathlib.Omega.{arith}
+use Rattle.kernels.proofs.Laid.{laid}
+use Rattle.plan_laws.proofs.Follows.{cols_for}
+use Rattle.memory.proofs.Plans.{indexed, prepared}
+use Rattle.step.proofs.Steps.{changed}
+use Rattle.step.proofs.compute_dx_dz_dw.Goals as goal
+
+pub regions-mem-requires : goal.regions-mem-requires
+regions-mem-requires c = omega (arith, room_le c.args.width c.args.work.now, c.requires.1, c.well_formed)
+
+pub atindptr-atindptr-requires : goal.atindptr-atindptr-requires
+atindptr-atindptr-requires c = indexed c.requires.0.is
+
+pub atindices-atindices-requires : goal.atindices-atindices-requires
+atindices-atindices-requires c = indexed c.requires.0.is
+
+pub atmap-atmap-requires : goal.atmap-atmap-requires
+atmap-atmap-requires c = indexed c.requires.0.is
+
+pub column_changes-p-requires : goal.column_changes-p-requires
+column_changes-p-requires c =
+    rw (c.regions-mem.ensures, c.atindptr-atindptr.ensures, c.atindices-atindices.ensures, c.atmap-atmap.ensures)
+    ((cols_for (prepared c.requires.0.is)).ranges, laid c.requires.2 c.requires.1)
+
+pub slack_changes-q-requires : goal.slack_changes-q-requires
+slack_changes-q-requires c =
+    let z = kept_room c.column_changes-p.ensures.0.kept in
+    rw c.regions-mem.ensures
+    (laid c.requires.2 (omega (arith, c.requires.1, z)))
+
+pub returns : goal.returns
+returns c =
+    let p = rw (c.regions-mem.ensures, c.atindptr-atindptr.ensures, c.atindices-atindices.ensures, c.atmap-atmap.ensures) at c.column_changes-p.ensures in
+    let q = rw c.regions-mem.ensures at c.slack_changes-q.ensures in
+    λ off cols H d P Y. changed _ _ H d _ _ _ _ (cols_for (prepared P)) P.slack Y p.0 p.1 q.0 q.1 (on c.requires.2 c.larger4.ensures)
