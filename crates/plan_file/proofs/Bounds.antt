@@ -1,12 +1,12 @@
 -- How large the numbers of the sixteen lists are: all fit 32 bits, and so does the length of each list's record. Assumes nothing.
-use mathlib.Core.Path.{◌≡◌, refl, ap}
+use mathlib.Core.Path.{◌≡◌}
 use mathlib.Core.Bool.{Bool, true, false, cond, ◌&&◌}
-use mathlib.Core.List.{List, [], ◌∷◌, ◌++◌, map}
+use mathlib.Core.List.{List, [], ◌∷◌, map}
 use Prim.Native.Nat.{ℕ, zero, suc, ◌+◌, ◌-◌, ◌*◌, ◌^◌, ◌<◌, ◌≤◌}
 use native.Mathlib.Omega.{arith}
 use native.Mathlib.Nat.{mul-le-mul}
 use lib.Dec.{eqb, ltb}
-use lib.ListN.{length, get_or}
+use lib.ListN.{length}
 use Rattle.base.specs.Numbers.{find, Below}
 use Rattle.base.specs.Sums.{sum, one}
 use Rattle.base.specs.Cat.{cat, pick, pairs}
@@ -14,9 +14,9 @@ use Rattle.base.proofs.Numbers.{below_more, below_join, below_pick}
 use Rattle.base.proofs.Sums.{sum_le, sum_more, sum_swap, count_le}
 use Rattle.csr.specs.Pattern.{has, row}
 use Rattle.csr.specs.Csr.{Accepted}
-use Rattle.csr.specs.Counts.{common, is_stored, count_e, count_s, count_d}
+use Rattle.csr.specs.Counts.{count_e, count_s, count_d}
 use Rattle.csr.proofs.Rows.{row_length}
-use Rattle.lists.specs.Lists.{Shape, shape, both, weight, lplace, place, before, piece, list_of, begins, shared, products, holds, entry, in_column, column, column_ends, columns, ends_of, columns_of, field}
+use Rattle.lists.specs.Lists.{shape, both, weight, lplace, place, before, piece, list_of, begins, shared, products, holds, entry, in_column, column, column_ends, columns, ends_of, columns_of, field}
 use Rattle.lists.specs.declared.Which.{Which}
 use Rattle.lists.specs.declared.Which.TheVariants.{AnormIndptr, AnormIndptrI, AnormIndptrJ, AnormIndices, LdecompIndptr, LdecompIndptrI, LdecompIndptrJ, Lindptr, LdiagIndptr, Lindices}
 use Rattle.lists.specs.declared.Side.{Side}
@@ -28,7 +28,7 @@ use Rattle.lists.proofs.Few.{pairs_256, few_stored, shared_few, few_products, tr
 use Rattle.plan_file.specs.Tables.{wide}
 use Rattle.plan_file.specs.Verdicts.{Fitting}
 use Rattle.plan_file.specs.Matrix.{six_at, matrix_lists}
-use Rattle.plan_file.proofs.Files.{Numbered, wide_fitting}
+use Rattle.plan_file.proofs.Files.{wide_fitting}
 
 -- ---- numbers below a bound
 

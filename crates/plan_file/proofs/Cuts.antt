@@ -1,13 +1,13 @@
 -- A WRITTEN FILE THAT IS CUT, and one that has other lists. Assumes nothing.
 use mathlib.Core.Path.{◌≡◌, refl, sym, ap, ap₂, ◌∙◌}
 use mathlib.Core.Logic.{◌⊎◌, inl, inr}
-use mathlib.Core.Bool.{Bool, true, false, cond, ◌&&◌}
+use mathlib.Core.Bool.{Bool, true, false, cond}
 use mathlib.Core.List.{List, [], ◌∷◌, ◌++◌}
 use Prim.Native.Nat.{ℕ, zero, suc, ◌+◌, ◌*◌, ◌-◌, ◌/◌, ◌%◌, ◌^◌, ◌<◌, ◌≤◌}
 use native.Mathlib.Omega.{arith}
 use native.Mathlib.Nat.{mul-suc}
-use borrow.Author.Tests.{eq-eqb, ne_eqb, leb-true, leb-false, lt-leb, le-leb}
-use lib.Dec.{eqb, leb}
+use borrow.Author.Tests.{eq-eqb, ne_eqb, leb-true, leb-false}
+use lib.Dec.{leb}
 use lib.ListN.{length, take, drop, length-append, length-drop}
 use lib.Seq.{take-take, take-append-add, length-take-le}
 use Rattle.base.proofs.Bools.{and_in}
@@ -16,9 +16,8 @@ use Rattle.base.specs.Numbers.{Below}
 use Rattle.plan_file.specs.Bytes.{number, words, numbers, numbers_in, Bytes}
 use Rattle.plan_file.specs.Records.{Entry, record_of, length_at, rest_at, first_at, starts_whole, Cut, short, whole, also, records_up_to, records_of}
 use Rattle.plan_file.specs.declared.Meaning.{Meaning}
-use Rattle.plan_file.specs.declared.Meaning.TheVariants.{Listed}
 use Rattle.plan_file.specs.Tables.{Table, wide}
-use Rattle.plan_file.specs.Verdicts.{whole_body, whole_bodies, is_next, after, in_order, are_matrixs, asked, file_verdict, whole_file, ordered_file, matrixs_file, Sound, Fitting, lists_from}
+use Rattle.plan_file.specs.Verdicts.{whole_body, whole_bodies, in_order, are_matrixs, asked, file_verdict, whole_file, ordered_file, matrixs_file, Sound, Fitting, lists_from}
 use Rattle.plan_file.specs.Written.{Writer, wide_writer, written_from, written_file, records_with}
 use Rattle.plan_file.proofs.Numbers.{length_words, whole_words, words_in_numbers, number_under, bytes_take, bytes_drop, length_numbers}
 use Rattle.plan_file.proofs.Parse.{length_record, length_at_lem, cut_first, cut_record, no_length, no_room}

@@ -1,16 +1,15 @@
 -- Cutting a file into records, and putting it together again. Assumes nothing.
-use mathlib.Core.Path.{◌≡◌, refl, sym, ap, ap₂, ◌∙◌, subst}
-use mathlib.Core.Bool.{Bool, true, false, cond, ◌&&◌}
+use mathlib.Core.Path.{◌≡◌, refl, sym, ap, ap₂, ◌∙◌}
+use mathlib.Core.Bool.{Bool, true, false, cond}
 use mathlib.Core.List.{List, [], ◌∷◌, ◌++◌, append_assoc}
-use Prim.Native.Nat.{ℕ, zero, suc, ◌+◌, ◌*◌, ◌-◌, ◌^◌, ◌<◌, ◌≤◌}
+use Prim.Native.Nat.{ℕ, zero, suc, ◌+◌, ◌-◌, ◌^◌, ◌<◌, ◌≤◌}
 use native.Mathlib.Omega.{arith}
 use borrow.Author.Tests.{le-leb, lt-leb, leb-true}
-use lib.Dec.{leb}
-use lib.ListN.{length, get_or, take, drop, length-append, length-take, length-drop, take-append-drop}
+use lib.ListN.{length, take, drop, length-append, length-take, length-drop, take-append-drop}
 use lib.Seq.{take_at, drop_at, drop-drop}
 use Rattle.base.proofs.Bools.{and_in, and_out}
 use Rattle.plan_file.specs.Bytes.{bytes_of, number, Bytes}
-use Rattle.plan_file.specs.Records.{Entry, head_of, record_of, length_at, kind_at, body_at, rest_at, first_at, starts_whole, Cut, short, whole, also, records_up_to, records_of}
+use Rattle.plan_file.specs.Records.{head_of, record_of, length_at, kind_at, body_at, rest_at, first_at, starts_whole, Cut, short, also, records_up_to, records_of}
 use Rattle.plan_file.proofs.Numbers.{kept, length_bytes, bytes_take, bytes_drop, bytes_are, number_under}
 
 pub length_record : (kind : ℕ) (body : List ℕ) → length (record_of kind body) ≡ 6 + length body

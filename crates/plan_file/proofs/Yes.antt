@@ -1,23 +1,23 @@
 -- WHICH FILES GET A YES AT 14 TO 16, and the lists that they give. Assumes nothing.
 use mathlib.Core.Path.{◌≡◌, refl, sym, ap, ap₂, ◌∙◌, subst}
 use mathlib.Core.Logic.{◌↔◌}
-use mathlib.Core.Bool.{Bool, true, false, cond, ◌&&◌, false≢true}
+use mathlib.Core.Bool.{Bool, true, false, cond, false≢true}
 use mathlib.Core.List.{List, [], ◌∷◌, ◌++◌}
-use Prim.Native.Nat.{ℕ, zero, suc, ◌+◌, ◌*◌, ◌-◌, ◌%◌, ◌^◌, ◌<◌, ◌≤◌}
+use Prim.Native.Nat.{ℕ, zero, suc, ◌+◌, ◌-◌, ◌^◌, ◌<◌, ◌≤◌}
 use native.Mathlib.Omega.{arith}
 use borrow.Author.Tests.{eq-eqb, eqb-true}
 use lib.Dec.{eqb}
 use lib.ListN.{length, length-append}
 use Rattle.base.proofs.Bools.{and_in, and_out}
 use Rattle.csr.specs.Verdict.{Verdict, passed, refused, ask}
-use Rattle.plan_file.specs.Bytes.{Bytes, words, numbers_in}
+use Rattle.plan_file.specs.Bytes.{Bytes, words}
 use Rattle.plan_file.specs.Records.{Entry, record_of, kind_at, body_at, rest_at, first_at, starts_whole, Cut, short, whole, also, records_up_to, records_of}
 use Rattle.plan_file.specs.declared.Meaning.{Meaning}
 use Rattle.plan_file.specs.declared.Meaning.TheVariants.{Listed, Note, Neither}
-use Rattle.plan_file.specs.Tables.{Table, first_note}
+use Rattle.plan_file.specs.Tables.{Table}
 use Rattle.plan_file.specs.Verdicts.{whole_body, whole_bodies, is_next, after, in_order, same, is_matrixs, are_matrixs, asked, file_verdict, Around, ended, noted, held, Filed, Sound, Fitting, given, given_by, given_cut, lists_in, lists_from}
 use Rattle.plan_file.proofs.Numbers.{length_words, numbers_in_words, words_in_numbers, whole_words}
-use Rattle.plan_file.proofs.Parse.{length_record, cut_first, cut_record, Starts, starts_out, body_fits, kind_small, together, bytes_body, bytes_rest}
+use Rattle.plan_file.proofs.Parse.{length_record, cut_record, Starts, starts_out, body_fits, kind_small, together, bytes_body, bytes_rest}
 
 -- ---- lists compared
 

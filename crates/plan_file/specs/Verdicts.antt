@@ -2,7 +2,7 @@
 use Rattle.std.specs.Prelude.{◌≡◌, Bool, true, false, ◌&&◌, List, [], ◌∷◌, ◌++◌, ℕ, zero, suc, ◌+◌, ◌*◌, ◌^◌, ◌%◌, ◌<◌, ◌≤◌, eqb, length}
 use Rattle.base.specs.Numbers.{Below}
 use Rattle.csr.specs.Verdict.{Verdict, passed, refused, ask}
-use Rattle.plan_file.specs.Bytes.{bytes_of, words, numbers, numbers_in}
+use Rattle.plan_file.specs.Bytes.{words, numbers, numbers_in}
 use Rattle.plan_file.specs.Records.{Entry, record_of, Cut, short, whole, records_up_to, records_of}
 use Rattle.plan_file.specs.declared.Meaning.{Meaning}
 use Rattle.plan_file.specs.declared.Meaning.TheVariants.{Listed, Note, Neither}

@@ -1,5 +1,5 @@
 -- The file that the writing call makes. Definitions only.
-use Rattle.std.specs.Prelude.{List, [], ◌∷◌, ◌++◌, ℕ, zero, suc, ◌+◌, ◌^◌, ◌<◌, ◌≤◌, length}
+use Rattle.std.specs.Prelude.{List, [], ◌++◌, ℕ, zero, suc, ◌+◌, ◌^◌, ◌<◌, ◌≤◌, length}
 use Rattle.plan_file.specs.Bytes.{words}
 use Rattle.plan_file.specs.Records.{record_of}
 use Rattle.plan_file.specs.Tables.{first_note}

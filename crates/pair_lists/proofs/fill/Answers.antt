@@ -1,5 +1,5 @@
 -- `pair_lists::fill` meets its contract. Assumes nothing.
-use Prim.Native.Nat.{◌+◌, ◌-◌}
+use Prim.Native.Nat.{◌+◌}
 use mathlib.Core.Path.{refl, sym, ap, ◌∙◌}
 use native.Mathlib.Omega.{arith}
 use lib.ListN.{length, get_or}
@@ -28,14 +28,13 @@ mark_for-requires c = turns.markable c.args.off.now c.args.cols.now c.args.m c.r
 
 pub fill_row-s-requires : goal.fill_row-s-requires
 fill_row-s-requires c =
-    let a = c.args in
-    (
+    let a = c.args in (
       record {
-        at = record { m = a.m; wide = c.requires.0.wide; ready = c.requires.0.listing.ready; grid = c.requires.0.listing.grid; inside = c.loop-i-test.true; long = omega (arith, c.requires.0.long, c.loop-i.invariant.5, c.mark_for.auto.1.1.1.1.0); marks = λ h. over_low c.loop-i.mark c.mark_for.new.mark (get_or a.off.now c.loop-i.i 0) (row a.off.now a.cols.now c.loop-i.i) (c.mark_for.ensures.0 h) c.requires.0.wide (λ x u. c.loop-i.invariant.6 x (c.requires.0.low x u)) };
+        at = record { m = a.m; wide = c.requires.0.wide; ready = c.requires.0.listing.ready; grid = c.requires.0.listing.grid; inside = c.loop-i-test.true; long = omega (arith, c.requires.0.long, c.loop-i.invariant.5); marks = λ h. over_low c.loop-i.mark c.mark_for.new.mark (get_or a.off.now c.loop-i.i 0) (row a.off.now a.cols.now c.loop-i.i) (c.mark_for.ensures.read h) c.requires.0.wide (λ x u. c.loop-i.invariant.6 x (c.requires.0.low x u)) };
         rows = c.requires.0.listing.rows;
       },
       record { count = c.loop-i.invariant.2; few = c.loop-i.invariant.3 },
-      turns.row_room (shape a.off.now a.cols.now) a.which a.m c.loop-i.i a.start (length c.loop-i.index) c.keep-at.result c.loop-i.at c.loop-i-test.true (omega (arith, c.requires.1, c.loop-i.invariant.1, c.keep-at.auto.0))
+      turns.row_room (shape a.off.now a.cols.now) a.which a.m c.loop-i.i a.start (length c.loop-i.index) c.keep-at.result c.loop-i.at c.loop-i-test.true (omega (arith, c.requires.1, c.loop-i.invariant.1))
           (c.keep-at.ensures.next ∙ ap (λ (t : Bool). a.start + length (pick t 0)) c.has_head.ensures) c.loop-i.invariant.4.next,
     )
 
@@ -48,7 +47,7 @@ loop-i-smaller c = omega (arith, c.loop-i-test.true)
 pub loop-i-preserved : goal.loop-i-preserved
 loop-i-preserved c =
     let a = c.args in
-    (omega (arith, c.loop-i-test.true), c.fill_row-s.auto.1.1.1.1.1.1.1.1.1.0 ∙ c.loop-i.invariant.1, c.fill_row-s.ensures.1.count, c.fill_row-s.ensures.1.few, turns.rows_next (shape a.off.now a.cols.now) a.which c.keep-at.new.index c.loop-i.index c.fill_row-s.new.index c.keep-at.result c.loop-i.at c.fill_row-s.result.at c.loop-i.i c.loop-i.invariant.4 c.fill_row-s.ensures.0, c.mark_for.auto.1.1.1.1.0 ∙ c.loop-i.invariant.5, λ x h. turns.mark_low a.which a.off.now a.cols.now c.loop-i.mark c.mark_for.new.mark c.loop-i.i (c.requires.0.listing.grid.csr.order c.loop-i.i c.loop-i-test.true) (c.requires.0.listing.grid.csr.ends (c.loop-i.i + 1) (omega (arith, c.loop-i-test.true))) c.mark_for.ensures.0 c.mark_for.ensures.1 x (c.loop-i.invariant.6 x h))
+    (omega (arith, c.loop-i-test.true), omega arith, c.fill_row-s.ensures.1.count, c.fill_row-s.ensures.1.few, turns.rows_next (shape a.off.now a.cols.now) a.which c.keep-at.new.index c.loop-i.index c.fill_row-s.new.index c.keep-at.result c.loop-i.at c.fill_row-s.result.at c.loop-i.i c.loop-i.invariant.4 c.fill_row-s.ensures.0, omega arith, λ x h. turns.mark_low a.which a.off.now a.cols.now c.loop-i.mark c.mark_for.new.mark c.loop-i.i (c.requires.0.listing.grid.csr.order c.loop-i.i c.loop-i-test.true) (c.requires.0.listing.grid.csr.ends (c.loop-i.i + 1) (omega (arith, c.loop-i-test.true))) c.mark_for.ensures.read c.mark_for.ensures.unread x (c.loop-i.invariant.6 x h))
 
 pub returns : goal.returns
 returns c =

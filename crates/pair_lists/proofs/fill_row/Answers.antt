@@ -1,6 +1,6 @@
 -- `pair_lists::fill_row` meets its contract. Assumes nothing.
-use Prim.Native.Nat.{◌<◌, ◌+◌, ◌-◌}
-use mathlib.Core.Path.{refl, ◌∙◌}
+use Prim.Native.Nat.{◌<◌, ◌+◌}
+use mathlib.Core.Path.{refl}
 use native.Mathlib.Omega.{arith}
 use lib.ListN.{length, get_or}
 use Rattle.pattern.specs.Word.{bit}
@@ -24,7 +24,7 @@ row_first-t-requires c =
 pub loop-t-init : goal.loop-t-init
 loop-t-init c =
     let a = c.args in
-    let h = turns.turned_from a.off.now a.cols.now c.requires.0.at.m a.p.now c.requires.0.at.ready a.lindptr.now a.lindices.now c.requires.0.rows a.which a.i c.requires.0.at.inside a.index.now a.start a.count c.row_first-t.result c.row_first-t.ensures.0 c.row_first-t.ensures.1 in
+    let h = turns.turned_from a.off.now a.cols.now c.requires.0.at.m a.p.now c.requires.0.at.ready a.lindptr.now a.lindices.now c.requires.0.rows a.which a.i c.requires.0.at.inside a.index.now a.start a.count c.row_first-t.result c.row_first-t.ensures.last c.row_first-t.ensures.first in
     (h.0, h.1, refl, h.2)
 
 pub byte_at-j-requires : goal.byte_at-j-requires
@@ -71,7 +71,7 @@ loop-t-preserved c =
     let up : c.loop-t.t < get_or a.lindptr.now (a.i + 1) 0 = omega (arith, c.loop-t-test.true, c.word_at-b.ensures) in (
       omega (arith, c.loop-t.invariant.0),
       omega (arith, up),
-      c.put_piece-at.auto.1.1.1.1.1.1.1.1.1.1.1.0 ∙ c.loop-t.invariant.2,
+      omega arith,
       turns.turn_next a.off.now a.cols.now c.requires.0.at.m a.p.now c.requires.0.at.ready a.lindptr.now a.lindices.now c.requires.0.rows a.which a.i c.requires.0.at.inside c.loop-t.t c.byte_at-j.result c.loop-t.invariant.0 up c.byte_at-j.ensures a.index.now c.loop-t.index a.start c.loop-t.at a.count c.loop-t.n c.loop-t.invariant.3 c.put_piece-at.new.index c.weigh-n.result c.put_piece-at.result c.weigh-n.ensures.0 c.weigh-n.ensures.1 c.put_piece-at.ensures,
     )
 

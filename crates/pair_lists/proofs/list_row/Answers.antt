@@ -1,6 +1,6 @@
 -- `pair_lists::list_row` meets its contract. Assumes nothing.
-use Prim.Native.Nat.{ℕ, ◌+◌, ◌-◌}
-use mathlib.Core.Path.{◌≡◌, refl, ◌∙◌, subst}
+use Prim.Native.Nat.{ℕ, ◌+◌}
+use mathlib.Core.Path.{◌≡◌, refl, subst}
 use native.Mathlib.Omega.{arith}
 use lib.ListN.{length}
 use Rattle.pattern.specs.Word.{bit}
@@ -34,7 +34,7 @@ loop-k-smaller c = omega (arith, c.loop-k-test.true)
 pub loop-k-preserved : goal.loop-k-preserved
 loop-k-preserved c =
     let a = c.args in
-    (omega (arith, c.loop-k-test.true), c.keep_byte-at.auto.0 ∙ c.loop-k.invariant.1, law.row_next (bit a.p.now a.i) a.lindices.now c.loop-k.lindices c.keep_byte-at.new.s a.start c.loop-k.at c.keep_byte-at.result c.loop-k.k c.test.result c.loop-k.invariant.2 c.test.ensures c.keep_byte-at.ensures)
+    (omega (arith, c.loop-k-test.true), omega arith, law.row_next (bit a.p.now a.i) a.lindices.now c.loop-k.lindices c.keep_byte-at.new.s a.start c.loop-k.at c.keep_byte-at.result c.loop-k.k c.test.result c.loop-k.invariant.2 c.test.ensures c.keep_byte-at.ensures)
 
 pub returns : goal.returns
 returns c =

@@ -1,6 +1,6 @@
 -- `pair_lists::list_rows` meets its contract. Assumes nothing.
-use Prim.Native.Nat.{◌<◌, ◌+◌, ◌-◌}
-use mathlib.Core.Path.{◌≡◌, refl, ◌∙◌}
+use Prim.Native.Nat.{◌<◌, ◌+◌}
+use mathlib.Core.Path.{◌≡◌, refl}
 use native.Mathlib.Omega.{arith}
 use lib.ListN.{length}
 use Rattle.pattern.specs.Word.{bit}
@@ -31,7 +31,7 @@ overflow_cast-at c =
     omega (arith, c.list_row-at.ensures.next, law.kept_short (bit a.p.now c.loop-i.i) (c.loop-i.i + 1), law.listing_small (bit a.p.now) c.store.new.s a.lindices.now c.loop-i.lindices c.loop-i.lindptr c.loop-i.at c.loop-i.i c.loop-i.invariant.3 (omega (arith, c.requires.1)), c.requires.1)
 
 pub store-requires-in-loop-i : goal.store-requires-in-loop-i
-store-requires-in-loop-i c = omega (arith, c.requires.2, c.loop-i.invariant.1, c.store.auto.0, c.loop-i-test.true)
+store-requires-in-loop-i c = omega (arith, c.requires.2, c.loop-i.invariant.1, c.loop-i-test.true)
 
 pub loop-i-smaller : goal.loop-i-smaller
 loop-i-smaller c = omega (arith, c.loop-i-test.true)
@@ -41,16 +41,18 @@ loop-i-preserved c =
     let a = c.args in
     let lt : c.loop-i.i < a.m = c.loop-i-test.true in (
       omega (arith, lt),
-      c.store-in-loop-i.auto.0 ∙ c.loop-i.invariant.1,
-      c.list_row-at.auto.1.1.0 ∙ c.loop-i.invariant.2,
-      law.listing_next (bit a.p.now) c.store.new.s a.lindices.now c.loop-i.lindices c.loop-i.lindptr c.loop-i.at c.loop-i.i c.loop-i.invariant.3 c.list_row-at.new.lindices c.store-in-loop-i.new.s c.list_row-at.result c.list_row-at.result (omega (arith, c.requires.2, c.loop-i.invariant.1, c.store.auto.0, lt)) c.list_row-at.ensures refl c.store-in-loop-i.ensures,
+      omega arith,
+      omega arith,
+      law.listing_next (bit a.p.now) c.store.new.s a.lindices.now c.loop-i.lindices c.loop-i.lindptr c.loop-i.at c.loop-i.i c.loop-i.invariant.3 c.list_row-at.new.lindices c.store-in-loop-i.new.s c.list_row-at.result c.list_row-at.result (omega (arith, c.requires.2, c.loop-i.invariant.1, lt)) c.list_row-at.ensures refl c.store-in-loop-i.ensures,
     )
 
 pub returns : goal.returns
 returns c =
     let a = c.args in
     let e : c.loop-i.i ≡ a.m = omega (arith, c.loop-i.invariant.0, c.loop-i-test.false) in
-    (
-      law.listing_end (bit a.p.now) c.store.new.s a.lindices.now c.loop-i.lindices c.loop-i.lindptr c.loop-i.at c.loop-i.i c.loop-i.invariant.3 a.m e c.requires.1 (omega (arith, c.requires.2, c.loop-i.invariant.1, c.store.auto.0)) c.requires.3 c.loop-i.invariant.2 (omega (arith, c.requires.4, c.loop-i.invariant.2)),
-      law.listing_whole (bit a.p.now) c.store.new.s a.lindices.now c.loop-i.lindices c.loop-i.lindptr c.loop-i.at c.loop-i.i c.loop-i.invariant.3 a.m a.lindptr.now e c.store.ensures,
-    )
+    let w = law.listing_whole (bit a.p.now) c.store.new.s a.lindices.now c.loop-i.lindices c.loop-i.lindptr c.loop-i.at c.loop-i.i c.loop-i.invariant.3 a.m a.lindptr.now e c.store.ensures in
+    record {
+      rows = law.listing_end (bit a.p.now) c.store.new.s a.lindices.now c.loop-i.lindices c.loop-i.lindptr c.loop-i.at c.loop-i.i c.loop-i.invariant.3 a.m e c.requires.1 (omega (arith, c.requires.2, c.loop-i.invariant.1)) c.requires.3 c.loop-i.invariant.2 (omega (arith, c.requires.4, c.loop-i.invariant.2));
+      offsets = w.0;
+      columns = w.1;
+    }

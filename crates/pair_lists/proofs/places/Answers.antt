@@ -1,5 +1,5 @@
 -- `pair_lists::places` meets its contract. Assumes nothing.
-use Prim.Native.Nat.{ℕ, ◌<◌, ◌+◌, ◌-◌}
+use Prim.Native.Nat.{ℕ, ◌<◌, ◌+◌}
 use mathlib.Core.Path.{refl, sym, ap, ◌∙◌, subst}
 use mathlib.Core.List.{◌++◌}
 use lib.ListN.{length-append}
@@ -61,7 +61,7 @@ loop-t-preserved c =
     let lt : c.loop-t.t < length a.l.now = c.loop-t-test.true in
     let h : ℕ → Bool = bit a.p.now a.q in (
       omega arith,
-      c.keep-at.auto.0 ∙ c.loop-t.invariant.1,
+      omega arith,
       wrote_as a.index.now c.keep-at.new.index a.start c.keep-at.result _ _ (ap (λ (x : Bool). places_of h a.base (take c.loop-t.t a.l.now) ++ pick x (a.base + c.loop-t.t)) (c.test.ensures ∙ ap h c.byte_at-k.ensures) ∙ sym (thru.places_next h a.l.now c.loop-t.t a.base lt))
           (wrote_join a.index.now c.loop-t.index c.keep-at.new.index a.start c.loop-t.at c.keep-at.result _ _ c.loop-t.invariant.2 c.keep-at.ensures),
     )

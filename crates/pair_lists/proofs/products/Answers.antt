@@ -12,6 +12,12 @@ slice_bounds-places-count c =
     let h = thru.cut_fits a.p.now a.lindptr.now a.lindices.now c.requires.1.m a.r a.q a.t c.word_at-a.result c.requires.1.rows c.requires.1.inside c.requires.1.first c.requires.1.last c.word_at-a.ensures in
     omega (arith, h.0, h.1, h.2)
 
+pub slice_bounds-places-end : goal.slice_bounds-places-end
+slice_bounds-places-end c =
+    let a = c.args in
+    let h = thru.cut_fits a.p.now a.lindptr.now a.lindices.now c.requires.1.m a.r a.q a.t c.word_at-a.result c.requires.1.rows c.requires.1.inside c.requires.1.first c.requires.1.last c.word_at-a.ensures in
+    omega (arith, h.0, h.1, h.2)
+
 pub overflow_cast-a : goal.overflow_cast-a
 overflow_cast-a c =
     let a = c.args in

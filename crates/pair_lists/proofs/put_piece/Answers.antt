@@ -12,37 +12,33 @@ pub word-requires : goal.word-requires
 word-requires c = omega (arith, c.requires.2, ap length (law.of_anorm_indptr c.requires.0 c.requires.1 c.in-AnormIndptr.is))
 
 pub put_shared-requires : goal.put_shared-requires
-put_shared-requires c =
-    (
-      law.marked c.requires.0 c.requires.1 (ap marks_read c.in-AnormIndptrI.is),
-      omega (arith, c.requires.2, ap length (law.of_anorm_indptr_i c.requires.0 c.requires.1 c.in-AnormIndptrI.is)),
-    )
+put_shared-requires c = (
+  law.marked c.requires.0 c.requires.1 (ap marks_read c.in-AnormIndptrI.is),
+  omega (arith, c.requires.2, ap length (law.of_anorm_indptr_i c.requires.0 c.requires.1 c.in-AnormIndptrI.is)),
+)
 
 pub put_shared-requires-in-AnormIndptrJ : goal.put_shared-requires-in-AnormIndptrJ
-put_shared-requires-in-AnormIndptrJ c =
-    (
-      law.marked c.requires.0 c.requires.1 (ap marks_read c.in-AnormIndptrJ.is),
-      omega (arith, c.requires.2, ap length (law.of_anorm_indptr_j c.requires.0 c.requires.1 c.in-AnormIndptrJ.is)),
-    )
+put_shared-requires-in-AnormIndptrJ c = (
+  law.marked c.requires.0 c.requires.1 (ap marks_read c.in-AnormIndptrJ.is),
+  omega (arith, c.requires.2, ap length (law.of_anorm_indptr_j c.requires.0 c.requires.1 c.in-AnormIndptrJ.is)),
+)
 
 pub put_shared-requires-in-AnormIndices : goal.put_shared-requires-in-AnormIndices
-put_shared-requires-in-AnormIndices c =
-    (
-      law.marked c.requires.0 c.requires.1 (ap marks_read c.in-AnormIndices.is),
-      omega (arith, c.requires.2, ap length (law.of_anorm_indices c.requires.0 c.requires.1 c.in-AnormIndices.is)),
-    )
+put_shared-requires-in-AnormIndices c = (
+  law.marked c.requires.0 c.requires.1 (ap marks_read c.in-AnormIndices.is),
+  omega (arith, c.requires.2, ap length (law.of_anorm_indices c.requires.0 c.requires.1 c.in-AnormIndices.is)),
+)
 
 pub word-requires-in-LdecompIndptr : goal.word-requires-in-LdecompIndptr
 word-requires-in-LdecompIndptr c = omega (arith, c.requires.2, ap length (law.of_ldecomp_indptr c.requires.0 c.requires.1 c.in-LdecompIndptr.is))
 
 pub products-requires : goal.products-requires
-products-requires c =
-    (
-      c.requires.0.at.ready.words,
-      record { m = c.requires.0.at.m; rows = c.requires.0.rows; inside = c.requires.0.at.inside; first = c.requires.1.first; last = c.requires.1.last },
-      omega (arith, law.left c.requires.0 c.requires.1, (law.below c.requires.0 c.requires.1).1),
-      omega (arith, c.requires.2, ap length (law.of_ldecomp_indptr_i c.requires.0 c.requires.1 c.in-LdecompIndptrI.is)),
-    )
+products-requires c = (
+  c.requires.0.at.ready.words,
+  record { m = c.requires.0.at.m; rows = c.requires.0.rows; inside = c.requires.0.at.inside; first = c.requires.1.first; last = c.requires.1.last },
+  omega (arith, law.left c.requires.0 c.requires.1, (law.below c.requires.0 c.requires.1).1),
+  omega (arith, c.requires.2, ap length (law.of_ldecomp_indptr_i c.requires.0 c.requires.1 c.in-LdecompIndptrI.is)),
+)
 
 pub overflow_add-j : goal.overflow_add-j
 overflow_add-j c = omega (arith, law.left c.requires.0 c.requires.1, (law.below c.requires.0 c.requires.1).1)

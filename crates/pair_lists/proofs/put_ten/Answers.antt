@@ -1,6 +1,6 @@
 -- `pair_lists::put_ten` meets its contract. Assumes nothing.
-use Prim.Native.Nat.{ℕ, ◌-◌}
-use mathlib.Core.Path.{◌≡◌, refl, ◌∙◌, subst}
+use Prim.Native.Nat.{ℕ}
+use mathlib.Core.Path.{◌≡◌, refl, subst}
 use native.Mathlib.Omega.{arith}
 use lib.ListN.{length}
 use Rattle.base.specs.Cat.{Wrote}
@@ -20,7 +20,7 @@ clear-requires c = omega (arith, c.requires.2, c.loop-k.invariant.1)
 pub fill-at-requires : goal.fill-at-requires
 fill-at-requires c =
     let a = c.args in
-    (record { wide = a.wide; listing = c.requires.0; long = omega (arith, c.requires.2, c.loop-k.invariant.1, c.clear.auto.0); low = λ x h. omega (arith, cleared_at c.loop-k.mark c.clear.new.s 0 0 a.wide c.clear.ensures x h) }, all.ten_room (shape a.off.now a.cols.now) a.m 10 a.start (length c.loop-k.index) c.loop-k.at c.loop-k.k c.which_field.result c.which_field.ensures (omega (arith, c.loop-k-test.true)) (omega (arith, c.requires.1, c.loop-k.invariant.2)) c.loop-k.invariant.3.next)
+    (record { wide = a.wide; listing = c.requires.0; long = omega (arith, c.requires.2, c.loop-k.invariant.1); low = λ x h. omega (arith, cleared_at c.loop-k.mark c.clear.new.s 0 0 a.wide c.clear.ensures x h) }, all.ten_room (shape a.off.now a.cols.now) a.m 10 a.start (length c.loop-k.index) c.loop-k.at c.loop-k.k c.which_field.result c.which_field.ensures (omega (arith, c.loop-k-test.true)) (omega (arith, c.requires.1, c.loop-k.invariant.2)) c.loop-k.invariant.3.next)
 
 pub overflow_add-k : goal.overflow_add-k
 overflow_add-k c = omega (arith, c.loop-k-test.true)
@@ -31,7 +31,7 @@ loop-k-smaller c = omega (arith, c.loop-k-test.true)
 pub loop-k-preserved : goal.loop-k-preserved
 loop-k-preserved c =
     let a = c.args in
-    (omega (arith, c.loop-k-test.true), c.fill-at.auto.1.1.1.1.1.1.1.0 ∙ c.clear.auto.0 ∙ c.loop-k.invariant.1, c.fill-at.auto.1.1.1.1.1.1.1.1.0 ∙ c.loop-k.invariant.2, all.ten_next (shape a.off.now a.cols.now) a.m a.index.now c.loop-k.index c.fill-at.new.index a.start c.loop-k.at c.fill-at.result c.loop-k.k c.which_field.result c.which_field.ensures c.loop-k.invariant.3 c.fill-at.ensures)
+    (omega (arith, c.loop-k-test.true), omega arith, omega arith, all.ten_next (shape a.off.now a.cols.now) a.m a.index.now c.loop-k.index c.fill-at.new.index a.start c.loop-k.at c.fill-at.result c.loop-k.k c.which_field.result c.which_field.ensures c.loop-k.invariant.3 c.fill-at.ensures)
 
 pub returns : goal.returns
 returns c =

@@ -33,11 +33,10 @@ overflow_sub-result c =
 
 pub returns-in-AnormIndptr : goal.returns-in-AnormIndptr
 unfolding weight
-returns-in-AnormIndptr c =
-    (
-      c.count_shared.ensures.0 ∙ ap (λ (w : Which). weight (shape c.args.off.now c.args.cols.now) w c.args.i c.args.j) (sym c.in-AnormIndptr.is),
-      omega (arith, c.count_shared.ensures.1, c.requires.0.ready.short),
-    )
+returns-in-AnormIndptr c = (
+  c.count_shared.ensures.0 ∙ ap (λ (w : Which). weight (shape c.args.off.now c.args.cols.now) w c.args.i c.args.j) (sym c.in-AnormIndptr.is),
+  omega (arith, c.count_shared.ensures.1, c.requires.0.ready.short),
+)
 
 pub returns-then-test : goal.returns-then-test
 returns-then-test c =

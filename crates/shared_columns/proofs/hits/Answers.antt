@@ -1,6 +1,6 @@
 -- `shared_columns::hits` meets its contract. Assumes nothing.
-use Prim.Native.Nat.{◌<◌, ◌+◌, ◌-◌}
-use mathlib.Core.Path.{refl, sym, ap, ◌∙◌}
+use Prim.Native.Nat.{◌<◌, ◌+◌}
+use mathlib.Core.Path.{refl, sym, ap}
 use lib.ListN.{length-append}
 use Rattle.base.proofs.Numbers.{below_at}
 use native.Mathlib.Omega.{arith}
@@ -46,10 +46,9 @@ loop-q-smaller c = omega (arith, c.loop-q-test.true)
 pub loop-q-preserved : goal.loop-q-preserved
 loop-q-preserved c =
     let a = c.args in
-    let lt : c.loop-q.q < length a.b.now = c.loop-q-test.true in
-    (
+    let lt : c.loop-q.q < length a.b.now = c.loop-q-test.true in (
       omega arith,
-      c.hit_one-at.auto.1.1.1.1.1.0 ∙ c.loop-q.invariant.1,
+      omega arith,
       wrote_as a.index.now c.hit_one-at.new.index a.start c.hit_one-at.result _ _ (sym (marks.along_next (hit a.take a.mark.now a.lo) a.b.now c.loop-q.q a.y lt)) (wrote_join a.index.now c.loop-q.index c.hit_one-at.new.index a.start c.loop-q.at c.hit_one-at.result _ _ c.loop-q.invariant.2 c.hit_one-at.ensures),
     )
 

@@ -1,6 +1,6 @@
 -- `shared_columns::mark_row` meets its contract. Assumes nothing.
 use Prim.Native.Nat.{ℕ, ◌<◌, ◌+◌, ◌-◌}
-use mathlib.Core.Path.{◌≡◌, refl, sym, ◌∙◌, subst}
+use mathlib.Core.Path.{◌≡◌, refl, sym, subst}
 use mathlib.Core.List.{List}
 use native.Mathlib.Omega.{arith}
 use lib.ListN.{length, get_or, set}
@@ -26,12 +26,6 @@ loop-k-init c =
 pub word_at-e-requires : goal.word_at-e-requires
 word_at-e-requires c = omega (arith, c.loop-k-test.true, c.word_at-b.ensures, c.requires.part.ends)
 
-pub overflow_cast-k : goal.overflow_cast-k
-overflow_cast-k c = omega (arith, c.loop-k-test.true, c.word_at-b.ensures, c.shared_slice_known-1.given (c.args.i + 1))
-
-pub overflow_add-k : goal.overflow_add-k
-overflow_add-k c = omega (arith, c.loop-k-test.true, c.word_at-b.ensures, c.shared_slice_known-1.given (c.args.i + 1))
-
 pub store-requires : goal.store-requires
 store-requires c =
     let a = c.args in
@@ -51,7 +45,7 @@ loop-k-preserved c =
     let z : c.loop-k.k - get_or a.off.now a.i 0 + 1 ≡ c.loop-k.k + 1 - get_or a.off.now a.i 0 = omega (arith, c.loop-k.invariant.0) in (
       omega (arith, c.loop-k.invariant.0),
       omega (arith, lt),
-      c.store.auto.0 ∙ c.loop-k.invariant.2,
+      omega arith,
       subst (λ (x : List ℕ). marks.Marking a.mark.now x (get_or a.off.now a.i 0) (row a.off.now a.cols.now a.i) (c.loop-k.k + 1 - get_or a.off.now a.i 0)) (sym c.store.ensures)
           (subst (λ (x : ℕ). marks.Marking a.mark.now (set c.loop-k.mark c.word_at-e.result (c.loop-k.k + 1)) (get_or a.off.now a.i 0) (row a.off.now a.cols.now a.i) x) z
           (marks.marking_next a.mark.now c.loop-k.mark (get_or a.off.now a.i 0) (row a.off.now a.cols.now a.i) (c.loop-k.k - get_or a.off.now a.i 0) c.word_at-e.result (c.loop-k.k + 1) c.requires.rising
