@@ -1,4 +1,4 @@
--- The marked examples on the pattern, the sizes and questions 1 to 5: rows under one theorem, `examples-hold` of proofs/Examples.antt. Definitions only.
+-- The marked examples on the pattern, the sizes and questions 1 to 5: rows under one theorem, `examples_hold` of proofs/Examples.antt. Definitions only.
 use Rattle.std.specs.Prelude.{◌≡◌, Bool, true, false, List, [], ◌∷◌, map, ℕ, length}
 use Rattle.csr.specs.Pattern.{neighbours}
 use Rattle.csr.specs.Chain.{Chain}

@@ -1,4 +1,4 @@
--- The marked examples on the sixteen lists: rows under one theorem, `examples-hold` of proofs/Examples.antt. Definitions only.
+-- The marked examples on the sixteen lists: rows under one theorem, `examples_hold` of proofs/Examples.antt. Definitions only.
 use Rattle.std.specs.Prelude.{◌≡◌, List, [], ◌∷◌, map, ℕ, length}
 use Rattle.lists.specs.Lists.{Shape, shape, list_of, ends_of, columns_of, plan_words}
 use Rattle.lists.specs.declared.Side.TheVariants.{Factor, Matrix}

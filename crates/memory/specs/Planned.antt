@@ -1,5 +1,5 @@
 -- An index memory that begins with the plan of a matrix. Definitions only.
-use Rattle.std.specs.Prelude.{◌≡◌, List, ◌++◌, ℕ, ◌+◌, ◌≤◌, length, Float}
+use Rattle.std.specs.Prelude.{◌≡◌, List, ◌++◌, ℕ, ◌≤◌, length, Float}
 use Rattle.csr.specs.Csr.{Accepted}
 use Rattle.csr.specs.Counts.{Counted}
 use Rattle.lists.specs.Lists.{plan_words}

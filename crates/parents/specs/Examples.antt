@@ -1,4 +1,4 @@
--- The parents of four matrices: rows under one theorem, `examples-hold` of proofs/Examples.antt. Definitions only.
+-- The parents of four matrices: rows under one theorem, `examples_hold` of proofs/Examples.antt. Definitions only.
 use Rattle.std.specs.Prelude.{◌≡◌, List, [], ◌∷◌, map, ℕ}
 use Rattle.csr.specs.Counts.{is_stored}
 use Rattle.csr.specs.Examples.{Matrix, single, star, late, four}

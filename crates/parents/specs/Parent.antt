@@ -16,7 +16,7 @@ pub data Along (st near : ℕ → ℕ → Bool) (i : ℕ) : ℕ → Type 0 where
   up : {k r : ℕ} → Along st near i k → Parent st k r → r < i → Along st near i r
 
 -- WHY COUNTING ALONG PARENTS IS RIGHT: for k < i, (i, k) is in the factor exactly when k is reached from a neighbour of i below i along parents below i.
--- `row-along` of proofs/Ascent.antt, for all lists
+-- `row_along` of proofs/Ascent.antt, for all lists
 abbrev pub RowAlong : List ℕ → List ℕ → Type 0
 RowAlong off cols = (i k : ℕ) → k < i → (is_stored off cols i k ≡ true) ↔ Along (is_stored off cols) (neighbours off cols) i k
 

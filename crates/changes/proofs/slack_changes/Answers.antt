@@ -1,5 +1,4 @@
 use native.Mathlib.Omega.{arith}
-use Prim.Native.Nat.{◌-◌}
 use Rattle.lanes.proofs.Quads.{on}
 use Rattle.lanes.proofs.Regions.{room_le, kept_room}
 use Rattle.kernels.proofs.Laid.{laid_room, in_w, in_dw, in_slack_y, in_slack_dy}

@@ -1,5 +1,5 @@
 -- `csr::first_short` meets its contract. Assumes nothing.
-use Prim.Native.Nat.{◌+◌, ◌-◌}
+use Prim.Native.Nat.{◌+◌}
 use native.Mathlib.Omega.{arith}
 use borrow.Author.Tests.{lt-ltb, le-ltb}
 use lib.ListN.{get_or}
@@ -11,7 +11,7 @@ pub loop-i-init : goal.loop-i-init
 loop-i-init c = starts _ _
 
 pub overflow_add-word_at : goal.overflow_add-word_at
-overflow_add-word_at c = omega (arith, c.word_at-in-loop-i.ensures, c.shared_slice_known-1.given c.loop-i.i, c.requires.1)
+overflow_add-word_at c = omega (arith, c.word_at-in-loop-i.ensures, c.type_inv.offsets c.loop-i.i, c.requires.1)
 
 pub returns-then-word_at-least : goal.returns-then-word_at-least
 returns-then-word_at-least c =

@@ -1,11 +1,10 @@
 -- `csr::is_bad` meets its contract. Assumes nothing.
-use Prim.Native.Nat.{◌-◌}
 use native.Mathlib.Omega.{arith}
 use borrow.Author.Tests.{lt-ltb, le-ltb, le-leb, lt-leb}
-use mathlib.Core.Logic.{⊎_elim}
 use Rattle.csr.specs.Questions.{bad_row}
 use Rattle.csr.proofs.First.{starts, goes_on, found_test, none_test}
 use Rattle.csr.proofs.is_bad.Goals as goal
+use Rattle.csr.proofs.is_bad.Goals.{then-k-gt0+else-row-k-2, else-k-gt0}
 
 pub loop-k-init : goal.loop-k-init
 loop-k-init c = starts _ _
@@ -24,10 +23,10 @@ returns-then-row-k-2 c =
 pub loop-k-preserved : goal.loop-k-preserved
 loop-k-preserved c =
     let first = lt-leb _ _ c.if-row-k.false in
-    ⊎_elim
-    (λ w. goes_on _ _ _ (omega arith) (simp (first, lt-ltb _ _ w.0.taken, lt-leb _ _ w.3.left)) c.loop-k.invariant)
-    (λ w. goes_on _ _ _ (omega arith) (simp (first, le-ltb _ _ w.left)) c.loop-k.invariant)
-    c.if-k-gt0.branch
+    elim c.if-k-gt0.branch [
+      | then-k-gt0+else-row-k-2 w ↦ goes_on _ _ _ (omega arith) (simp (first, lt-ltb _ _ w.if-k-gt0.true, lt-leb _ _ w.if-row-k-2.false)) c.loop-k.invariant
+      | else-k-gt0 w ↦ goes_on _ _ _ (omega arith) (simp (first, le-ltb _ _ w.if-k-gt0.false)) c.loop-k.invariant
+    ]
 
 pub returns : goal.returns
 unfolding bad_row

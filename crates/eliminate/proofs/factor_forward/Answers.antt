@@ -1,5 +1,4 @@
 -- `eliminate::factor_forward` meets its contract. Assumes nothing.
-use Prim.Native.Nat.{◌-◌}
 use native.Mathlib.Omega.{arith}
 use Rattle.lanes.proofs.Regions.{room_le, kept_room}
 use Rattle.memory.proofs.Plans.{given_of}

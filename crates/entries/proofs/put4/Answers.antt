@@ -14,4 +14,4 @@ pub bounds-work-p-4 : goal.bounds-work-p-4
 bounds-work-p-4 c = simp length-set (omega arith)
 
 pub returns : goal.returns
-returns c = sym (put_four c.args.work.now c.args.entry c.args.t3)
+returns c = sym (put_four c.args.work.now c.args.entry c.args.v)

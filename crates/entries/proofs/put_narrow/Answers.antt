@@ -32,4 +32,4 @@ pub bounds-work-p-3 : goal.bounds-work-p-3
 bounds-work-p-3 c = simp length-set (omega (arith, c.requires.0, c.requires.1, c.well_formed.0, room_in c.args.width c.args.work.now c.args.entry c.requires.2))
 
 pub returns : goal.returns
-returns c = put_few c.args.width c.args.work.now c.args.entry c.args.t4 c.requires.0 c.requires.1
+returns c = put_few c.args.width c.args.work.now c.args.entry c.args.v c.requires.0 c.requires.1

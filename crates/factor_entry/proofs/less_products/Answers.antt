@@ -2,7 +2,7 @@ use mathlib.Core.Path.{sym, ap}
 use lib.ListN.{length}
 use Rattle.lanes.proofs.Regions.{room_le}
 use Rattle.lanes.proofs.Quads.{on}
-use Prim.Native.Nat.{◌+◌, ◌-◌}
+use Prim.Native.Nat.{◌+◌}
 use native.Mathlib.Omega.{arith}
 use Rattle.plan_laws.specs.Factoring.{product_step}
 use Rattle.factor_entry.proofs.Sums.{by_ends, product_here, summed_none, product_turn, summed_end, ldecomp_end}
@@ -54,12 +54,11 @@ pub loop-p-smaller : goal.loop-p-smaller
 loop-p-smaller c = omega (arith, c.loop-p-test.true)
 
 pub loop-p-preserved : goal.loop-p-preserved
-loop-p-preserved c =
-    (
-      omega (arith, c.loop-p.invariant.0),
-      omega (arith, c.loop-p-test.true),
-      product_turn c.loop-p.acc c.ldecomp_indptr_i-left.result.now c.ldecomp_indptr_j-right.result.now c.args.work.now c.args.lo c.word_at-p.result c.loop-p.p c.word_at-i.result c.word_at-j.result c.args.start c.loop-p.invariant.0 c.loop-p.invariant.2 c.word_at-i.ensures c.word_at-j.ensures c.get-a.ensures c.get-b.ensures (on c.requires.3 c.less_in-t.ensures),
-    )
+loop-p-preserved c = (
+  omega (arith, c.loop-p.invariant.0),
+  omega (arith, c.loop-p-test.true),
+  product_turn c.loop-p.acc c.ldecomp_indptr_i-left.result.now c.ldecomp_indptr_j-right.result.now c.args.work.now c.args.lo c.word_at-p.result c.loop-p.p c.word_at-i.result c.word_at-j.result c.args.start c.loop-p.invariant.0 c.loop-p.invariant.2 c.word_at-i.ensures c.word_at-j.ensures c.get-a.ensures c.get-b.ensures (on c.requires.3 c.less_in-t.ensures),
+)
 
 pub returns : goal.returns
 returns c =

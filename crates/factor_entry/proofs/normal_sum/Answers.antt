@@ -2,7 +2,7 @@ use mathlib.Core.Path.{sym, ap}
 use lib.ListN.{length}
 use Rattle.lanes.proofs.Regions.{room_le}
 use Rattle.lanes.proofs.Quads.{on}
-use Prim.Native.Nat.{◌+◌, ◌-◌}
+use Prim.Native.Nat.{◌+◌}
 use native.Mathlib.Omega.{arith}
 use Rattle.plan_laws.specs.Factoring.{normal_step}
 use Rattle.factor_entry.proofs.Sums.{by_ends, normal_here, summed_none, normal_turn, summed_end, anorm_end}
@@ -72,12 +72,11 @@ pub loop-p-smaller : goal.loop-p-smaller
 loop-p-smaller c = omega (arith, c.loop-p-test.true)
 
 pub loop-p-preserved : goal.loop-p-preserved
-loop-p-preserved c =
-    (
-      omega (arith, c.loop-p.invariant.0),
-      omega (arith, c.loop-p-test.true),
-      normal_turn c.loop-p.acc c.args.values.now c.anorm_indptr_i-left.result.now c.anorm_indptr_j-right.result.now c.anorm_indices-columns.result.now c.args.work.now c.args.mem.x c.args.mem.z c.word_at-p.result c.loop-p.p c.word_at-i.result c.word_at-j.result c.word_at-c.result c.args.start c.loop-p.invariant.0 c.loop-p.invariant.2 c.word_at-i.ensures c.word_at-j.ensures c.word_at-c.ensures c.get-xc.ensures c.get-zc.ensures (on c.requires.3 c.normal_in-t.ensures),
-    )
+loop-p-preserved c = (
+  omega (arith, c.loop-p.invariant.0),
+  omega (arith, c.loop-p-test.true),
+  normal_turn c.loop-p.acc c.args.values.now c.anorm_indptr_i-left.result.now c.anorm_indptr_j-right.result.now c.anorm_indices-columns.result.now c.args.work.now c.args.mem.x c.args.mem.z c.word_at-p.result c.loop-p.p c.word_at-i.result c.word_at-j.result c.word_at-c.result c.args.start c.loop-p.invariant.0 c.loop-p.invariant.2 c.word_at-i.ensures c.word_at-j.ensures c.word_at-c.ensures c.get-xc.ensures c.get-zc.ensures (on c.requires.3 c.normal_in-t.ensures),
+)
 
 pub returns : goal.returns
 returns c =

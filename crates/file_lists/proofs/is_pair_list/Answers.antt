@@ -29,7 +29,7 @@ same_list-requires c =
       record {
         wide = c.args.plan.n;
         listing = record { ready = known.ready; rows = known.rows; grid = grid };
-        long = omega (arith, c.requires.3, c.clear.auto.0);
+        long = omega (arith, c.requires.3);
         low = λ x h. omega (arith, cleared_at c.args.mark.now c.clear.new.s 0 0 c.args.plan.n c.clear.ensures x h);
       },
       omega (arith, ap length (ten_list c.args.off.now c.args.cols.now c.args.plan.m c.args.plan.n c.requires.2.accepted c.args.k c.which_field-which.result c.requires.0 c.requires.1 c.which_field-which.ensures)),

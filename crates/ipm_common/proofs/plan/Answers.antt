@@ -23,7 +23,7 @@ returns-in-Good c =
     let room = room_verdict a.m a.n a.offsets.now a.columns.now (length a.index.now) in
     let new = plan_words a.offsets.now a.columns.now a.m a.n ++ drop (size_w a.offsets.now a.columns.now a.m a.n) a.index.now in
     let said = c.plan_accepted.ensures.says ∙ ap (λ (v : Verdict). and_then v room) (sym (ap verdict.told_asked c.in-Good.is) ∙ c.ask.ensures) in
-    (said, c.plan_accepted.ensures.words ∙ ap (λ (v : Verdict). left v new a.index.now) said)
+    record { answer = said; words = c.plan_accepted.ensures.words ∙ ap (λ (v : Verdict). left v new a.index.now) said }
 
 pub returns-in-Refused : goal.returns-in-Refused
 unfolding plan_verdict plan_index
@@ -32,4 +32,4 @@ returns-in-Refused c =
     let room = room_verdict a.m a.n a.offsets.now a.columns.now (length a.index.now) in
     let new = plan_words a.offsets.now a.columns.now a.m a.n ++ drop (size_w a.offsets.now a.columns.now a.m a.n) a.index.now in
     let said = ap (λ (v : Verdict). and_then v room) (sym (ap verdict.told_asked c.in-Refused.is) ∙ c.ask.ensures) in
-    (said, ap (λ (v : Verdict). left v new a.index.now) said)
+    record { answer = said; words = ap (λ (v : Verdict). left v new a.index.now) said }

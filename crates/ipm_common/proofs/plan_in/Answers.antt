@@ -21,11 +21,10 @@ pattern-requires c =
 
 pub count_all-t-requires : goal.count_all-t-requires
 count_all-t-requires c =
-    let a = c.args in
-    (
+    let a = c.args in (
       c.requires.0,
-      rows_ready a.offsets.now a.columns.now c.pattern.new.p a.m c.requires.0.csr c.requires.0.offsets.few c.pattern.auto.1.1.1.0 c.pattern.ensures,
-      c.list_rows.ensures.0,
+      rows_ready a.offsets.now a.columns.now c.pattern.new.p a.m c.requires.0.csr c.requires.0.offsets.few c.pattern.auto.p c.pattern.ensures,
+      c.list_rows.ensures.rows,
       c.requires.1.counts,
     )
 
@@ -47,14 +46,13 @@ pub put_plan-requires : goal.put_plan-requires
 put_plan-requires c =
     let a = c.args in
     let z = plan_size a.offsets.now a.columns.now a.m a.n c.requires.0 in
-    let w : c.words-w.result ≡ size_w a.offsets.now a.columns.now a.m a.n = c.words-w.ensures ∙ fin.words_are a.offsets.now a.columns.now a.m a.n _ _ _ c.count_all-t.ensures in
-    (
+    let w : c.words-w.result ≡ size_w a.offsets.now a.columns.now a.m a.n = c.words-w.ensures ∙ fin.words_are a.offsets.now a.columns.now a.m a.n _ _ _ c.count_all-t.ensures in (
       c.requires.0,
-      rows_ready a.offsets.now a.columns.now c.pattern.new.p a.m c.requires.0.csr c.requires.0.offsets.few c.pattern.auto.1.1.1.0 c.pattern.ensures,
-      c.list_rows.ensures.0,
+      rows_ready a.offsets.now a.columns.now c.pattern.new.p a.m c.requires.0.csr c.requires.0.offsets.few c.pattern.auto.p c.pattern.ensures,
+      c.list_rows.ensures.rows,
       omega (arith, z, w, c.if-index-w.false),
       omega (arith, c.requires.1.marks.columns),
-      record { rows = omega (arith, c.requires.1.counts.rows, c.count_all-t.auto.1.1.1.1.1.1.1.0); columns = omega (arith, c.requires.1.counts.columns, c.count_all-t.auto.1.1.1.1.1.1.1.0) },
+      record { rows = omega (arith, c.requires.1.counts.rows, c.count_all-t.auto.next); columns = omega (arith, c.requires.1.counts.columns, c.count_all-t.auto.next) },
       c.requires.1.firsts,
     )
 

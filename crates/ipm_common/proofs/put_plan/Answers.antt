@@ -14,12 +14,12 @@ put_ten-a-requires c =
 pub transpose-b-requires : goal.transpose-b-requires
 transpose-b-requires c =
     let a = c.args in
-    (law.rows_grid (bit a.p.now) a.lindptr.now a.lindices.now a.m c.requires.2, omega (arith, c.requires.3, fin.plan_long a.off.now a.cols.now a.m a.n a.p.now a.lindptr.now a.lindices.now c.requires.1 c.requires.2, c.put_ten-a.auto.1.1.1.1.1.1.1.1.0, c.put_ten-a.ensures.next), c.requires.5.rows, c.requires.6.rows)
+    (law.rows_grid (bit a.p.now) a.lindptr.now a.lindices.now a.m c.requires.2, omega (arith, c.requires.3, fin.plan_long a.off.now a.cols.now a.m a.n a.p.now a.lindptr.now a.lindices.now c.requires.1 c.requires.2, c.put_ten-a.auto.index, c.put_ten-a.ensures.next), c.requires.5.rows, c.requires.6.rows)
 
 pub transpose-requires : goal.transpose-requires
 transpose-requires c =
     let a = c.args in
-    (accepted_grid a.off.now a.cols.now a.m a.n c.requires.0, omega (arith, c.requires.3, fin.plan_long a.off.now a.cols.now a.m a.n a.p.now a.lindptr.now a.lindices.now c.requires.1 c.requires.2, c.put_ten-a.auto.1.1.1.1.1.1.1.1.0, c.put_ten-a.ensures.next, c.transpose-b.auto.1.1.1.1.1.1.1.1.0, c.transpose-b.ensures.next), omega (arith, c.requires.5.columns, c.transpose-b.auto.1.1.1.1.1.1.0), omega (arith, c.requires.6.columns, c.transpose-b.auto.1.1.1.1.1.1.1.0))
+    (accepted_grid a.off.now a.cols.now a.m a.n c.requires.0, omega (arith, c.requires.3, fin.plan_long a.off.now a.cols.now a.m a.n a.p.now a.lindptr.now a.lindices.now c.requires.1 c.requires.2, c.put_ten-a.auto.index, c.put_ten-a.ensures.next, c.transpose-b.auto.index, c.transpose-b.ensures.next), omega (arith, c.requires.5.columns, c.transpose-b.auto.next), omega (arith, c.requires.6.columns, c.transpose-b.auto.again))
 
 pub returns : goal.returns
 returns c =

@@ -1,6 +1,5 @@
 use native.Mathlib.Omega.{arith}
 use mathlib.Core.Path.{◌≡◌}
-use Prim.Native.Nat.{◌-◌}
 use Rattle.lanes.proofs.Regions.{room_le}
 use Rattle.lanes.proofs.Quads.{on}
 use Rattle.kernels.proofs.Loops.{products_none, products_turn}

@@ -1,6 +1,5 @@
 use native.Mathlib.Omega.{arith}
 use mathlib.Core.Path.{◌≡◌}
-use Prim.Native.Nat.{◌-◌}
 use Rattle.lanes.proofs.Regions.{room_le}
 use Rattle.lanes.proofs.Quads.{on}
 use Rattle.kernels.proofs.Loops.{products_none, products_turn}
@@ -39,4 +38,4 @@ loop-e-preserved c =
 pub returns : goal.returns
 returns c =
     let z : c.loop-e.e ≡ c.args.k = omega arith in
-    (rw z at c.loop-e.invariant.1, rw z at c.loop-e.invariant.2)
+    record { squares = rw z at c.loop-e.invariant.1; products = rw z at c.loop-e.invariant.2 }

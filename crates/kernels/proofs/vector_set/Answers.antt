@@ -1,6 +1,5 @@
 use Rattle.lanes.proofs.Regions.{room_le, kept_room}
 use native.Mathlib.Omega.{arith}
-use Prim.Native.Nat.{◌-◌}
 use Rattle.lanes.specs.Lists.{at}
 use Rattle.lanes.proofs.Regions.{grows_none}
 use Rattle.lanes.proofs.Quads.{grows_turn, on_self}
@@ -23,11 +22,10 @@ pub loop-e-smaller : goal.loop-e-smaller
 loop-e-smaller c = omega (arith, c.requires.0, kept_room c.loop-e.invariant.1.kept, c.ranges, c.well_formed)
 
 pub loop-e-preserved : goal.loop-e-preserved
-loop-e-preserved c =
-    (
-      omega arith,
-      grows_turn c.loop-e.invariant.1 (omega (arith, c.requires.0)) (on_self) c.put.ensures,
-    )
+loop-e-preserved c = (
+  omega arith,
+  grows_turn c.loop-e.invariant.1 (omega (arith, c.requires.0)) (on_self) c.put.ensures,
+)
 
 pub returns : goal.returns
 returns c = filled (λ l _. at c.args.v l) c.loop-e.invariant.1 (omega arith)

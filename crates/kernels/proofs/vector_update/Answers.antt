@@ -1,6 +1,5 @@
 use Rattle.lanes.proofs.Regions.{room_le, kept_room}
 use native.Mathlib.Omega.{arith}
-use Prim.Native.Nat.{◌-◌}
 use Rattle.machine.specs.Machine.{moved}
 use Rattle.lanes.proofs.Regions.{grows_none}
 use Rattle.lanes.proofs.Quads.{grows_turn, on}
@@ -35,11 +34,10 @@ pub loop-e-smaller : goal.loop-e-smaller
 loop-e-smaller c = omega (arith, c.requires.1, c.requires.2, kept_room c.loop-e.invariant.1.kept, c.ranges, c.well_formed)
 
 pub loop-e-preserved : goal.loop-e-preserved
-loop-e-preserved c =
-    (
-      omega arith,
-      grows_turn c.loop-e.invariant.1 (omega (arith, c.requires.1)) (moved_turn c.args.dp c.args.h c.loop-e.invariant.1 c.requires.0 c.loop-e-test.true c.get-a.ensures c.get-b.ensures (on c.requires.3 c.moved_in-v.ensures)) c.put.ensures,
-    )
+loop-e-preserved c = (
+  omega arith,
+  grows_turn c.loop-e.invariant.1 (omega (arith, c.requires.1)) (moved_turn c.args.dp c.args.h c.loop-e.invariant.1 c.requires.0 c.loop-e-test.true c.get-a.ensures c.get-b.ensures (on c.requires.3 c.moved_in-v.ensures)) c.put.ensures,
+)
 
 pub returns : goal.returns
 unfolding moved

@@ -5,4 +5,4 @@ use Rattle.lanes.proofs.Consts.{null_bits}
 use Rattle.lanes.proofs.above_zero.Goals as goal
 
 pub returns : goal.returns
-returns c = ap (λ v. every_lane (lt v) c.args.t1) null_bits
+returns c = ap (λ v. every_lane (lt v) c.args.a) null_bits

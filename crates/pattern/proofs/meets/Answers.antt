@@ -6,7 +6,7 @@ use Rattle.pattern.proofs.meets.Goals as goal
 pub returns : goal.returns
 returns c =
     let a = c.args in
-    (
-      λ e. meet_yes a.p.now a.i a.j c.common_word.result c.common_word-2.result c.common_word-3.result c.common_word-4.result c.common_word.ensures c.common_word-2.ensures c.common_word-3.ensures c.common_word-4.ensures (omega arith) (omega arith) (omega arith) (omega arith) e,
-      λ e. meet_no a.p.now a.i a.j c.common_word.result c.common_word-2.result c.common_word-3.result c.common_word-4.result c.common_word.ensures c.common_word-2.ensures c.common_word-3.ensures c.common_word-4.ensures e,
-    )
+    record {
+      yes = λ e. meet_yes a.p.now a.i a.j c.common_word.result c.common_word-2.result c.common_word-3.result c.common_word-4.result c.common_word.ensures c.common_word-2.ensures c.common_word-3.ensures c.common_word-4.ensures (omega arith) (omega arith) (omega arith) (omega arith) e;
+      no = λ e. meet_no a.p.now a.i a.j c.common_word.result c.common_word-2.result c.common_word-3.result c.common_word-4.result c.common_word.ensures c.common_word-2.ensures c.common_word-3.ensures c.common_word-4.ensures e;
+    }

@@ -1,5 +1,5 @@
 -- `pattern::pattern` meets its contract. Assumes nothing.
-use Prim.Native.Nat.{◌<◌, ◌-◌}
+use Prim.Native.Nat.{◌<◌}
 use mathlib.Core.Path.{sym, ◌∙◌}
 use native.Mathlib.Omega.{arith}
 use Rattle.csr.specs.Pattern.{neighbours}
@@ -20,7 +20,7 @@ pub seed_row-requires : goal.seed_row-requires
 seed_row-requires c = (row_of c.args.off.now c.args.cols.now c.args.m c.loop-i.i 1024 c.requires.0 (omega arith) (c.requires.1 c.loop-i.i (omega arith)), omega (arith, c.requires.0.few), c.loop-i.invariant.0, c.loop-i.invariant.3 c.loop-i.i (omega arith) (omega (arith, c.requires.0.few)), c.loop-i.invariant.4, c.loop-i.invariant.5)
 
 pub fill_row-requires : goal.fill_row-requires
-fill_row-requires c = (c.seed_row.auto.1.1.0 ∙ c.loop-i.invariant.0, omega (arith, c.requires.0.few))
+fill_row-requires c = (c.seed_row.auto.p ∙ c.loop-i.invariant.0, omega (arith, c.requires.0.few))
 
 pub overflow_add-i : goal.overflow_add-i
 overflow_add-i c = omega (arith, c.requires.0.few)
@@ -29,13 +29,13 @@ pub loop-i-preserved : goal.loop-i-preserved
 loop-i-preserved c =
     let nb = links c.args.off.now c.args.cols.now in
     let hi : c.loop-i.i < 256 = omega (arith, c.requires.0.few) in (
-      c.fill_row.auto.0 ∙ c.seed_row.auto.1.1.0 ∙ c.loop-i.invariant.0,
+      c.fill_row.auto.p ∙ c.seed_row.auto.p ∙ c.loop-i.invariant.0,
       omega arith,
-      rows_more nb c.loop-i.p c.seed_row.new.p c.fill_row.new.p c.loop-i.i hi c.seed_row.ensures.0 c.fill_row.ensures.0 c.loop-i.invariant.2
-          (c.fill_row.ensures.1 nb (done_other nb c.loop-i.p c.seed_row.new.p c.loop-i.i hi c.seed_row.ensures.0 c.loop-i.invariant.2) c.seed_row.ensures.1.0),
-      clear_less nb c.loop-i.p c.seed_row.new.p c.fill_row.new.p c.loop-i.i hi c.seed_row.ensures.0 c.fill_row.ensures.0 c.loop-i.invariant.3,
-      c.seed_row.auto.1.1.1.0 ∙ c.loop-i.invariant.4,
-      c.seed_row.ensures.1.1,
+      rows_more nb c.loop-i.p c.seed_row.new.p c.fill_row.new.p c.loop-i.i hi c.seed_row.ensures.other c.fill_row.ensures.other c.loop-i.invariant.2
+          (c.fill_row.ensures.row nb (done_other nb c.loop-i.p c.seed_row.new.p c.loop-i.i hi c.seed_row.ensures.other c.loop-i.invariant.2) c.seed_row.ensures.row),
+      clear_less nb c.loop-i.p c.seed_row.new.p c.fill_row.new.p c.loop-i.i hi c.seed_row.ensures.other c.fill_row.ensures.other c.loop-i.invariant.3,
+      c.seed_row.auto.first ∙ c.loop-i.invariant.4,
+      c.seed_row.ensures.first,
     )
 
 pub returns : goal.returns

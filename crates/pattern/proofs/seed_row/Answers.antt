@@ -1,5 +1,5 @@
 -- `pattern::seed_row` meets its contract. Assumes nothing.
-use Prim.Native.Nat.{ℕ, ◌<◌, ◌-◌}
+use Prim.Native.Nat.{ℕ, ◌<◌}
 use mathlib.Core.Path.{◌≡◌, ap, ◌∙◌}
 use mathlib.Core.List.{List}
 use native.Mathlib.Omega.{arith}
@@ -36,7 +36,7 @@ loop-q-preserved c =
       linking_turn c.args.off.now c.args.cols.now c.args.i c.link.new.p c.link.new.first c.word_at.result c.loop-q.invariant.1 c.requires.1
           (omega (arith, lt, ap length c.get_row-r.ensures))
           (c.word_at.ensures ∙ ap (λ (r : List ℕ). get_or r c.loop-q.q 0) c.get_row-r.ensures)
-          he c.link.auto.0 c.link.auto.1.0 c.link.ensures.0 c.link.ensures.1,
+          he c.link.auto.p c.link.auto.first c.link.ensures.first c.link.ensures.bits,
     )
 
 pub put-requires : goal.put-requires
@@ -47,10 +47,9 @@ returns c =
     let off = c.args.off.now in
     let cols = c.args.cols.now in
     let i = c.args.i in
-    let all : c.loop-q.q ≡ length (row off cols i) = omega (arith, c.loop-q.invariant.0, ap length c.get_row-r.ensures) in (
-      other_put c.args.p.now c.loop-q.p c.put.new.p i i c.loop-q.invariant.1.other c.put.ensures,
-      (
-        linking_row off cols i c.loop-q.invariant.1 c.requires.1 all c.put.new.p c.put.ensures,
-        linking_firsts off cols i c.loop-q.invariant.1 c.requires.1 all,
-      ),
-    )
+    let all : c.loop-q.q ≡ length (row off cols i) = omega (arith, c.loop-q.invariant.0, ap length c.get_row-r.ensures) in
+    record {
+      other = other_put c.args.p.now c.loop-q.p c.put.new.p i i c.loop-q.invariant.1.other c.put.ensures;
+      row = linking_row off cols i c.loop-q.invariant.1 c.requires.1 all c.put.new.p c.put.ensures;
+      first = linking_firsts off cols i c.loop-q.invariant.1 c.requires.1 all;
+    }

@@ -1,5 +1,4 @@
 use native.Mathlib.Omega.{arith}
-use Prim.Native.Nat.{◌-◌}
 use Rattle.lanes.proofs.Quads.{on}
 use mathlib.Core.Path.{◌≡◌}
 use Rattle.lanes.proofs.Regions.{room_le}

@@ -1,5 +1,4 @@
 use native.Mathlib.Omega.{arith}
-use Prim.Native.Nat.{◌-◌}
 use Rattle.lanes.proofs.Quads.{on}
 use Rattle.lanes.proofs.Regions.{room_le, kept_room, grows_none}
 use Rattle.sparse.proofs.Spans.{row_lent_two, row_plus_reg}
@@ -38,7 +37,7 @@ loop-i-preserved c =
     let h = c.loop-i-test.true in
     let W = c.requires.1.wide in
     let sums = c.row_plus_two-sums.ensures in
-    (omega (arith, h), f_turn c.args.width c.args.mem c.args.off.now c.args.cols.now c.args.vals.now c.args.block c.args.b.now c.args.mu c.requires.1 c.loop-i.invariant.1 h (on W c.zero4-zero.ensures) c.v_start-q.ensures (row_plus_reg c.requires.0 h c.args.width c.loop-i.work c.args.mem.x c.v_start-q.result sums.0) (row_plus_reg c.requires.0 h c.args.width c.loop-i.work c.args.mem.tmp c.zero4-zero.result sums.1) c.get_lanes-be.ensures (on W c.f_in-v.ensures) c.put.ensures)
+    (omega (arith, h), f_turn c.args.width c.args.mem c.args.off.now c.args.cols.now c.args.vals.now c.args.block c.args.b.now c.args.mu c.requires.1 c.loop-i.invariant.1 h (on W c.zero4-zero.ensures) c.v_start-q.ensures (row_plus_reg c.requires.0 h c.args.width c.loop-i.work c.args.mem.x c.v_start-q.result sums.first) (row_plus_reg c.requires.0 h c.args.width c.loop-i.work c.args.mem.tmp c.zero4-zero.result sums.second) c.get_lanes-be.ensures (on W c.f_in-v.ensures) c.put.ensures)
 
 pub returns : goal.returns
 returns c = f_end c.args.width c.args.mem c.args.off.now c.args.cols.now c.args.vals.now c.args.block c.args.b.now c.args.mu c.loop-i.invariant.1 (omega (arith, c.loop-i.invariant.0, c.loop-i-test.false))

@@ -1,5 +1,4 @@
 use native.Mathlib.Omega.{arith}
-use Prim.Native.Nat.{◌-◌}
 use Rattle.lanes.proofs.Quads.{on}
 use Rattle.lanes.proofs.Regions.{room_le, kept_room, room_put}
 use Rattle.kernels.proofs.Loops.{three_none}

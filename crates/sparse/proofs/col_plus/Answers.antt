@@ -1,5 +1,4 @@
 use mathlib.Core.Path.{refl}
-use Prim.Native.Nat.{◌-◌}
 use lib.Ieee.{binary64, add}
 use Rattle.lanes.proofs.Quads.{each_on, on_self}
 use Rattle.sparse.proofs.Loops.{sum_start, sum_turn, sum_end}

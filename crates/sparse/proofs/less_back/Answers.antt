@@ -1,4 +1,3 @@
-use Prim.Native.Nat.{◌-◌}
 use lib.ListN.{get_or}
 use lib.Ieee.{nan}
 use Rattle.lanes.specs.Arithmetic.{◌⊖◌, ◌⊗◌}

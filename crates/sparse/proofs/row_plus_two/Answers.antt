@@ -1,5 +1,4 @@
 use mathlib.Core.Path.{refl}
-use Prim.Native.Nat.{◌-◌}
 use lib.Ieee.{binary64, add}
 use Rattle.lanes.proofs.Quads.{each_on, on_self}
 use Rattle.sparse.proofs.Loops.{sum_start, sum_turn, sum_end}
@@ -29,4 +28,4 @@ loop-k-preserved c = (sum_turn c.loop-k.invariant.0 c.loop-k-test.true (each_on 
 
 pub returns : goal.returns
 unfolding plus_row plus_all
-returns c = (rw (c.span-es.ensures, c.values_of-vs.ensures) at (sum_end c.loop-k.invariant.0 c.loop-k-test.false), rw (c.span-es.ensures, c.values_of-vs.ensures) at (sum_end c.loop-k.invariant.1 c.loop-k-test.false))
+returns c = record { first = rw (c.span-es.ensures, c.values_of-vs.ensures) at (sum_end c.loop-k.invariant.0 c.loop-k-test.false); second = rw (c.span-es.ensures, c.values_of-vs.ensures) at (sum_end c.loop-k.invariant.1 c.loop-k-test.false) }

@@ -1,6 +1,6 @@
 -- `file_lists::columns::match_row` meets its contract. Assumes nothing.
 use native.Mathlib.Omega.{arith}
-use Prim.Native.Nat.{ℕ, ◌-◌}
+use Prim.Native.Nat.{ℕ}
 use mathlib.Core.Path.{refl, ap, ap₂, ◌∙◌}
 use lib.Dec.{eqb}
 use lib.ListN.{get_or}
@@ -86,7 +86,7 @@ loop-k-preserved c =
     let a = c.args in
     let cols = cols_of a.side a.cols.now a.bytes.now in (
       omega (arith, c.loop-k.invariant.0),
-      c.step-q.auto.0 ∙ c.loop-k.invariant.1,
+      omega arith,
       law.match_turn a.off.now cols a.m a.n c.requires.0 a.what a.i c.requires.1 (numbers_of a.body.now) c.requires.3 a.next.now c.requires.2 a.was c.requires.4 c.loop-k.k c.column_at-e.result c.of_entry.result c.loop-k.invariant.0 (omega (arith, c.loop-k-test.true, c.word_at-b.ensures)) c.column_at-e.ensures c.of_entry.ensures c.loop-k.next c.loop-k.invariant.1 c.loop-k.good c.loop-k.invariant.2 (eqb c.number_at.result c.of_word-x.result) c.both-good.result c.step-q.new.next (ap₂ eqb (c.number_at.ensures ∙ ap (λ (q : ℕ). get_or (numbers_of a.body.now) q 0) c.step-q.ensures.0) c.of_word-x.ensures) c.both-good.ensures c.step-q.ensures.1,
     )
 

@@ -1,7 +1,7 @@
 -- `file_lists::columns::match_rows` meets its contract. Assumes nothing.
 use native.Mathlib.Omega.{arith}
-use Prim.Native.Nat.{ℕ, ◌-◌}
-use mathlib.Core.Path.{◌≡◌, refl, ◌∙◌, subst}
+use Prim.Native.Nat.{ℕ}
+use mathlib.Core.Path.{◌≡◌, refl, subst}
 use Rattle.transpose.specs.Bins.{cols_of}
 use Rattle.file_numbers.specs.Agree.{numbers_of}
 use Rattle.file_lists.specs.Matched.{MatchedTo}
@@ -24,7 +24,7 @@ pub loop-i-smaller : goal.loop-i-smaller
 loop-i-smaller c = omega (arith, c.loop-i-test.true)
 
 pub loop-i-preserved : goal.loop-i-preserved
-loop-i-preserved c = (omega (arith, c.loop-i-test.true), c.match_row-good.auto.1.1.1.1.1.1.1.1.0 ∙ c.loop-i.invariant.1, c.match_row-good.ensures)
+loop-i-preserved c = (omega (arith, c.loop-i-test.true), omega arith, c.match_row-good.ensures)
 
 pub returns : goal.returns
 returns c =

@@ -1,6 +1,6 @@
 -- `file_lists::pairs::same_list` meets its contract. Assumes nothing.
 use native.Mathlib.Omega.{arith}
-use Prim.Native.Nat.{◌+◌, ◌-◌}
+use Prim.Native.Nat.{◌+◌}
 use mathlib.Core.Path.{refl, sym, ap, ◌∙◌}
 use mathlib.Core.Bool.{Bool}
 use lib.ListN.{length, get_or}
@@ -26,7 +26,7 @@ is_same-good-requires c =
     let a = c.args in
     let room = head_room (shape a.off.now a.cols.now) a.which a.m 0 (length (numbers_of a.body.now)) (omega (arith, c.requires.1)) in (
       omega (arith, c.keep-at.ensures.next, room, ap (λ (t : Bool). length (pick t 0)) c.has_head.ensures),
-      omega (arith, c.keep-at.ensures.next, pick_le c.has_head.result 0, c.keep-at.auto.0, c.requires.2),
+      omega (arith, c.keep-at.ensures.next, pick_le c.has_head.result 0, c.requires.2),
     )
 
 pub loop-i-init : goal.loop-i-init
@@ -48,15 +48,14 @@ mark_for-requires c =
 
 pub same_row-s-requires : goal.same_row-s-requires
 same_row-s-requires c =
-    let a = c.args in
-    (
+    let a = c.args in (
       record {
-        at = record { m = a.m; wide = c.requires.0.wide; ready = c.requires.0.listing.ready; grid = c.requires.0.listing.grid; inside = c.loop-i-test.true; long = omega (arith, c.requires.0.long, c.loop-i.invariant.4, c.mark_for.auto.1.1.1.1.0); marks = λ h. over_low c.loop-i.mark c.mark_for.new.mark (get_or a.off.now c.loop-i.i 0) (row a.off.now a.cols.now c.loop-i.i) (c.mark_for.ensures.0 h) c.requires.0.wide (λ x u. c.loop-i.invariant.5 x (c.requires.0.low x u)) };
+        at = record { m = a.m; wide = c.requires.0.wide; ready = c.requires.0.listing.ready; grid = c.requires.0.listing.grid; inside = c.loop-i-test.true; long = omega (arith, c.requires.0.long, c.loop-i.invariant.4); marks = λ h. over_low c.loop-i.mark c.mark_for.new.mark (get_or a.off.now c.loop-i.i 0) (row a.off.now a.cols.now c.loop-i.i) (c.mark_for.ensures.read h) c.requires.0.wide (λ x u. c.loop-i.invariant.5 x (c.requires.0.low x u)) };
         rows = c.requires.0.listing.rows;
       },
       c.loop-i.invariant.2,
       turns.passed_room (shape a.off.now a.cols.now) a.which (numbers_of a.body.now) a.m c.loop-i.i c.loop-i.at c.loop-i.good c.loop-i.invariant.3 c.loop-i-test.true c.requires.1,
-      room_kept a.off.now a.cols.now c.loop-i.i a.made.now c.loop-i.made (c.loop-i.invariant.1 ∙ c.keep-at.auto.0) (c.requires.3 c.loop-i.i c.loop-i-test.true),
+      room_kept a.off.now a.cols.now c.loop-i.i a.made.now c.loop-i.made (omega arith) (c.requires.3 c.loop-i.i c.loop-i-test.true),
     )
 
 pub overflow_add-i : goal.overflow_add-i
@@ -69,14 +68,13 @@ loop-i-smaller c = omega (arith, c.loop-i-test.true)
 
 pub loop-i-preserved : goal.loop-i-preserved
 loop-i-preserved c =
-    let a = c.args in
-    (
+    let a = c.args in (
       omega (arith, c.loop-i-test.true),
-      c.same_row-s.auto.1.1.1.1.1.1.1.1.1.0 ∙ c.loop-i.invariant.1,
+      omega arith,
       c.same_row-s.ensures.2,
       turns.passed_next (shape a.off.now a.cols.now) a.which (numbers_of a.body.now) c.loop-i.i c.loop-i.at c.same_row-s.result.at c.loop-i.good c.same_row-s.result.good c.both-good.result c.loop-i.invariant.3 c.same_row-s.ensures.0 c.same_row-s.ensures.1 c.both-good.ensures,
-      c.mark_for.auto.1.1.1.1.0 ∙ c.loop-i.invariant.4,
-      λ x h. mark_low a.which a.off.now a.cols.now c.loop-i.mark c.mark_for.new.mark c.loop-i.i (c.requires.0.listing.grid.csr.order c.loop-i.i c.loop-i-test.true) (c.requires.0.listing.grid.csr.ends (c.loop-i.i + 1) (omega (arith, c.loop-i-test.true))) c.mark_for.ensures.0 c.mark_for.ensures.1 x (c.loop-i.invariant.5 x h),
+      omega arith,
+      λ x h. mark_low a.which a.off.now a.cols.now c.loop-i.mark c.mark_for.new.mark c.loop-i.i (c.requires.0.listing.grid.csr.order c.loop-i.i c.loop-i-test.true) (c.requires.0.listing.grid.csr.ends (c.loop-i.i + 1) (omega (arith, c.loop-i-test.true))) c.mark_for.ensures.read c.mark_for.ensures.unread x (c.loop-i.invariant.5 x h),
     )
 
 pub returns : goal.returns

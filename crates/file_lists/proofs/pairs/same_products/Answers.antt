@@ -12,7 +12,7 @@ pub products-words-requires : goal.products-words-requires
 products-words-requires c = (c.requires.0, c.requires.1, c.requires.2, omega (arith, c.requires.3))
 
 pub is_same-good-requires : goal.is_same-good-requires
-is_same-good-requires c = (omega (arith, c.requires.4, c.products-words.ensures.next), omega (arith, c.requires.3, c.products-words.ensures.next, c.products-words.auto.1.1.1.1.1.1.0))
+is_same-good-requires c = (omega (arith, c.requires.4, c.products-words.ensures.next), omega (arith, c.requires.3, c.products-words.ensures.next))
 
 pub returns : goal.returns
 returns c =

@@ -1,7 +1,7 @@
 -- `file_lists::pairs::same_row` meets its contract. Assumes nothing.
 use native.Mathlib.Omega.{arith}
-use Prim.Native.Nat.{◌<◌, ◌+◌, ◌-◌}
-use mathlib.Core.Path.{refl, ◌∙◌}
+use Prim.Native.Nat.{◌<◌, ◌+◌}
+use mathlib.Core.Path.{refl}
 use lib.ListN.{get_or}
 use Rattle.pattern.specs.Word.{bit}
 use Rattle.pair_lists.proofs.Lists as law
@@ -35,7 +35,7 @@ pub loop-t-init : goal.loop-t-init
 loop-t-init c =
     let a = c.args in
     let r = c.requires.0 in
-    let h = turns.met_from a.off.now a.cols.now r.at.m a.p.now r.at.ready a.lindptr.now a.lindices.now r.rows a.which a.i r.at.inside (numbers_of a.body.now) a.start a.count c.row_first-t.result c.row_first-t.ensures.0 c.row_first-t.ensures.1 in
+    let h = turns.met_from a.off.now a.cols.now r.at.m a.p.now r.at.ready a.lindptr.now a.lindices.now r.rows a.which a.i r.at.inside (numbers_of a.body.now) a.start a.count c.row_first-t.result c.row_first-t.ensures.last c.row_first-t.ensures.first in
     (h.0, h.1, refl, h.2)
 
 pub byte_at-j-requires : goal.byte_at-j-requires
@@ -87,11 +87,10 @@ pub loop-t-preserved : goal.loop-t-preserved
 loop-t-preserved c =
     let a = c.args in
     let r = c.requires.0 in
-    let up : c.loop-t.t < get_or a.lindptr.now (a.i + 1) 0 = omega (arith, c.loop-t-test.true, c.word_at-b.ensures) in
-    (
+    let up : c.loop-t.t < get_or a.lindptr.now (a.i + 1) 0 = omega (arith, c.loop-t-test.true, c.word_at-b.ensures) in (
       omega (arith, c.loop-t.invariant.0),
       omega (arith, up),
-      c.same_piece-s.auto.1.1.1.1.1.1.1.1.1.1.1.0 ∙ c.loop-t.invariant.2,
+      omega arith,
       turns.met_next a.off.now a.cols.now r.at.m a.p.now r.at.ready a.lindptr.now a.lindices.now r.rows a.which a.i r.at.inside c.loop-t.t c.byte_at-j.result c.loop-t.invariant.0 up c.byte_at-j.ensures (numbers_of a.body.now) a.start c.loop-t.at a.count c.loop-t.n c.loop-t.good c.loop-t.invariant.3 c.weigh-n.result c.same_piece-s.result.words c.same_piece-s.result.good c.both-good.result c.weigh-n.ensures.0 c.weigh-n.ensures.1 c.same_piece-s.ensures.many c.same_piece-s.ensures.says c.both-good.ensures,
     )
 

@@ -10,7 +10,7 @@ pub put_shared-words-requires : goal.put_shared-words-requires
 put_shared-words-requires c = (c.requires.0, omega (arith, c.requires.1))
 
 pub is_same-good-requires : goal.is_same-good-requires
-is_same-good-requires c = (omega (arith, c.requires.2, c.put_shared-words.ensures.next), omega (arith, c.requires.1, c.put_shared-words.ensures.next, c.put_shared-words.auto.1.1.1.1.1.1.0))
+is_same-good-requires c = (omega (arith, c.requires.2, c.put_shared-words.ensures.next), omega (arith, c.requires.1, c.put_shared-words.ensures.next))
 
 pub returns : goal.returns
 returns c =

@@ -1,4 +1,3 @@
-use Prim.Native.Nat.{◌-◌}
 use native.Mathlib.Omega.{arith}
 use Rattle.file_write.proofs.Puts.{puts_none, puts_more, puts_all, puts_long}
 use Rattle.file_write.proofs.records.put_words.Goals as goal

@@ -1,4 +1,3 @@
-use Prim.Native.Nat.{◌-◌}
 use native.Mathlib.Omega.{arith}
 use Rattle.lanes.specs.Lists.{vec}
 use Rattle.record.specs.Little.{floats}
@@ -21,7 +20,7 @@ pub loop-k-smaller : goal.loop-k-smaller
 loop-k-smaller c = omega (arith, filled_length _ _ _ _ c.loop-k.invariant)
 
 pub loop-k-preserved : goal.loop-k-preserved
-loop-k-preserved c = filled_more _ _ _ _ _ (omega (arith, filled_length _ _ _ _ c.loop-k.invariant)) c.Float-at.ensures c.loop-k.invariant
+loop-k-preserved c = filled_more _ _ _ _ _ (omega (arith, filled_length _ _ _ _ c.loop-k.invariant)) c.float_at.ensures c.loop-k.invariant
 
 pub returns : goal.returns
 unfolding floats vec

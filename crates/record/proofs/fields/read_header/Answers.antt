@@ -1,4 +1,3 @@
-use borrow.Author.Tests.{not-true, not-false}
 use Rattle.record.proofs.Headers.{too_short, wrong_length, wrong_kind, wrong_sizes, wrong_end, right}
 use Rattle.record.proofs.fields.read_header.Goals as goal
 
@@ -13,8 +12,8 @@ returns-then-le16-ne-KIND c = wrong_kind _ _ c.le16.ensures.0 c.if-le16-ne-KIND.
 
 pub returns-then-not-is_within : goal.returns-then-not-is_within
 returns-then-not-is_within c =
-    wrong_sizes _ _ _ _ c.le16-m.ensures.0 c.le16-n.ensures.0 c.le16-t.ensures.0 _ c.is_Within.ensures
-    (not-true _ c.if-not-is_within.true-raw)
+    wrong_sizes _ _ _ _ c.le16-m.ensures.0 c.le16-n.ensures.0 c.le16-t.ensures.0 _ c.is_within.ensures
+    c.if-not-is_within.true
 
 pub returns-then-bytes-record_bytes : goal.returns-then-bytes-record_bytes
 returns-then-bytes-record_bytes c =
@@ -26,4 +25,4 @@ returns c =
     right _ _ _ _ c.le16-m.ensures.0 c.le16-n.ensures.0 c.le16-t.ensures.0 _ _ _ _ _ _
     c.le32.ensures.0 c.le16.ensures.0 c.le16-2.ensures.0 c.le16-3.ensures.0
     c.if-bytes-le32.false c.if-le16-ne-KIND.false
-    c.is_Within.ensures (not-false _ c.if-not-is_within.false-raw) c.record_bytes.ensures c.if-bytes-record_bytes.false
+    c.is_within.ensures c.if-not-is_within.false c.record_bytes.ensures c.if-bytes-record_bytes.false

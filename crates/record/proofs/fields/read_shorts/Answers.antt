@@ -1,4 +1,3 @@
-use Prim.Native.Nat.{◌-◌}
 use native.Mathlib.Omega.{arith}
 use Rattle.lanes.specs.Lists.{grow}
 use Rattle.record.specs.Little.{shorts}
