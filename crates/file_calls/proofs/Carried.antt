@@ -2,9 +2,9 @@
 use mathlib.Core.Path.{◌≡◌, refl, sym, ap, ◌∙◌, subst}
 use mathlib.Core.Bool.{Bool, true, false, not, ◌&&◌}
 use mathlib.Core.List.{List, ◌++◌}
-use Prim.Native.Nat.{ℕ, suc, ◌+◌, ◌*◌, ◌<◌, ◌≤◌}
+use Prim.Native.Nat.{ℕ, suc, ◌<◌, ◌≤◌}
 use native.Mathlib.Omega.{arith}
-use borrow.Author.Tests.{le-leb, lt-leb, leb-true}
+use borrow.Author.Tests.{le-leb, lt-leb}
 use lib.Dec.{leb, ltb}
 use lib.ListN.{length, get_or, take, drop}
 use lib.Seq.{take_at}
@@ -22,7 +22,7 @@ use Rattle.layout.specs.Lists.{sizes_of}
 use Rattle.lists.specs.Lists.{plan_words}
 use Rattle.lists.proofs.Sizes.{plan_size}
 use Rattle.lists.proofs.Whole.{as_written}
-use Rattle.ipm_common.specs.Plan.{room_verdict, left, plan_verdict, plan_index}
+use Rattle.ipm_common.specs.Plan.{room_verdict, plan_verdict, plan_index}
 use Rattle.plan_file.specs.Matrix.{matrix_lists}
 use Rattle.plan_file.specs.Tables.{wide}
 use Rattle.plan_file.specs.Verdicts.{file_verdict, whole_file, lists_in}

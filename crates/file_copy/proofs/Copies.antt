@@ -2,8 +2,8 @@
 use mathlib.Core.Path.{◌≡◌, refl, sym, ap, ap₂, ◌∙◌, subst}
 use mathlib.Core.Logic.{◌⊎◌, inl, inr}
 use mathlib.Core.Bool.{Bool, true, false, cond, false≢true}
-use mathlib.Core.List.{List, [], ◌∷◌, ◌++◌, append_assoc, append-nil}
-use Prim.Native.Nat.{ℕ, suc, ◌+◌, ◌-◌, ◌*◌, ◌<◌, ◌≤◌}
+use mathlib.Core.List.{List, [], ◌++◌, append_assoc, append-nil}
+use Prim.Native.Nat.{ℕ, ◌+◌, ◌-◌, ◌<◌, ◌≤◌}
 use native.Mathlib.Omega.{arith}
 use native.Mathlib.Numerals.{add-one}
 use lib.Dec.{leb}
@@ -11,12 +11,12 @@ use lib.ListN.{length, get_or, take, drop, set, length-append, drop_of_length-le
 use lib.Seq.{take-suc, take_all, sets}
 use Rattle.record.specs.Little.{le2, le4}
 use Rattle.base.specs.Cat.{join, Wrote}
-use Rattle.base.proofs.Write.{then_written, same_text, same_long}
+use Rattle.base.proofs.Write.{then_written, same_text}
 use Rattle.plan_file.specs.Records.{Entry, kind_at, body_at, rest_at, first_at, starts_whole, Cut, short, whole, also, records_of}
 use Rattle.plan_file.specs.declared.Meaning.{Meaning}
 use Rattle.plan_file.specs.declared.Meaning.TheVariants.{Listed, Note, Neither}
 use Rattle.plan_file.specs.Tables.{Table, first_note, is_list, wide}
-use Rattle.plan_file.specs.Verdicts.{whole_bodies, whole_cut, whole_file, given, given_by, given_cut, lists_in}
+use Rattle.plan_file.specs.Verdicts.{whole_cut, whole_file, given, given_by, given_cut, lists_in}
 use Rattle.plan_file.proofs.Parse.{records_first}
 use Rattle.file_numbers.specs.Agree.{numbers_of}
 use Rattle.file_walk.proofs.Walks.{some_left, both_parts, meant, body_there, rest_there, good_there, within_there}

@@ -6,12 +6,11 @@ use Prim.Native.Nat.{ℕ, ◌+◌, ◌-◌, ◌<◌, ◌≤◌}
 use native.Mathlib.Omega.{arith}
 use borrow.Author.Tests.{leb-true}
 use lib.Dec.{leb}
-use lib.ListN.{length, take, drop, length-drop, drop_of_length-le}
-use lib.Seq.{drop-drop}
+use lib.ListN.{length, take, drop, drop_of_length-le}
 use Rattle.record.specs.Little.{le2, le4}
 use Rattle.transpose.specs.Bins.{Room}
 use Rattle.base.proofs.Bools.{and_out}
-use Rattle.plan_file.specs.Records.{Entry, length_at, kind_at, body_at, rest_at, first_at, starts_whole, Cut, short, whole, also, records_of}
+use Rattle.plan_file.specs.Records.{Entry, kind_at, body_at, rest_at, first_at, starts_whole, Cut, short, whole, also, records_of}
 use Rattle.plan_file.specs.declared.Meaning.{Meaning}
 use Rattle.plan_file.specs.declared.Meaning.TheVariants.{Listed, Note, Neither}
 use Rattle.plan_file.specs.Tables.{Table, first_note, is_list, wide}

@@ -1,18 +1,17 @@
 -- A walk over a file's records by their places. Assumes nothing.
-use mathlib.Core.Path.{◌≡◌, refl, sym, ap, ap₂, ◌∙◌, subst}
+use mathlib.Core.Path.{◌≡◌, refl, sym, ap, ap₂, ◌∙◌}
 use mathlib.Core.Bool.{Bool, true, false, cond, ◌&&◌, false≢true}
-use mathlib.Core.List.{List, [], ◌∷◌, ◌++◌}
-use Prim.Native.Nat.{ℕ, zero, suc, ◌+◌, ◌*◌, ◌-◌, ◌<◌, ◌≤◌}
+use mathlib.Core.List.{List, []}
+use Prim.Native.Nat.{ℕ, ◌+◌, ◌-◌, ◌<◌, ◌≤◌}
 use native.Mathlib.Omega.{arith}
-use native.Mathlib.Numerals.{add-one}
 use borrow.Author.Tests.{le-leb, lt-leb, eqb-true}
-use lib.Dec.{leb, eqb}
-use lib.ListN.{length, get_or, take, drop, length-drop, drop_of_length-le}
-use lib.Seq.{drop-cons, drop-drop}
+use lib.Dec.{eqb}
+use lib.ListN.{length, take, drop, length-drop, drop_of_length-le}
+use lib.Seq.{drop-drop}
 use Rattle.record.specs.Little.{le2, le4}
 use Rattle.base.proofs.Bools.{and_in, and_out}
 use Rattle.plan_file.specs.Bytes.{number}
-use Rattle.plan_file.specs.Records.{Entry, length_at, kind_at, body_at, rest_at, first_at, starts_whole, Cut, short, whole, also, records_up_to, records_of}
+use Rattle.plan_file.specs.Records.{Entry, length_at, kind_at, body_at, rest_at, first_at, starts_whole, Cut, short, whole, also, records_of}
 use Rattle.plan_file.specs.declared.Meaning.{Meaning}
 use Rattle.plan_file.specs.declared.Meaning.TheVariants.{Listed, Note, Neither}
 use Rattle.plan_file.specs.Tables.{Table}

@@ -1,4 +1,4 @@
--- Answers of `sizes` and `costliest`: rows under one theorem, `examples-hold` of proofs/Examples.antt. Definitions only.
+-- Answers of `sizes` and `costliest`: rows under one theorem, `examples_hold` of proofs/Examples.antt. Definitions only.
 use Rattle.std.specs.Prelude.{◌≡◌, List, [], ◌∷◌, map, ℕ}
 use Rattle.csr.specs.Verdict.{Verdict, told, sized, costs, refused}
 use Rattle.csr.specs.Examples.{Matrix, single, star, late, four, gap, twice}

@@ -12,7 +12,7 @@ pub returns-then-f-eq0 : goal.returns-then-f-eq0
 returns-then-f-eq0 c = (link_new c.args.table.now c.args.k c.args.i c.requires.0 c.if-f-eq0.true, sym (ap (λ (x : ℕ). or_else x (c.args.i + 1)) c.if-f-eq0.true))
 
 pub overflow_cast-result : goal.overflow_cast-result
-overflow_cast-result c = omega (arith, c.slice_known-1.given c.args.k)
+overflow_cast-result c = omega (arith, c.type_inv.table c.args.k)
 
 pub returns : goal.returns
 returns c = (link_old c.args.table.now c.args.k c.args.i c.requires.0 c.if-f-eq0.false, some_kept (get_or c.args.table.now c.args.k 0) (c.args.i + 1) c.if-f-eq0.false)

@@ -1,5 +1,4 @@
 -- `counts::climb` meets its contract. Assumes nothing.
-use Prim.Native.Nat.{◌-◌}
 use borrow.Author.Tests.{ne_eqb, eq-eqb}
 use mathlib.Core.Logic.{inl, inr}
 use native.Mathlib.Omega.{arith}
@@ -61,12 +60,12 @@ adopt-k-requires c =
 pub loop-k-smaller : goal.loop-k-smaller
 loop-k-smaller c =
     let t = climb_here c.loop-k.invariant c.requires in
-    omega (arith, climbs t (omega (arith, c.loop-k-test.true)) (ne_eqb _ _ c.if-mark-k.false) c.adopt-k.new.table c.adopt-k.result c.adopt-k.auto.0 c.adopt-k.ensures.0 c.adopt-k.ensures.1)
+    omega (arith, climbs t (omega (arith, c.loop-k-test.true)) (ne_eqb _ _ c.if-mark-k.false) c.adopt-k.new.table c.adopt-k.result c.adopt-k.auto.table c.adopt-k.ensures.0 c.adopt-k.ensures.1)
 
 pub loop-k-preserved : goal.loop-k-preserved
 loop-k-preserved c =
     let t = climb_here c.loop-k.invariant c.requires in
-    climb_turn c.loop-k.invariant (omega (arith, t.room)) (omega (arith, c.loop-k-test.true)) (ne_eqb _ _ c.if-mark-k.false) c.adopt-k.new.table c.bump-d.new.table c.adopt-k.result c.bump-d.result c.adopt-k.auto.0 c.adopt-k.ensures.0 c.adopt-k.ensures.1 c.bump-d.ensures.0 c.bump-d.ensures.1
+    climb_turn c.loop-k.invariant (omega (arith, t.room)) (omega (arith, c.loop-k-test.true)) (ne_eqb _ _ c.if-mark-k.false) c.adopt-k.new.table c.bump-d.new.table c.adopt-k.result c.bump-d.result c.adopt-k.auto.table c.adopt-k.ensures.0 c.adopt-k.ensures.1 c.bump-d.ensures.0 c.bump-d.ensures.1
 
 pub returns : goal.returns
 returns c = climb_end c.loop-k.invariant (inl c.loop-k-test.false)

@@ -1,7 +1,7 @@
 -- `counts::count_row` meets its contract. Assumes nothing.
 use mathlib.Core.Path.{◌≡◌, refl, ap, ◌∙◌}
 use mathlib.Core.List.{List}
-use Prim.Native.Nat.{ℕ, ◌-◌, ◌<◌}
+use Prim.Native.Nat.{ℕ, ◌<◌}
 use native.Mathlib.Omega.{arith}
 use lib.ListN.{length, get_or}
 use Rattle.csr.specs.Pattern.{row}
@@ -64,7 +64,7 @@ loop-q-preserved c =
     let k = c.args.columns.now in
     let i = c.args.i in
     let h = here o k i c.loop-q.q c.get_row-r.ensures c.loop-q-test.true c.word_at-c.ensures in
-    row_turn o k i (length c.args.mark.now) (length c.args.seen.now) c.loop-q.invariant c.requires.0 c.word_at-c.result h.0 h.1 c.adopt-at.result c.adopt-at.ensures.1 c.climb-u.new.mark c.climb-u.new.parent c.climb-u.new.column c.bump-s.new.table c.adopt-at.new.table c.climb-u.result.stored c.climb-u.result.products c.bump-s.result c.climb-u.ensures c.bump-s.ensures.0 c.bump-s.ensures.1 c.adopt-at.ensures.0 c.adopt-at.auto.0
+    row_turn o k i (length c.args.mark.now) (length c.args.seen.now) c.loop-q.invariant c.requires.0 c.word_at-c.result h.0 h.1 c.adopt-at.result c.adopt-at.ensures.1 c.climb-u.new.mark c.climb-u.new.parent c.climb-u.new.column c.bump-s.new.table c.adopt-at.new.table c.climb-u.result.stored c.climb-u.result.products c.bump-s.result c.climb-u.ensures c.bump-s.ensures.0 c.bump-s.ensures.1 c.adopt-at.ensures.0 c.adopt-at.auto.table
 
 pub overflow_add-result : goal.overflow_add-result
 overflow_add-result c = omega (arith, small_e_lem c.loop-q.invariant.turn)

@@ -1,6 +1,5 @@
 -- `counts::count_rows` meets its contract. Assumes nothing.
 use mathlib.Core.Path.{refl, ◌∙◌}
-use Prim.Native.Nat.{◌-◌}
 use native.Mathlib.Omega.{arith}
 use lib.ListN.{length}
 use Rattle.counts.proofs.Columns.{rows_end, fits}
@@ -19,7 +18,7 @@ pub loop-i-smaller : goal.loop-i-smaller
 loop-i-smaller c = omega (arith, c.loop-i-test.true)
 
 pub loop-i-preserved : goal.loop-i-preserved
-loop-i-preserved c = (omega (arith, c.loop-i-test.true), c.count_row-u.auto.1.1.1.0 ∙ c.loop-i.invariant.1, c.count_row-u.auto.1.1.1.1.1.1.0 ∙ c.loop-i.invariant.2, c.count_row-u.ensures)
+loop-i-preserved c = (omega (arith, c.loop-i-test.true), c.count_row-u.auto.mark ∙ c.loop-i.invariant.1, c.count_row-u.auto.seen ∙ c.loop-i.invariant.2, c.count_row-u.ensures)
 
 pub returns : goal.returns
 returns c = rows_end c.args.offsets.now c.args.columns.now c.args.m c.loop-i.i c.loop-i.invariant.3 (omega (arith, c.loop-i.invariant.0, c.loop-i-test.false))

@@ -18,19 +18,19 @@ words-count-requires c = rw c.plan_sizes-plan.ensures (words_fit c.args.offsets.
 pub returns-then-index-count : goal.returns-then-index-count
 returns-then-index-count c =
     let w : c.words-count.result ≡ size_w c.args.offsets.now c.args.columns.now c.args.m c.args.n = c.words-count.ensures ∙ ap words_at c.plan_sizes-plan.ensures ∙ words_are c.args.offsets.now c.args.columns.now c.args.m c.args.n 0 in
-    record { says = c.new.ensures ∙ room_no c.args.m c.args.n c.args.offsets.now c.args.columns.now c.args.index.now (omega (arith, w, c.if-index-count.true)); words = refl }
+    record { says = c.new.ensures ∙ room_no c.args.m c.args.n c.args.offsets.now c.args.columns.now c.args.index.now (omega (arith, w)); words = refl }
 
 pub copy_plan-requires : goal.copy_plan-requires
 copy_plan-requires c =
     let w : c.words-count.result ≡ size_w c.args.offsets.now c.args.columns.now c.args.m c.args.n = c.words-count.ensures ∙ ap words_at c.plan_sizes-plan.ensures ∙ words_are c.args.offsets.now c.args.columns.now c.args.m c.args.n 0 in (
       file_whole c.args.m c.args.n c.args.offsets.now c.args.columns.now c.requires.0 c.args.file.now c.requires.1,
-      omega (arith, w, ap length (file_words c.args.m c.args.n c.args.offsets.now c.args.columns.now c.requires.0 c.args.file.now c.requires.1), plan_size c.args.offsets.now c.args.columns.now c.args.m c.args.n c.requires.0, c.if-index-count.false),
+      omega (arith, w, ap length (file_words c.args.m c.args.n c.args.offsets.now c.args.columns.now c.requires.0 c.args.file.now c.requires.1), plan_size c.args.offsets.now c.args.columns.now c.args.m c.args.n c.requires.0),
     )
 
 pub returns : goal.returns
 returns c =
     let w : c.words-count.result ≡ size_w c.args.offsets.now c.args.columns.now c.args.m c.args.n = c.words-count.ensures ∙ ap words_at c.plan_sizes-plan.ensures ∙ words_are c.args.offsets.now c.args.columns.now c.args.m c.args.n 0 in
-    let room : size_w c.args.offsets.now c.args.columns.now c.args.m c.args.n ≤ length c.args.index.now = omega (arith, w, c.if-index-count.false) in
+    let room : size_w c.args.offsets.now c.args.columns.now c.args.m c.args.n ≤ length c.args.index.now = omega (arith, w) in
     record {
       says = ap (λ (k : ℕ). told (planned k)) w ∙ room_yes c.args.m c.args.n c.args.offsets.now c.args.columns.now c.args.index.now room;
       words = words_after_lem c.args.m c.args.n c.args.offsets.now c.args.columns.now c.requires.0 c.args.file.now _ _ _ c.requires.1 room c.copy_plan.ensures;

@@ -17,9 +17,9 @@ pub returns-in-Good : goal.returns-in-Good
 returns-in-Good c =
     let w = c.read_accepted.ensures in
     let v = read_on c.args.m c.args.n c.args.offsets.now c.args.columns.now c.args.file.now (length c.args.index.now) _ (sym c.ask.ensures ∙ ap told_asked c.in-Good.is) w.says in
-    (v, w.words ∙ ap (λ (x : Verdict). words_after c.args.m c.args.n c.args.offsets.now c.args.columns.now x c.args.index.now) v)
+    record { answer = v; words = w.words ∙ ap (λ (x : Verdict). words_after c.args.m c.args.n c.args.offsets.now c.args.columns.now x c.args.index.now) v }
 
 pub returns-in-Refused : goal.returns-in-Refused
 returns-in-Refused c =
     let v = read_not c.args.m c.args.n c.args.offsets.now c.args.columns.now c.args.file.now (length c.args.index.now) _ _ _ (sym (ap told_asked c.in-Refused.is) ∙ c.ask.ensures) in
-    (v, ap (λ (x : Verdict). words_after c.args.m c.args.n c.args.offsets.now c.args.columns.now x c.args.index.now) v)
+    record { answer = v; words = ap (λ (x : Verdict). words_after c.args.m c.args.n c.args.offsets.now c.args.columns.now x c.args.index.now) v }

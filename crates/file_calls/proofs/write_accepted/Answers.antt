@@ -19,18 +19,18 @@ words-words-requires c = rw c.plan_sizes-plan.ensures (words_fit c.args.offsets.
 pub returns-then-index-words : goal.returns-then-index-words
 returns-then-index-words c =
     let w : c.words-words.result ≡ size_w c.args.offsets.now c.args.columns.now c.args.m c.args.n = c.words-words.ensures ∙ ap words_at c.plan_sizes-plan.ensures ∙ words_are c.args.offsets.now c.args.columns.now c.args.m c.args.n 0 in
-    (c.new.ensures ∙ no_words c.args.m c.args.n c.args.offsets.now c.args.columns.now (length c.args.index.now) (length c.args.file.now) (omega (arith, w, c.if-index-words.true)), (refl, refl))
+    record { answer = c.new.ensures ∙ no_words c.args.m c.args.n c.args.offsets.now c.args.columns.now (length c.args.index.now) (length c.args.file.now) (omega (arith, w)); words = refl; bytes = refl }
 
 pub returns-then-file-bytes : goal.returns-then-file-bytes
 returns-then-file-bytes c =
     let w : c.words-words.result ≡ size_w c.args.offsets.now c.args.columns.now c.args.m c.args.n = c.words-words.ensures ∙ ap words_at c.plan_sizes-plan.ensures ∙ words_are c.args.offsets.now c.args.columns.now c.args.m c.args.n 0 in
-    (c.new-then-file-bytes.ensures ∙ no_bytes c.args.m c.args.n c.args.offsets.now c.args.columns.now (length c.args.index.now) (length c.args.file.now) (omega (arith, w, c.if-index-words.false)) (omega (arith, w, c.file_bytes-bytes.ensures, c.if-file-bytes.true)), (refl, refl))
+    record { answer = c.new-then-file-bytes.ensures ∙ no_bytes c.args.m c.args.n c.args.offsets.now c.args.columns.now (length c.args.index.now) (length c.args.file.now) (omega (arith, w)) (omega (arith, w, c.file_bytes-bytes.ensures)); words = refl; bytes = refl }
 
 pub put_file-requires : goal.put_file-requires
 put_file-requires c =
     let w : c.words-words.result ≡ size_w c.args.offsets.now c.args.columns.now c.args.m c.args.n = c.words-words.ensures ∙ ap words_at c.plan_sizes-plan.ensures ∙ words_are c.args.offsets.now c.args.columns.now c.args.m c.args.n 0 in
-    let room : size_w c.args.offsets.now c.args.columns.now c.args.m c.args.n ≤ length c.args.index.now = omega (arith, w, c.if-index-words.false) in
-    let bytes : file_bytes c.args.m c.args.n c.args.offsets.now c.args.columns.now ≤ length c.args.file.now = omega (arith, w, c.file_bytes-bytes.ensures, c.if-file-bytes.false) in (
+    let room : size_w c.args.offsets.now c.args.columns.now c.args.m c.args.n ≤ length c.args.index.now = omega (arith, w) in
+    let bytes : file_bytes c.args.m c.args.n c.args.offsets.now c.args.columns.now ≤ length c.args.file.now = omega (arith, w, c.file_bytes-bytes.ensures) in (
       rw c.plan_sizes-plan.ensures (words_fit c.args.offsets.now c.args.columns.now c.args.m c.args.n 0 c.requires),
       (matrix_lists c.args.offsets.now c.args.columns.now c.args.m c.args.n, writable c.args.m c.args.n c.args.offsets.now c.args.columns.now c.requires (drop (size_w c.args.offsets.now c.args.columns.now c.args.m c.args.n) c.args.index.now) c.plan_sizes-plan.ensures (answered_yes c.plan_accepted.ensures room) bytes),
     )
@@ -38,9 +38,9 @@ put_file-requires c =
 pub returns : goal.returns
 returns c =
     let w : c.words-words.result ≡ size_w c.args.offsets.now c.args.columns.now c.args.m c.args.n = c.words-words.ensures ∙ ap words_at c.plan_sizes-plan.ensures ∙ words_are c.args.offsets.now c.args.columns.now c.args.m c.args.n 0 in
-    let room : size_w c.args.offsets.now c.args.columns.now c.args.m c.args.n ≤ length c.args.index.now = omega (arith, w, c.if-index-words.false) in
-    let bytes : file_bytes c.args.m c.args.n c.args.offsets.now c.args.columns.now ≤ length c.args.file.now = omega (arith, w, c.file_bytes-bytes.ensures, c.if-file-bytes.false) in
+    let room : size_w c.args.offsets.now c.args.columns.now c.args.m c.args.n ≤ length c.args.index.now = omega (arith, w) in
+    let bytes : file_bytes c.args.m c.args.n c.args.offsets.now c.args.columns.now ≤ length c.args.file.now = omega (arith, w, c.file_bytes-bytes.ensures) in
     let plan = answered_yes c.plan_accepted.ensures room in
     let count : c.file_bytes-bytes.result ≡ file_bytes c.args.m c.args.n c.args.offsets.now c.args.columns.now = omega (arith, w, c.file_bytes-bytes.ensures) in
     let all = written_so c.args.m c.args.n c.args.offsets.now c.args.columns.now c.requires c.args.index.now c.args.file.now room bytes plan (c.put_file.ensures (matrix_lists c.args.offsets.now c.args.columns.now c.args.m c.args.n) (writable c.args.m c.args.n c.args.offsets.now c.args.columns.now c.requires (drop (size_w c.args.offsets.now c.args.columns.now c.args.m c.args.n) c.args.index.now) c.plan_sizes-plan.ensures plan bytes)) in
-    (ap (λ (k : ℕ). told (written k)) count ∙ all.0, (all.1, all.2))
+    record { answer = ap (λ (k : ℕ). told (written k)) count ∙ all.0; words = all.1; bytes = all.2 }

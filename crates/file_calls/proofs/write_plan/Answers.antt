@@ -14,10 +14,18 @@ pub returns-in-Good : goal.returns-in-Good
 returns-in-Good c =
     let e = sym c.ask.ensures ∙ ap told_asked c.in-Good.is in
     let w = c.write_accepted.ensures in
-    let v = write_on c.args.m c.args.n c.args.offsets.now c.args.columns.now c.args.index.now c.args.file.now _ e w.0 in
-    (v, (w.1.0 ∙ ap (λ (x : Verdict). words_after c.args.m c.args.n c.args.offsets.now c.args.columns.now x c.args.index.now) v, w.1.1 ∙ ap (λ (x : Verdict). bytes_after c.args.m c.args.n c.args.offsets.now c.args.columns.now x c.args.file.now) v))
+    let v = write_on c.args.m c.args.n c.args.offsets.now c.args.columns.now c.args.index.now c.args.file.now _ e w.answer in
+    record {
+      answer = v;
+      words = w.words ∙ ap (λ (x : Verdict). words_after c.args.m c.args.n c.args.offsets.now c.args.columns.now x c.args.index.now) v;
+      bytes = w.bytes ∙ ap (λ (x : Verdict). bytes_after c.args.m c.args.n c.args.offsets.now c.args.columns.now x c.args.file.now) v;
+    }
 
 pub returns-in-Refused : goal.returns-in-Refused
 returns-in-Refused c =
     let v = write_not c.args.m c.args.n c.args.offsets.now c.args.columns.now (length c.args.index.now) (length c.args.file.now) _ _ _ (sym (ap told_asked c.in-Refused.is) ∙ c.ask.ensures) in
-    (v, (ap (λ (x : Verdict). words_after c.args.m c.args.n c.args.offsets.now c.args.columns.now x c.args.index.now) v, ap (λ (x : Verdict). bytes_after c.args.m c.args.n c.args.offsets.now c.args.columns.now x c.args.file.now) v))
+    record {
+      answer = v;
+      words = ap (λ (x : Verdict). words_after c.args.m c.args.n c.args.offsets.now c.args.columns.now x c.args.index.now) v;
+      bytes = ap (λ (x : Verdict). bytes_after c.args.m c.args.n c.args.offsets.now c.args.columns.now x c.args.file.now) v;
+    }

@@ -1,5 +1,4 @@
 -- `file_copy::copy_body` meets its contract. Assumes nothing.
-use Prim.Native.Nat.{◌-◌}
 use native.Mathlib.Omega.{arith}
 use Rattle.base.proofs.Write.{same_long}
 use Rattle.file_numbers.proofs.Agrees.{number_room, number_is}
@@ -11,9 +10,6 @@ loop-k-init c = stored_none _ _ _
 
 pub overflow_add-start : goal.overflow_add-start
 overflow_add-start c = omega (arith, c.requires, c.loop-k-test.true, c.count-count.ensures)
-
-pub overflow_mul-k : goal.overflow_mul-k
-overflow_mul-k c = omega (arith, number_room c.args.body.now c.loop-k.k (omega (arith, c.loop-k-test.true, c.count-count.ensures)))
 
 pub le32-requires : goal.le32-requires
 le32-requires c = omega (arith, number_room c.args.body.now c.loop-k.k (omega (arith, c.loop-k-test.true, c.count-count.ensures)))

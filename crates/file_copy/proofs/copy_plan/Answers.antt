@@ -1,6 +1,6 @@
 -- `file_copy::copy_plan` meets its contract. Assumes nothing.
 use mathlib.Core.Path.{refl, ap}
-use Prim.Native.Nat.{◌+◌, ◌-◌}
+use Prim.Native.Nat.{◌+◌}
 use native.Mathlib.Omega.{arith}
 use lib.ListN.{length}
 use Rattle.record.specs.Little.{le2, le4}
@@ -12,18 +12,26 @@ use Rattle.file_walk.proofs.Walks.{headed}
 use Rattle.file_copy.proofs.Copies.{words_wide, copying_none, copying_all, next_fits, copying_on}
 use Rattle.file_copy.proofs.copy_plan.Goals as goal
 
--- the record that the walk stands at
-there : (c : tie.In-loop invariant-loop decreases-loop) → Headed c.before.before.before.before.args.file.now c.before.loop.at
-there c = headed wide c.before.before.before.before.args.file.now c.before.loop.at c.before.loop.invariant.good c.loop-test.true
-
 pub loop-at-init : goal.loop-at-init
 loop-at-init c = copying_none wide c.args.file.now c.args.index.now c.requires.0
 
 pub record_at-r-requires : goal.record_at-r-requires
-record_at-r-requires c = there c
+record_at-r-requires c = headed wide c.args.file.now c.loop-at.at c.loop-at.invariant.good c.loop-at-test.true
 
 pub slice_bounds-copy_record-count : goal.slice_bounds-copy_record-count
-slice_bounds-copy_record-count c = omega (arith, (there c.before).kinded, ap (λ (r : Record). r.end) c.record_at-r.ensures, ap (λ (r : Record). r.body) c.record_at-r.ensures)
+slice_bounds-copy_record-count c =
+    let h : Headed c.args.file.now c.loop-at.at = headed wide c.args.file.now c.loop-at.at c.loop-at.invariant.good c.loop-at-test.true in
+    omega (arith, h, ap (λ (r : Record). r.end) c.record_at-r.ensures, ap (λ (r : Record). r.body) c.record_at-r.ensures)
+
+pub slice_bounds-copy_record-start : goal.slice_bounds-copy_record-start
+slice_bounds-copy_record-start c =
+    let h : Headed c.args.file.now c.loop-at.at = headed wide c.args.file.now c.loop-at.at c.loop-at.invariant.good c.loop-at-test.true in
+    omega (arith, h, ap (λ (r : Record). r.end) c.record_at-r.ensures, ap (λ (r : Record). r.body) c.record_at-r.ensures)
+
+pub slice_bounds-copy_record-end : goal.slice_bounds-copy_record-end
+slice_bounds-copy_record-end c =
+    let h : Headed c.args.file.now c.loop-at.at = headed wide c.args.file.now c.loop-at.at c.loop-at.invariant.good c.loop-at-test.true in
+    omega (arith, h, ap (λ (r : Record). r.end) c.record_at-r.ensures, ap (λ (r : Record). r.body) c.record_at-r.ensures)
 
 pub copy_record-to-requires : goal.copy_record-to-requires
 copy_record-to-requires c =
@@ -31,7 +39,9 @@ copy_record-to-requires c =
     (words_wide (le2 c.args.file.now (c.loop-at.at + 4)), omega (arith, same_long c.loop-at.invariant.wrote, next_fits wide c.args.file.now c.args.index.now c.loop-at.index c.loop-at.at c.loop-at.to c.loop-at.invariant c.loop-at-test.true (le4 c.args.file.now c.loop-at.at) refl (le2 c.args.file.now (c.loop-at.at + 4)) refl (wide (le2 c.args.file.now (c.loop-at.at + 4))) refl (length c.args.index.now) c.requires.1))
 
 pub loop-at-smaller : goal.loop-at-smaller
-loop-at-smaller c = omega (arith, (there c.before.before.before.before.before.before).four, (there c.before.before.before.before.before.before).room, ap (λ (r : Record). r.end) c.record_at-r.ensures)
+loop-at-smaller c =
+    let h : Headed c.args.file.now c.loop-at.at = headed wide c.args.file.now c.loop-at.at c.loop-at.invariant.good c.loop-at-test.true in
+    omega (arith, h, ap (λ (r : Record). r.end) c.record_at-r.ensures)
 
 pub loop-at-preserved : goal.loop-at-preserved
 loop-at-preserved c = rw c.record_at-r.ensures (copying_on wide c.args.file.now c.args.index.now c.loop-at.index c.loop-at.at c.loop-at.to c.loop-at.invariant c.loop-at-test.true (le4 c.args.file.now c.loop-at.at) refl (le2 c.args.file.now (c.loop-at.at + 4)) refl (wide (le2 c.args.file.now (c.loop-at.at + 4))) refl _ _ (rw c.record_at-r.ensures at c.copy_record-to.ensures))

@@ -1,6 +1,5 @@
 -- `file_numbers::is_same` meets its contract. Assumes nothing.
 use native.Mathlib.Omega.{arith}
-use Prim.Native.Nat.{◌-◌}
 use mathlib.Core.Bool.{not}
 use lib.Dec.{eqb}
 use Rattle.file_numbers.specs.Agree.{numbers_of}

@@ -1,6 +1,6 @@
 use mathlib.Core.Path.{◌≡◌, sym, ap, ◌∙◌, subst}
 use mathlib.Core.Bool.{false, not}
-use Prim.Native.Nat.{ℕ, suc, ◌<◌, ◌-◌, ◌+◌}
+use Prim.Native.Nat.{ℕ, suc, ◌<◌, ◌+◌}
 use native.Mathlib.Omega.{arith}
 use native.Mathlib.Nat.{eq-or-lt_of_le}
 use mathlib.Core.Logic.{◌⊎◌, inl, inr}
@@ -22,10 +22,10 @@ pub loop-l-init : goal.loop-l-init
 loop-l-init c = (omega arith, λ j h. absurd (omega arith))
 
 pub returns-then-not-is_done : goal.returns-then-not-is_done
-returns-then-not-is_done c = sym (first_at_lem (λ j. not (is_done (get_or c.args.t1 j spoilt))) c.args.width c.loop-l.l (omega arith) (sym (ap not c.is_done.ensures) ∙ c.if-not-is_done.true-raw) c.loop-l.invariant.1)
+returns-then-not-is_done c = sym (first_at_lem (λ j. not (is_done (get_or c.args.statuses j spoilt))) c.args.width c.loop-l.l (omega arith) (ap not (sym c.is_done.ensures ∙ c.if-not-is_done.true)) c.loop-l.invariant.1)
 
 pub loop-l-preserved : goal.loop-l-preserved
-loop-l-preserved c = (omega arith, one_more c.args.t1 c.loop-l.l c.loop-l.invariant.1 (sym (ap not c.is_done.ensures) ∙ c.if-not-is_done.false-raw))
+loop-l-preserved c = (omega arith, one_more c.args.statuses c.loop-l.l c.loop-l.invariant.1 (ap not (sym c.is_done.ensures ∙ c.if-not-is_done.false)))
 
 pub returns : goal.returns
-returns c = sym (first_all (λ j. not (is_done (get_or c.args.t1 j spoilt))) c.args.width (λ j h. c.loop-l.invariant.1 j (omega arith)))
+returns c = sym (first_all (λ j. not (is_done (get_or c.args.statuses j spoilt))) c.args.width (λ j h. c.loop-l.invariant.1 j (omega arith)))

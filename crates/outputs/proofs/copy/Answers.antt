@@ -1,6 +1,5 @@
 use native.Mathlib.Omega.{arith}
 use mathlib.Core.Path.{refl}
-use Prim.Native.Nat.{◌-◌}
 use lib.ListN.{length-set}
 use Rattle.outputs.proofs.Copies.{copied_next, copied_all}
 use Rattle.outputs.proofs.copy.Goals as goal
@@ -21,12 +20,11 @@ pub loop-i-smaller : goal.loop-i-smaller
 loop-i-smaller c = omega (arith, c.loop-i.invariant.1)
 
 pub loop-i-preserved : goal.loop-i-preserved
-loop-i-preserved c =
-    (
-      omega (arith, c.loop-i.invariant.1),
-      rw length-set c.loop-i.invariant.1,
-      copied_next c.args.numbers.now c.args.output.now c.loop-i.output c.loop-i.i c.loop-i.invariant.2 (omega (arith, c.requires, c.loop-i.invariant.1)) (omega (arith, c.loop-i.invariant.1)),
-    )
+loop-i-preserved c = (
+  omega (arith, c.loop-i.invariant.1),
+  rw length-set c.loop-i.invariant.1,
+  copied_next c.args.numbers.now c.args.output.now c.loop-i.output c.loop-i.i c.loop-i.invariant.2 (omega (arith, c.requires, c.loop-i.invariant.1)) (omega (arith, c.loop-i.invariant.1)),
+)
 
 pub returns : goal.returns
 returns c = copied_all c.args.numbers.now c.args.output.now c.loop-i.output c.loop-i.i c.loop-i.invariant.2 (omega (arith, c.loop-i.invariant.0, c.loop-i.invariant.1)) c.requires

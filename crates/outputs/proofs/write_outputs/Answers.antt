@@ -22,9 +22,9 @@ returns c =
     let K = c.args.lanes in
     let p = c.args.plan in
     let work = c.args.work.now in
-    let o = c.args.outcome in (
-      rw c.regions-at.ensures at c.write_output.ensures
-          ∙ region_out K 0 p.n (l_in p) work c.args.output.now o c.requires.lanes c.requires.output_long (omega arith) c.requires.room,
-      rw c.regions-at.ensures at c.write_output-2.ensures
-          ∙ region_out K (y_at p.n) p.m (l_in p) work c.args.prices.now o c.requires.lanes c.requires.prices_long (omega arith) c.requires.room,
-    )
+    let o = c.args.outcome in record {
+      x = rw c.regions-at.ensures at c.write_output.ensures
+          ∙ region_out K 0 p.n (l_in p) work c.args.output.now o c.requires.lanes c.requires.output_long (omega arith) c.requires.room;
+      y = rw c.regions-at.ensures at c.write_output-2.ensures
+          ∙ region_out K (y_at p.n) p.m (l_in p) work c.args.prices.now o c.requires.lanes c.requires.prices_long (omega arith) c.requires.room;
+    }

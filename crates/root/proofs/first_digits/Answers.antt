@@ -1,5 +1,5 @@
 -- `root::first_digits` meets its contract. Assumes nothing.
-use Prim.Native.Nat.{◌+◌, ◌-◌, ◌*◌, ◌/◌, ◌^◌}
+use Prim.Native.Nat.{◌+◌, ◌*◌, ◌/◌, ◌^◌}
 use lib.Dec.{leb}
 use native.Mathlib.Omega.{arith}
 use Rattle.root.proofs.Turns.{small, first, last, digit, byte_le, taken_le, taken_lt}

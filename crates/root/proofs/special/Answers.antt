@@ -25,9 +25,9 @@ zero-which b x t = go (dec_le 0x7FF0_0000_0000_0000 b)
 pub returns-then-b-eq0 : goal.returns-then-b-eq0
 returns-then-b-eq0 c =
     record {
-  row = zero_row _ c.ranges.b.fits c.in-0.is c.if-b-eq0.true;
-  is = (zero-which _ c.in-0.is c.if-b-eq0.true, zero_answer _ c.ranges.b.fits c.in-0.is c.if-b-eq0.true);
-}
+      row = zero_row _ c.ranges.b.fits c.in-0.is c.if-b-eq0.true;
+      is = (zero-which _ c.in-0.is c.if-b-eq0.true, zero_answer _ c.ranges.b.fits c.in-0.is c.if-b-eq0.true);
+    }
 
 pub returns-then-b-lt-SIGN : goal.returns-then-b-lt-SIGN
 returns-then-b-lt-SIGN c = record { row = positive_row _ c.if-b-lt-SIGN.true (omega arith) (λ z t. c.if-b-eq0.false t); is = (omega arith, omega arith) }
@@ -36,13 +36,13 @@ pub returns-else-b-lt-SIGN : goal.returns-else-b-lt-SIGN
 returns-else-b-lt-SIGN c = negative c.if-b-lt-SIGN.false (λ z. omega (arith, c.if-b-eq0.false))
 
 pub returns-then-b-lt-SIGN-2 : goal.returns-then-b-lt-SIGN-2
-returns-then-b-lt-SIGN-2 c = record { row = positive_row _ c.if-b-lt-SIGN-2.true (omega arith) (λ z. absurd (c.in_default-1.rest.1 z)); is = (omega arith, omega arith) }
+returns-then-b-lt-SIGN-2 c = record { row = positive_row _ c.if-b-lt-SIGN-2.true (omega arith) (λ z t. omega arith); is = (omega arith, omega arith) }
 
 pub returns-else-b-lt-SIGN-2 : goal.returns-else-b-lt-SIGN-2
-returns-else-b-lt-SIGN-2 c = negative c.if-b-lt-SIGN-2.false (λ z. absurd (c.in_default-1.rest.1 z))
+returns-else-b-lt-SIGN-2 c = negative c.if-b-lt-SIGN-2.false (λ z. omega arith)
 
 pub returns-then-b-eq-INFINITY : goal.returns-then-b-eq-INFINITY
 returns-then-b-eq-INFINITY c = record { row = infinity_row _ c.if-b-eq-INFINITY.true; is = (inr (omega arith), infinity_answer _ c.if-b-eq-INFINITY.true) }
 
 pub returns-else-b-eq-INFINITY : goal.returns-else-b-eq-INFINITY
-returns-else-b-eq-INFINITY c = record { row = top_row _ c.if-field-lt2047.false c.if-b-eq-INFINITY.false; is = (inr (omega arith), top_answer _ c.if-field-lt2047.false c.if-b-eq-INFINITY.false) }
+returns-else-b-eq-INFINITY c = record { row = top_row _ (omega arith) c.if-b-eq-INFINITY.false; is = (inr (omega arith), top_answer _ (omega arith) c.if-b-eq-INFINITY.false) }

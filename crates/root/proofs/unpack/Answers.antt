@@ -22,4 +22,4 @@ pub returns-in-0 : goal.returns-in-0
 returns-in-0 c = subnormal c.args.b c.requires.0 c.in-0.is
 
 pub returns-in-1-to-18446744073709551615 : goal.returns-in-1-to-18446744073709551615
-returns-in-1-to-18446744073709551615 c = normal c.args.b c.requires.1 c.in-1-to-18446744073709551615.rest.1
+returns-in-1-to-18446744073709551615 c = normal c.args.b c.requires.1 (λ h. omega arith)

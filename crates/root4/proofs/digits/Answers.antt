@@ -5,7 +5,7 @@ use Rattle.root4.proofs.Numbers.{cleared_pattern}
 use Rattle.root4.proofs.digits.Goals as goal
 
 pub float_from_bits-high : goal.float_from_bits-high
-float_from_bits-high c = cleared_pattern _ (subst T (sym c.bounded-bits.type-inv) tt) c.bounded-bits.ensures.number
+float_from_bits-high c = cleared_pattern _ (subst T (sym c.bounded-bits.type_inv) tt) c.bounded-bits.ensures.number
 
 pub returns : goal.returns
 returns c =

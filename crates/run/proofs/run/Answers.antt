@@ -1,7 +1,5 @@
 use native.Mathlib.Omega.{arith}
 use mathlib.Core.Path.{refl, sym, ◌∙◌}
-use Prim.Native.Nat.{◌-◌}
-use Rattle.lanes.specs.Lanes.{room}
 use Rattle.machine.specs.Machine.{Settings}
 use Rattle.machine.proofs.Turns.{start_steps}
 use Rattle.memory.specs.Planned.{problem_in, data_in}
@@ -32,22 +30,20 @@ pub measure-sums-requires : goal.measure-sums-requires
 measure-sums-requires c = let p = c.requires.0.lent in (p.rows, p.columns, p.slack, omega (arith, c.loop-outcome.invariant.2), p.wide)
 
 pub test_at-statuses-requires : goal.test_at-statuses-requires
-test_at-statuses-requires c =
-    (
-      record { planned = c.requires.0.planned; lent = c.requires.0.lent; room = c.loop-outcome.invariant.2 },
-      c.measure-sums.ensures,
-      λ H W D. bears H c.args.plan c.args.block c.args.width c.requires.0.lent.wide c.args.off.now c.args.cols.now c.args.vals.now c.args.b.now c.args.c.now c.args.tol.now c.args.controls.limit c.loop-outcome.k _ (c.loop-outcome.invariant.0 H W D),
-    )
+test_at-statuses-requires c = (
+  record { planned = c.requires.0.planned; lent = c.requires.0.lent; room = c.loop-outcome.invariant.2 },
+  c.measure-sums.ensures,
+  λ H W D. bears H c.args.plan c.args.block c.args.width c.requires.0.lent.wide c.args.off.now c.args.cols.now c.args.vals.now c.args.b.now c.args.c.now c.args.tol.now c.args.controls.limit c.loop-outcome.k _ (c.loop-outcome.invariant.0 H W D),
+)
 
 pub turn_after-requires : goal.turn_after-requires
 turn_after-requires c = c.requires.0.lent.wide.most
 
 pub returns-in-Ends : goal.returns-in-Ends
-returns-in-Ends c =
-    (
-      untouched_on (untouched_wider (fresh_frame c.normal_eqn_init.ensures) (omega arith)) c.loop-outcome.invariant.1,
-      λ H W D. ran_tests (call_in H c.args.plan c.args.block c.args.width c.args.off.now c.args.cols.now c.args.vals.now c.args.b.now c.args.c.now c.args.tol.now) c.args.controls.limit c.requires.1 _ _ (ends_ran (call_in H c.args.plan c.args.block c.args.width c.args.off.now c.args.cols.now c.args.vals.now c.args.b.now c.args.c.now c.args.tol.now) c.args.controls.limit c.loop-outcome.k _ c.test_at-statuses.result (c.loop-outcome.invariant.0 H W D) (c.test_at-statuses.ensures H W D).says _ (sym c.turn_after.ensures ∙ c.in-Ends.is)),
-    )
+returns-in-Ends c = (
+  untouched_on (untouched_wider (fresh_frame c.normal_eqn_init.ensures) (omega arith)) c.loop-outcome.invariant.1,
+  λ H W D. ran_tests (call_in H c.args.plan c.args.block c.args.width c.args.off.now c.args.cols.now c.args.vals.now c.args.b.now c.args.c.now c.args.tol.now) c.args.controls.limit c.requires.1 _ _ (ends_ran (call_in H c.args.plan c.args.block c.args.width c.args.off.now c.args.cols.now c.args.vals.now c.args.b.now c.args.c.now c.args.tol.now) c.args.controls.limit c.loop-outcome.k _ c.test_at-statuses.result (c.loop-outcome.invariant.0 H W D) (c.test_at-statuses.ensures H W D).says _ (sym c.turn_after.ensures ∙ c.in-Ends.is)),
+)
 
 pub step_lanes-requires : goal.step_lanes-requires
 step_lanes-requires c =

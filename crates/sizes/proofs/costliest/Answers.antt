@@ -4,7 +4,7 @@ use mathlib.Core.Bool.{Bool, true}
 use Prim.Native.Nat.{ℕ, ◌+◌, ◌-◌, ◌*◌, ◌/◌, ◌≤◌}
 use native.Mathlib.Omega.{arith}
 use lib.Dec.{leb}
-use borrow.Author.Tests.{leb-true, not-true, not-false}
+use borrow.Author.Tests.{leb-true}
 use Rattle.base.proofs.Bools.{and_right}
 use Rattle.csr.specs.Verdict.{told, costs, refused, ask}
 use Rattle.csr.specs.Questions.{rows_right}
@@ -24,21 +24,21 @@ products-are m = omega (arith, (costliest m).products, cube m)
 
 pub returns-then-not-rows_right : goal.returns-then-not-rows_right
 unfolding costliest_verdict
-returns-then-not-rows_right c = c.new.ensures ∙ simp (← c.rows_right.ensures, not-true c.rows_right.result c.if-not-rows_right.true-raw)
+returns-then-not-rows_right c = c.new.ensures ∙ simp (← c.rows_right.ensures, c.if-not-rows_right.true)
 
 pub overflow_add-result : goal.overflow_add-result
-overflow_add-result c = omega (arith, few c.args.m _ c.rows_right.ensures (not-false c.rows_right.result c.if-not-rows_right.false-raw))
+overflow_add-result c = omega (arith, few c.args.m _ c.rows_right.ensures c.if-not-rows_right.false)
 
 pub overflow_mul-result : goal.overflow_mul-result
 overflow_mul-result c =
-    let h = few c.args.m _ c.rows_right.ensures (not-false c.rows_right.result c.if-not-rows_right.false-raw) in
+    let h = few c.args.m _ c.rows_right.ensures c.if-not-rows_right.false in
     omega (arith, h, square c.args.m h)
 
 pub overflow_mul-result-2 : goal.overflow_mul-result-2
-overflow_mul-result-2 c = omega (arith, square c.args.m (few c.args.m _ c.rows_right.ensures (not-false c.rows_right.result c.if-not-rows_right.false-raw)))
+overflow_mul-result-2 c = omega (arith, square c.args.m (few c.args.m _ c.rows_right.ensures c.if-not-rows_right.false))
 
 pub overflow_mul-result-3 : goal.overflow_mul-result-3
-overflow_mul-result-3 c = omega (arith, cubed c.args.m (few c.args.m _ c.rows_right.ensures (not-false c.rows_right.result c.if-not-rows_right.false-raw)))
+overflow_mul-result-3 c = omega (arith, cubed c.args.m (few c.args.m _ c.rows_right.ensures c.if-not-rows_right.false))
 
 pub overflow_sub-result : goal.overflow_sub-result
 overflow_sub-result c = cube_more c.args.m
@@ -48,4 +48,4 @@ unfolding costliest_verdict
 returns c =
     let m = c.args.m in
     ap₂ (λ (x y : ℕ). told (costs x y)) (stored_is m) (products-are m)
-    ∙ ap (λ (t : Bool). ask t (told (costs (full_e m) (full_d m))) (refused 1 0 0)) (sym (not-false c.rows_right.result c.if-not-rows_right.false-raw) ∙ c.rows_right.ensures)
+    ∙ ap (λ (t : Bool). ask t (told (costs (full_e m) (full_d m))) (refused 1 0 0)) (sym c.if-not-rows_right.false ∙ c.rows_right.ensures)

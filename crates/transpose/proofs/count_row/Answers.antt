@@ -51,7 +51,7 @@ overflow_add-s c =
       c.bump-s.ensures.0,
       c.loop-k.invariant.5,
       up,
-      c.shared_slice_known-1.given (a.i + 1),
+      c.type_inv.off (a.i + 1),
       (law.passed_asks a.off.now (cols_of a.side a.cols.now a.bytes.now) a.i a.next.now c.requires c.loop-k.k e.result c.loop-k.invariant.0 up e.ensures c.loop-k.next c.loop-k.invariant.1 c.loop-k.invariant.2).1,
     )
 
@@ -70,7 +70,7 @@ loop-k-preserved c =
     let counts = law.passed_count a.off.now (cols_of a.side a.cols.now a.bytes.now) a.i a.next.now c.requires c.loop-k.k e.result c.loop-k.invariant.0 up e.ensures c.loop-k.next c.loop-k.invariant.1 c.loop-k.invariant.2 in
     let turn = law.passed_turn a.off.now (cols_of a.side a.cols.now a.bytes.now) a.i a.next.now c.requires c.loop-k.k e.result c.loop-k.invariant.0 up e.ensures c.loop-k.next c.loop-k.invariant.1 c.loop-k.invariant.2 in (
       omega (arith, c.loop-k.invariant.0),
-      c.bump-s.auto.0 ∙ c.loop-k.invariant.1,
+      c.bump-s.auto.next ∙ c.loop-k.invariant.1,
       λ x. ap (λ (y : List ℕ). get_or y x 0) c.bump-s.ensures.1 ∙ turn x,
       omega (arith, up),
       pairs.pairs_turn a.off.now (cols_of a.side a.cols.now a.bytes.now) a.i (length a.next.now) c.requires.at c.loop-k.k e.result c.loop-k.invariant.0 up e.ensures c.loop-k.s c.bump-s.result c.loop-k.invariant.4 (c.bump-s.ensures.0 ∙ counts),

@@ -1,5 +1,5 @@
 -- `transpose::count_rows` meets its contract. Assumes nothing.
-use Prim.Native.Nat.{ℕ, suc, ◌<◌, ◌+◌, ◌-◌}
+use Prim.Native.Nat.{ℕ, suc, ◌<◌, ◌+◌}
 use mathlib.Core.Path.{◌≡◌, refl, sym, ap, ap₂, ◌∙◌}
 use native.Mathlib.Omega.{arith}
 use lib.ListN.{length, get_or}
@@ -38,7 +38,7 @@ loop-i-preserved c =
     let a = c.args in
     let h : c.loop-i.i < a.m = c.loop-i-test.true in (
       omega (arith, h),
-      c.count_row-s.auto.1.1.1.1.1.0 ∙ c.loop-i.invariant.1,
+      c.count_row-s.auto.next ∙ c.loop-i.invariant.1,
       λ x. omega (arith, c.count_row-s.ensures.counts x, c.loop-i.invariant.2 x, law.seen_next a.off.now (cols_of a.side a.cols.now a.bytes.now) c.loop-i.i x),
       ap₂ ◌+◌ c.loop-i.invariant.3 c.count_row-s.ensures.pairs ∙ sym (sum_next c.loop-i.i (λ x. sum (suc x) (λ y. common (row a.off.now (cols_of a.side a.cols.now a.bytes.now) x) (row a.off.now (cols_of a.side a.cols.now a.bytes.now) y)))),
       omega (arith, c.loop-i.invariant.4, c.count_row-s.ensures.few, c.requires.grid.csr.order c.loop-i.i h),

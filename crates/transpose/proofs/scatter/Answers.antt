@@ -1,5 +1,4 @@
 -- `transpose::scatter` meets its contract. Assumes nothing.
-use Prim.Native.Nat.{◌-◌}
 use mathlib.Core.Path.{refl, ◌∙◌}
 use native.Mathlib.Omega.{arith}
 use Rattle.transpose.specs.Bins.{cols_of}
@@ -24,11 +23,10 @@ loop-i-smaller c = omega (arith, c.loop-i-test.true)
 
 pub loop-i-preserved : goal.loop-i-preserved
 loop-i-preserved c =
-    let a = c.args in
-    (
+    let a = c.args in (
       omega (arith, c.loop-i-test.true),
-      c.scatter_row.auto.1.1.1.1.1.1.0 ∙ c.loop-i.invariant.1,
-      c.scatter_row.auto.1.1.1.1.1.1.1.0 ∙ c.loop-i.invariant.2,
+      c.scatter_row.auto.index ∙ c.loop-i.invariant.1,
+      c.scatter_row.auto.next ∙ c.loop-i.invariant.2,
       λ n b.
           law.scatter_turn a.off.now (cols_of a.side a.cols.now a.bytes.now) a.what a.m n a.index.now a.next.now a.start b c.loop-i.i c.loop-i.index c.loop-i.next c.loop-i.invariant.1 (c.loop-i.invariant.3 n b) c.scatter_row.new.index c.scatter_row.new.next
           (c.scatter_row.ensures a.m n (law.scatter_asks a.off.now (cols_of a.side a.cols.now a.bytes.now) a.what a.m n a.index.now a.next.now a.start b c.loop-i.i c.loop-i.index c.loop-i.next c.loop-i.invariant.1 (c.loop-i.invariant.3 n b) c.loop-i-test.true c.loop-i.invariant.2)),

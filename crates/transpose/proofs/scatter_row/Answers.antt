@@ -1,5 +1,5 @@
 -- `transpose::scatter_row` meets its contract. Assumes nothing.
-use Prim.Native.Nat.{◌<◌, ◌-◌}
+use Prim.Native.Nat.{◌<◌}
 use mathlib.Core.Path.{refl, ◌∙◌}
 use native.Mathlib.Omega.{arith}
 use Rattle.transpose.specs.Bins.{cols_of}
@@ -59,11 +59,10 @@ overflow_add-k c = omega (arith, c.loop-k-test.true)
 pub loop-k-preserved : goal.loop-k-preserved
 loop-k-preserved c =
     let a = c.args in
-    let lt : c.loop-k.k < c.word_at-b.result = c.loop-k-test.true in
-    (
+    let lt : c.loop-k.k < c.word_at-b.result = c.loop-k-test.true in (
       omega (arith, c.loop-k.invariant.0),
-      c.put_in.auto.0 ∙ c.loop-k.invariant.1,
-      c.put_in.auto.1.0 ∙ c.loop-k.invariant.2,
+      c.put_in.auto.index ∙ c.loop-k.invariant.1,
+      c.put_in.auto.next ∙ c.loop-k.invariant.2,
       λ m n r.
           law.passing_turn a.off.now (cols_of a.side a.cols.now a.bytes.now) m n a.what a.i a.index.now a.next.now a.start r c.loop-k.k c.column_at-e.result c.of_entry-x.result c.loop-k.invariant.0 (omega (arith, c.word_at-b.ensures)) c.column_at-e.ensures c.of_entry-x.ensures
           c.loop-k.index c.loop-k.next c.loop-k.invariant.1 c.loop-k.invariant.2 (c.loop-k.invariant.3 m n r) c.put_in.new.index c.put_in.new.next c.put_in.ensures.0 c.put_in.ensures.1,

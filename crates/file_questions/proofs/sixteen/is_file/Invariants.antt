@@ -1,4 +1,3 @@
-use mathlib.Core.Path.{◌≡◌}
 use Prim.Native.Nat.{◌-◌}
 use lib.ListN.{length}
 use Rattle.plan_file.specs.Matrix.{matrix_lists}
@@ -7,7 +6,7 @@ use Rattle.file_questions.proofs.Walk.{Asking}
 use Rattle.file_questions.proofs.sixteen.is_file.Given as goal
 
 abbrev pub invariant-loop-at : goal.invariant-loop-at
-invariant-loop-at l = Asking wide (matrix_lists l.off l.cols l.plan.m l.plan.n) l.file l.at × (length l.next ≡ length l.initial.next) × (length l.again ≡ length l.initial.again) × (length l.made ≡ length l.initial.made)
+invariant-loop-at l = Asking wide (matrix_lists l.off l.cols l.plan.m l.plan.n) l.file l.at
 
 abbrev pub decreases-loop-at : goal.decreases-loop-at
 decreases-loop-at l = length l.file - l.at

@@ -16,8 +16,8 @@ is_file-requires c =
       c.requires.0,
       record {
         accepted = ok;
-        ready = rows_ready c.args.off.now c.args.cols.now c.pattern.new.p c.args.plan.m ok.csr ok.offsets.few c.pattern.auto.1.1.1.0 c.pattern.ensures;
-        rows = c.list_rows.ensures.0;
+        ready = rows_ready c.args.off.now c.args.cols.now c.pattern.new.p c.args.plan.m ok.csr ok.offsets.few c.pattern.auto.p c.pattern.ensures;
+        rows = c.list_rows.ensures.rows;
         counts = c.requires.1.counts;
         entries = c.requires.1.entries;
       },

@@ -1,6 +1,6 @@
 use mathlib.Core.Path.{sym, subst}
-use Prim.Native.Nat.{◌-◌, ◌<◌}
-use borrow.Author.Tests.{not-true, not-false}
+use Prim.Native.Nat.{◌<◌}
+use native.Mathlib.Omega.{arith}
 use Rattle.plan_file.specs.declared.Meaning.{Meaning}
 use Rattle.plan_file.specs.Tables.{wide, width_of}
 use Rattle.plan_file.proofs.Files.{wide_width}
@@ -25,14 +25,14 @@ is_whole_body-requires c = subst (λ (m : Meaning). 0 < width_of m) (sym c.wide_
 pub returns-then-not-is_whole_body : goal.returns-then-not-is_whole_body
 returns-then-not-is_whole_body c =
     bad_body wide _ _ c.loop-at.invariant c.loop-at-test.true _ c.le32-size.ensures.0 c.if-rest-lt-LENGTH_BYTES.false
-    c.if-size-rest.false c.if-size-lt-KIND_BYTES.false
-    _ c.le16.ensures.0 _ c.wide_meaning-m.ensures _ c.is_whole_body.ensures (not-true _ c.if-not-is_whole_body.true-raw)
+    c.if-size-rest.false (omega arith)
+    _ c.le16.ensures.0 _ c.wide_meaning-m.ensures _ c.is_whole_body.ensures c.if-not-is_whole_body.true
 
 pub loop-at-preserved : goal.loop-at-preserved
 loop-at-preserved c =
     walked_on wide _ _ c.loop-at.invariant c.loop-at-test.true _ c.le32-size.ensures.0 c.if-rest-lt-LENGTH_BYTES.false
-    c.if-size-rest.false c.if-size-lt-KIND_BYTES.false
-    _ c.le16.ensures.0 _ c.wide_meaning-m.ensures _ c.is_whole_body.ensures (not-false _ c.if-not-is_whole_body.false-raw)
+    c.if-size-rest.false (omega arith)
+    _ c.le16.ensures.0 _ c.wide_meaning-m.ensures _ c.is_whole_body.ensures c.if-not-is_whole_body.false
 
 pub returns : goal.returns
 returns c = walked_all wide _ _ c.loop-at-test.false c.loop-at.invariant
