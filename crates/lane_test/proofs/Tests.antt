@@ -2,11 +2,11 @@
 use mathlib.Core.Path.{◌≡◌, refl, sym, ap, ◌∙◌}
 use mathlib.Core.Bool.{true, false}
 use mathlib.Core.List.{List}
-use Prim.Native.Nat.{ℕ, ◌+◌, ◌-◌, ◌*◌, ◌≤◌, ◌<◌}
+use Prim.Native.Nat.{ℕ, ◌+◌, ◌*◌, ◌≤◌, ◌<◌}
 use native.Mathlib.Omega.{arith}
 use borrow.Author.Tests.{eq-eqb}
 use lib.Ieee.{Float, nan, inf, fin, ne, is_nan, up, down}
-use Rattle.lanes.specs.Lists.{at, vec, lane}
+use Rattle.lanes.specs.Lists.{at, vec}
 use Rattle.machine.specs.Machine.{Problem, LaneData, Settings, State, primal_residual, dual_residual, R, Q, G, g, mu, status}
 use Rattle.lanes.specs.Arithmetic.{◌⊕◌, ◌⊗◌, ◌⊘◌, √, Σ, norm, null, one, whole}
 use Rattle.machine.specs.declared.Status.{Status}

@@ -142,6 +142,7 @@ struct Tolerances {
 }
 
 // What one lane's test yields, of R, Q, G, mu and its tolerances.
+#[tactic(auto, using(crate::proofs::Tests::nan_test))]
 fn judge(r: f64, q: f64, g: f64, mu: f64, tol: Tolerances) -> Status
     ensures { result ≡ judged r q g mu tol.primal tol.dual tol.gap }
 {
