@@ -11,7 +11,7 @@ ghost use Rattle.std.specs.Prelude.{◌≡◌, ◌≤◌, ◌<◌, ◌*◌, leng
 use csr::Refusal;
 use file_calls::WriteAnswer;
 use ipm_common::PlanAnswer;
-use libc::STDOUT_FILENO;
+use std::{fs, io};
 
 // The numbers before a case's lists, and where each stands.
 const HEAD: usize = 12;
@@ -316,20 +316,9 @@ fn run_data(bytes: &[u8], words: &mut [u32]) -> Tally {
     run_decoded(bytes, &mut words[..k])
 }
 
-fn main() {
-    let path = b"files.bin";
-    let file = os::open_read(path);
-    if file < 0 {
-        os::fail(path);
-        return;
-    }
-    let mut bytes = [0u8; DATA_BYTES];
-    let n = io::read_full(file, &mut bytes);
-    libc::close(file);
+fn main(rt: HostRuntime) -> io::Result<()> {
+    let bytes = fs::read(&rt, "files.bin")?;
     let mut words = [0u32; DATA_BYTES / WORD_BYTES];
-    let tally = run_data(&bytes[..n], &mut words);
-    io::print_decimal(STDOUT_FILENO, tally.right);
-    io::write_all(STDOUT_FILENO, b" right, ");
-    io::print_decimal(STDOUT_FILENO, tally.wrong);
-    io::write_all(STDOUT_FILENO, b" wrong\n");
+    let tally = run_data(bytes.as_slice(), &mut words);
+    println!(rt; "{} right, {} wrong", tally.right, tally.wrong)
 }

@@ -1,8 +1,8 @@
 -- A SOLVE WITH A FILE: unless 14, 15 or 16 is the answer, it is the solve without one. Assumes nothing.
-use mathlib.Core.Path.{◌≡◌, refl, sym, ap, ◌∙◌}
+use mathlib.Core.Path.{◌≡◌, refl, ap}
 use mathlib.Core.Logic.{◌⊎◌, inl, inr}
 use mathlib.Core.Bool.{Bool, true, false}
-use mathlib.Core.List.{List, []}
+use mathlib.Core.List.{List}
 use Prim.Native.Nat.{ℕ, ◌≤◌}
 use native.Mathlib.Omega.{arith}
 use lib.ListN.{length}
@@ -14,7 +14,7 @@ use Rattle.plan_file.specs.Matrix.{matrix_lists}
 use Rattle.plan_file.specs.Tables.{Table, wide}
 use Rattle.plan_file.specs.Verdicts.{file_verdict, whole_file, ordered_file, matrixs_file}
 use Rattle.plan_file.proofs.Files.{one_by_one}
-use Rattle.ipm_simd.specs.Solve.{Given, with_file, unfiled, call, words, room, price_count, outcome_verdict, memory_verdict, if_filed, matrix_verdict, begun, solve_verdict, if_passed, solve_buffers, AsUnfiled}
+use Rattle.ipm_simd.specs.Solve.{Given, unfiled, call, words, room, price_count, outcome_verdict, memory_verdict, if_filed, matrix_verdict, begun, solve_verdict, if_passed, solve_buffers, AsUnfiled}
 
 -- the answers to 14 to 16
 abbrev FileAnswer : Verdict → Type 0

@@ -88,6 +88,7 @@ fn limit_right(limit: usize) -> bool
 }
 
 // Questions 6 to 10 and 13, by W, the plan's sizes, the lengths of the lists and what the caller set.
+#[tactic(auto, unfolding(crate::specs::Solve::lengths_verdict))]
 fn ask_lengths(words: usize, plan: Plan, lengths: Lengths, controls: Controls) -> Asked
     requires { (plan.m ≤ max_rows) × (plan.n ≤ max_columns) × (plan.stored ≤ max_stored) }
     ensures { told_asked result ≡ lengths_verdict words plan.stored plan.m plan.n plan.s lengths controls }

@@ -5,7 +5,7 @@
 ghost use Rattle.std.specs.Prelude.{◌≤◌, length};
 
 use ipm_common::PlanAnswer;
-use libc::STDOUT_FILENO;
+use std::{fs, io};
 
 // What stands in the index memory before.
 const OLD: u32 = 77;
@@ -149,23 +149,14 @@ fn run_all(s: &[u32]) -> Tally {
     }
 }
 
-fn main() {
-    let file = os::open_read(b"plan.bin");
-    if file < 0 {
-        os::fail(b"plan.bin");
-        return;
-    }
-    let mut buffer = [0u8; FILE_BYTES];
-    let n = io::read_full(file, &mut buffer);
-    libc::close(file);
+fn main(rt: HostRuntime) -> io::Result<()> {
+    let bytes = fs::read(&rt, "plan.bin")?;
     let mut words = [0u32; FILE_BYTES / WORD_BYTES];
-    let k = decode(&buffer[..n], &mut words);
+    let k = decode(bytes.as_slice(), &mut words);
     let tally = run_all(&words[..k]);
-    io::print_decimal(STDOUT_FILENO, tally.right);
-    io::write_all(STDOUT_FILENO, b" right, ");
-    io::print_decimal(STDOUT_FILENO, tally.wrong);
-    io::write_all(STDOUT_FILENO, b" wrong\n");
+    println!(rt; "{} right, {} wrong", tally.right, tally.wrong)?;
     if tally.broken {
-        io::write_all(STDOUT_FILENO, b"the file is broken\n");
+        println!(rt; "the file is broken")?;
     }
+    Ok(())
 }

@@ -2,29 +2,26 @@
 // number of bytes, its answer. Writes how many records gave their answer and how many did not.
 #![tactic(auto)]
 
-ghost use Rattle.std.specs.Prelude.{◌≤◌, length};
+ghost use Rattle.std.specs.Prelude.{◌+◌, ◌≤◌, length, IfSome};
 
-use libc::STDOUT_FILENO;
+use std::{fs, io};
 
+// The bytes of a record or an answer are no more.
 const BUFFER: usize = 4096;
+
+// The bytes of a number of bytes.
+const COUNT_BYTES: usize = 4;
 
 // More cases than the file has.
 const MOST_CASES: u64 = 100_000;
 
-// What stands where a number of bytes is to be read.
-#[derive(Clone, Copy)]
-enum Count {
-    End,
-    Broken,
-    Bytes(usize),
-}
-
+// Where the next case starts, or that there is none, and whether this one gave its answer.
 #[derive(Clone, Copy)]
 enum Case {
     End,
     Broken,
-    Right,
-    Wrong,
+    Right(usize),
+    Wrong(usize),
 }
 
 #[derive(Clone, Copy)]
@@ -34,66 +31,54 @@ struct Tally {
     broken: bool,
 }
 
-fn read_count(file: i32) -> Count {
-    let mut word = [0u8; 4];
-    let n = io::read_full(file, &mut word);
-    if n == 0 {
-        return Count::End;
-    }
-    if n < 4 {
-        return Count::Broken;
-    }
-    Count::Bytes(record::le32(&word, 0))
-}
-
-// Reads k bytes to the front of a buffer, and answers whether there were so many.
-fn read_part(file: i32, buffer: &mut [u8], k: usize) -> bool
-    requires { k ≤ length buffer.old }
+// Where the bytes end whose number stands at a place, where there are so many.
+fn read_part(s: &[u8], at: usize) -> Option<usize>
+    requires { at ≤ length s.now }
+    ensures { IfSome result (λ end. (at + 4 ≤ end) × (end ≤ length s.now)) }
 {
-    let n = io::read_full(file, &mut buffer[..k]);
-    n == k
+    let left = s.len() - at;
+    if left < COUNT_BYTES {
+        return None;
+    }
+    let k = record::le32(s, at);
+    if k > BUFFER {
+        return None;
+    }
+    if left - COUNT_BYTES < k {
+        return None;
+    }
+    Some(at + COUNT_BYTES + k)
 }
 
-fn run_case(file: i32) -> Case {
-    let first = read_count(file);
-    let given = match first {
-        Count::End => return Case::End,
-        Count::Broken => return Case::Broken,
-        Count::Bytes(k) => k,
-    };
-    if given > BUFFER {
-        return Case::Broken;
+fn run_case(s: &[u8], at: usize) -> Case {
+    if s.len() <= at {
+        return Case::End;
     }
-    let mut bytes = io::buffer();
-    if !read_part(file, &mut bytes, given) {
-        return Case::Broken;
-    }
-    let second = read_count(file);
-    let Count::Bytes(wanted) = second else {
+    let Some(middle) = read_part(s, at) else {
         return Case::Broken;
     };
-    if wanted > BUFFER {
+    let Some(end) = read_part(s, middle) else {
         return Case::Broken;
-    }
-    let mut answer = io::buffer();
-    if !read_part(file, &mut answer, wanted) {
-        return Case::Broken;
-    }
-    let mut out = io::buffer();
-    let k = reading::respond(&bytes[..given], &mut out);
-    if check::same(&out[..k], &answer[..wanted]) {
-        Case::Right
+    };
+    let given = at + COUNT_BYTES;
+    let wanted = middle + COUNT_BYTES;
+    let mut out = [0u8; BUFFER];
+    let k = reading::respond(&s[given..middle], &mut out);
+    if check::same(&out[..k], &s[wanted..end]) {
+        Case::Right(end)
     } else {
-        Case::Wrong
+        Case::Wrong(end)
     }
 }
 
-fn run_all(file: i32) -> Tally {
+// A turn for each case.
+fn run_all(s: &[u8]) -> Tally {
     let mut right: u64 = 0;
     let mut wrong: u64 = 0;
+    let mut at: usize = 0;
     let mut turns = MOST_CASES;
     while turns > 0 {
-        let case = run_case(file);
+        let case = run_case(s, at);
         match case {
             Case::End => return Tally {
                 right,
@@ -105,8 +90,14 @@ fn run_all(file: i32) -> Tally {
                 wrong,
                 broken: true,
             },
-            Case::Right => right += 1,
-            Case::Wrong => wrong += 1,
+            Case::Right(next) => {
+                right += 1;
+                at = next;
+            }
+            Case::Wrong(next) => {
+                wrong += 1;
+                at = next;
+            }
         }
         turns -= 1;
     }
@@ -117,20 +108,12 @@ fn run_all(file: i32) -> Tally {
     }
 }
 
-fn main() {
-    let path = b"solve.bin";
-    let file = os::open_read(path);
-    if file < 0 {
-        os::fail(path);
-        return;
-    }
-    let tally = run_all(file);
-    libc::close(file);
-    io::print_decimal(STDOUT_FILENO, tally.right);
-    io::write_all(STDOUT_FILENO, b" right, ");
-    io::print_decimal(STDOUT_FILENO, tally.wrong);
-    io::write_all(STDOUT_FILENO, b" wrong\n");
+fn main(rt: HostRuntime) -> io::Result<()> {
+    let bytes = fs::read(&rt, "solve.bin")?;
+    let tally = run_all(bytes.as_slice());
+    println!(rt; "{} right, {} wrong", tally.right, tally.wrong)?;
     if tally.broken {
-        io::write_all(STDOUT_FILENO, b"the file is broken\n");
+        println!(rt; "the file is broken")?;
     }
+    Ok(())
 }

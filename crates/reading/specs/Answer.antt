@@ -47,7 +47,7 @@ blank k = replicate k (of_bits binary64 0)
 abbrev pub most_stored : ℕ
 most_stored = most_rows * (most_rows + 1) / 2
 
--- the most that S can be: two rows share at most half of the entries that they have together, and a row is in mostRows pairs, twice in that with itself
+-- the most that S can be: two rows share at most half of the entries that they have together, and a row is in most_rows pairs, twice in that with itself
 abbrev pub most_shared : ℕ
 most_shared = most_entries * (most_rows + 1) / 2
 
@@ -55,7 +55,7 @@ most_shared = most_entries * (most_rows + 1) / 2
 abbrev pub most_products : ℕ
 most_products = (most_rows - 1) * most_rows * (most_rows + 1) / 6
 
--- the most that W and F can be, where every row may be a slack row. Own-parts-pass in specs/Theorems.antt says that no record needs more
+-- the most that W and F can be, where every row may be a slack row. OwnPartsPass in specs/Theorems.antt says that no record needs more
 abbrev pub index_words : ℕ
 index_words = 5 * most_stored + 3 * most_shared + 2 * most_products + 3 * most_rows + most_columns + 2 * most_entries + 5
 

@@ -4,7 +4,7 @@
 
 ghost use Rattle.std.specs.Prelude.{◌+◌, ◌<◌, ◌≤◌, length};
 
-use libc::STDOUT_FILENO;
+use std::{fs, io};
 
 const DIGITS: usize = 16;
 
@@ -83,27 +83,18 @@ fn run_all(s: &[u8]) -> Tally
     }
 }
 
-fn print_tally(right: u64, lines: u64)
+fn print_tally(rt: &impl Print, right: u64, lines: u64) -> io::Result<()>
     requires { right ≤ lines }
 {
-    io::print_decimal(STDOUT_FILENO, right);
-    io::write_all(STDOUT_FILENO, b" right, ");
-    io::print_decimal(STDOUT_FILENO, lines - right);
-    io::write_all(STDOUT_FILENO, b" wrong\n");
+    let wrong = lines - right;
+    println!(rt; "{right} right, {wrong} wrong")
 }
 
-fn main() {
-    let file = os::open_read(b"sqrt-glibc.txt");
-    if file < 0 {
-        os::fail(b"sqrt-glibc.txt");
-        return;
-    }
-    let mut buffer = io::large_buffer();
-    let n = io::read_full(file, &mut buffer);
-    libc::close(file);
-    let tally = run_all(&buffer[..n]);
-    io::write_all(STDOUT_FILENO, b"root_bits: ");
-    print_tally(tally.right, tally.lines);
-    io::write_all(STDOUT_FILENO, b"root4: ");
-    print_tally(tally.right4, tally.lines);
+fn main(rt: HostRuntime) -> io::Result<()> {
+    let bytes = fs::read(&rt, "sqrt-glibc.txt")?;
+    let tally = run_all(bytes.as_slice());
+    print!(rt; "root_bits: ")?;
+    print_tally(&rt, tally.right, tally.lines)?;
+    print!(rt; "root4: ")?;
+    print_tally(&rt, tally.right4, tally.lines)
 }

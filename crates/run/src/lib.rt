@@ -60,6 +60,7 @@ fn test_at(
 }
 
 // What follows test k. A no at 11 names the lane by its place in the block.
+#[tactic(auto, unfolding(crate::specs::Tests::turn_after))]
 fn turn_after(statuses: [Status; 4], width: usize, limit: usize, k: usize) -> Turn
     requires { width ≤ 4 }
     ensures { result ≡ turn_after width statuses limit k }

@@ -6,4 +6,4 @@ pub returns : goal.returns
 unfolding accepted_text ascii
 returns c =
     then_written c.put-word.ensures
-    (then_written c.put_whole-line.ensures.0 c.put_lines.ensures)
+    (then_written c.put_whole-line.ensures.wrote c.put_lines.ensures)

@@ -9,7 +9,8 @@ returns c =
     let first = c.put_float-second.ensures in
     let second = c.put_float-third.ensures in
     let third = c.put_float-fourth.ensures in
-    let fourth = c.put_float.ensures in (
-      then_written first.0 (then_written second.0 (then_written third.0 fourth.0)),
-      omega (arith, first.1, second.1, third.1, fourth.1),
-    )
+    let fourth = c.put_float.ensures in
+    record {
+      wrote = then_written first.wrote (then_written second.wrote (then_written third.wrote fourth.wrote));
+      value = omega (arith, first.value, second.value, third.value, fourth.value);
+    }

@@ -1,4 +1,4 @@
-use Prim.Native.Nat.{ℕ, ◌-◌}
+use Prim.Native.Nat.{ℕ}
 use mathlib.Core.Path.{sym, ap}
 use native.Mathlib.Omega.{arith}
 use Rattle.base.specs.Cat.{cat}
@@ -20,7 +20,7 @@ loop-e-preserved c =
     let inv = c.loop-e.invariant in
     let line = c.put_line-at.ensures in (
       omega arith,
-      (omega (arith, line.1), same_text (sym (cat_next _ _)) (then_written inv.1.1 line.0)),
+      (omega (arith, line.value), same_text (sym (cat_next _ _)) (then_written inv.1.1 line.wrote)),
     )
 
 pub returns : goal.returns

@@ -6,5 +6,5 @@ pub returns : goal.returns
 unfolding refused_text ascii
 returns c =
     then_written c.put-word.ensures
-    (then_written c.put_whole-a.ensures.0
-    (then_written c.put_whole-b.ensures.0 c.put_whole.ensures.0))
+    (then_written c.put_whole-a.ensures.wrote
+    (then_written c.put_whole-b.ensures.wrote c.put_whole.ensures.wrote))

@@ -1,6 +1,5 @@
 use native.Mathlib.Omega.{arith}
 use mathlib.Core.Path.{refl}
-use Prim.Native.Nat.{◌-◌}
 use lib.ListN.{length-set}
 use Rattle.lanes.specs.Arithmetic.{null}
 use Rattle.lanes.proofs.Consts.{null_bits}
@@ -17,12 +16,11 @@ pub overflow_add-i : goal.overflow_add-i
 overflow_add-i c = omega (arith, c.requires)
 
 pub loop-i-preserved : goal.loop-i-preserved
-loop-i-preserved c =
-    (
-      omega arith,
-      rw length-set c.loop-i.invariant.1,
-      rw null_bits (cleared_next c.args.work.now c.loop-i.work null c.loop-i.i c.loop-i.invariant.2 (omega (arith, c.requires))),
-    )
+loop-i-preserved c = (
+  omega arith,
+  rw length-set c.loop-i.invariant.1,
+  rw null_bits (cleared_next c.args.work.now c.loop-i.work null c.loop-i.i c.loop-i.invariant.2 (omega (arith, c.requires))),
+)
 
 pub returns : goal.returns
 returns c = cleared_all c.args.work.now c.loop-i.work null c.loop-i.i c.args.k c.loop-i.invariant.2 (omega (arith, c.loop-i.invariant.0))

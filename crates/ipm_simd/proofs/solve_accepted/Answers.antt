@@ -27,7 +27,7 @@ solve_planned-requires c =
     let B = (lent c.args.output.now c.args.prices.now c.args.index.now c.args.work.now) in
     let v = asked_is a B c.plan_sizes-plan.ensures c.words.ensures (sym (ap told_asked c.in-Good.is) ∙ c.ask_lengths.ensures) in
     let q = asked_all a B c.requires.0 c.requires.1 v in
-    rw c.plan_sizes-plan.ensures (planned_on a q (answered_yes c.plan_accepted.ensures q.index), asked_on a q c.plan_accepted.auto.1.1.1.1.0)
+    rw c.plan_sizes-plan.ensures (planned_on a q (answered_yes c.plan_accepted.ensures q.index), asked_on a q c.plan_accepted.auto.index)
 
 pub returns-in-Good : goal.returns-in-Good
 returns-in-Good c =

@@ -35,5 +35,5 @@ returns c =
     let a = (given c.args.plan.m c.args.plan.n c.args.plan.s c.args.offsets.now c.args.columns.now c.args.values.now c.args.b.now c.args.c.now c.args.tolerances.now c.args.controls) in
     let f = c.args.controls in
     let ran = c.run-outcome.ensures in
-    let told = c.answer.ensures ∙ ap (λ (n : ℕ). outcome_verdict n c.run-outcome.result) c.write_outputs.auto.1.1.1.1.0 in
-    λ old asked planned. finished a asked planned ran.0 (run_four a asked (ran.1 (settings_of f) (settings_with f) (settings_norms f)).0) told c.write_outputs.ensures.0 c.write_outputs.ensures.1 (rw c.numbers-room.ensures at c.clear_front.ensures)
+    let told = c.answer.ensures ∙ ap (λ (n : ℕ). outcome_verdict n c.run-outcome.result) c.write_outputs.auto.prices in
+    λ old asked planned. finished a asked planned ran.0 (run_four a asked (ran.1 (settings_of f) (settings_with f) (settings_norms f)).0) told c.write_outputs.ensures.x c.write_outputs.ensures.y (rw c.numbers-room.ensures at c.clear_front.ensures)

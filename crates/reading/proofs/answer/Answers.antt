@@ -25,22 +25,22 @@ read_floats-requires c =
 pub slice_bounds-shorts-end-2 : goal.slice_bounds-shorts-end-2
 slice_bounds-shorts-end-2 c =
     let fit = shorts_fit c.requires.0 c.shorts-shorts.ensures in
-    front_room c.shorts-shorts.result c.read_shorts.new.out (short_count c.args.sizes) fit c.read_shorts.auto.1.1.0
+    front_room c.shorts-shorts.result c.read_shorts.new.out (short_count c.args.sizes) fit c.read_shorts.auto.out
 
 pub slice_bounds-solve_parts-end : goal.slice_bounds-solve_parts-end
 slice_bounds-solve_parts-end c =
     let fit = shorts_fit c.requires.0 c.shorts-shorts.ensures in
-    sym (front_long c.shorts-shorts.result c.read_shorts.new.out (short_count c.args.sizes) fit c.read_shorts.auto.1.1.0)
+    sym (front_long c.shorts-shorts.result c.read_shorts.new.out (short_count c.args.sizes) fit c.read_shorts.auto.out)
 
 pub slice_bounds-floats-end-2 : goal.slice_bounds-floats-end-2
 slice_bounds-floats-end-2 c =
     let fit = floats_fit c.requires.0 c.floats-floats.ensures in
-    front_room c.floats-floats.result c.read_floats.new.out (float_count c.args.sizes) fit c.read_floats.auto.1.1.0
+    front_room c.floats-floats.result c.read_floats.new.out (float_count c.args.sizes) fit c.read_floats.auto.out
 
 pub slice_bounds-solve_parts-end-2 : goal.slice_bounds-solve_parts-end-2
 slice_bounds-solve_parts-end-2 c =
     let fit = floats_fit c.requires.0 c.floats-floats.ensures in
-    sym (front_long c.floats-floats.result c.read_floats.new.out (float_count c.args.sizes) fit c.read_floats.auto.1.1.0)
+    sym (front_long c.floats-floats.result c.read_floats.new.out (float_count c.args.sizes) fit c.read_floats.auto.out)
 
 pub slice_bounds-solve_parts-end-3 : goal.slice_bounds-solve_parts-end-3
 slice_bounds-solve_parts-end-3 c = sym (output_long c.requires.0 c.output-output.ensures)
@@ -53,8 +53,8 @@ solve_parts-requires c =
       rows = whole.rows;
       columns = whole.columns;
       entries = whole.entries;
-      shorts_all = front_long c.shorts-shorts.result c.read_shorts.new.out (short_count z) (shorts_fit whole c.shorts-shorts.ensures) c.read_shorts.auto.1.1.0;
-      floats_all = front_long c.floats-floats.result c.read_floats.new.out (float_count z) (floats_fit whole c.floats-floats.ensures) c.read_floats.auto.1.1.0;
+      shorts_all = front_long c.shorts-shorts.result c.read_shorts.new.out (short_count z) (shorts_fit whole c.shorts-shorts.ensures) c.read_shorts.auto.out;
+      floats_all = front_long c.floats-floats.result c.read_floats.new.out (float_count z) (floats_fit whole c.floats-floats.ensures) c.read_floats.auto.out;
       output_all = output_long whole c.output-output.ensures;
       room = c.requires.1;
     }
@@ -65,5 +65,5 @@ returns c =
     (read_text c.args.bytes.now c.args.sizes c.requires.0 c.output-output.result c.work-work.result c.index-index.result
     c.shorts-shorts.result c.read_shorts.new.out c.floats-floats.result c.read_floats.new.out
     c.output-output.ensures c.index-index.ensures c.work-work.ensures c.shorts-shorts.ensures c.read_shorts.ensures c.floats-floats.ensures c.read_floats.ensures
-    c.read_shorts.auto.1.1.0 c.read_floats.auto.1.1.0)
+    c.read_shorts.auto.out c.read_floats.auto.out)
     c.solve_parts.ensures

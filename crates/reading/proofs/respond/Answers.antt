@@ -17,12 +17,16 @@ answer-requires c =
 pub returns-in-Mismatch : goal.returns-in-Mismatch
 returns-in-Mismatch c =
     let told = sym c.read_header-header.ensures ∙ c.in-Mismatch.is in
-    (same_text (mismatch_text _ told) c.put_input.ensures, prefix_len_of_le _ _ (omega (arith, c.put_input.ensures.next, c.put_input.auto.0, input_length, c.requires)))
+    record {
+      wrote = same_text (mismatch_text _ told) c.put_input.ensures;
+      prefix_len = prefix_len_of_le _ _ (omega (arith, c.put_input.ensures.next, c.put_input.auto.out, input_length, c.requires));
+    }
 
 pub returns-in-Matches : goal.returns-in-Matches
 returns-in-Matches c =
     let told = sym c.read_header-header.ensures ∙ c.in-Matches.is in
-    let s = c.args.bytes.now in (
-      same_text (matched_text s _ told) c.answer.ensures,
-      prefix_len_of_le _ _ (omega (arith, c.answer.ensures.next, c.answer.auto.1.1.0, solve_length (given_of s) (lent_for (m_of s) (n_of s)) (narrow s _ told), c.requires)),
-    )
+    let s = c.args.bytes.now in
+    record {
+      wrote = same_text (matched_text s _ told) c.answer.ensures;
+      prefix_len = prefix_len_of_le _ _ (omega (arith, c.answer.ensures.next, c.answer.auto.out, solve_length (given_of s) (lent_for (m_of s) (n_of s)) (narrow s _ told), c.requires));
+    }

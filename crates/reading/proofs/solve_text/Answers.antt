@@ -24,4 +24,4 @@ returns-in-Accepted c =
 pub returns-in-Refused : goal.returns-in-Refused
 returns-in-Refused c =
     let lent = blank_front (4 * c.args.m) most_prices c.prices-prices.result c.prices-prices.ensures (omega (arith, c.requires.0)) in
-    same_text (rw (lent, tenth_bits, damping_bits_lem) at (refused_text_lem c.solve-answer.ensures _ c.in-Refused.is)) c.Put-refused.ensures
+    same_text (rw (lent, tenth_bits, damping_bits_lem) at (refused_text_lem c.solve-answer.ensures _ c.in-Refused.is)) c.put_refused.ensures
