@@ -1,7 +1,7 @@
 // From a record to the text of its answer.
 #![tactic(auto)]
 
-mod memory;
+mod record_memory;
 
 ghost use Rattle.std.specs.Prelude.{◌≡◌, ◌*◌, ◌≤◌, length};
 ghost use Rattle.io.specs.Counts.{IsPrefixLen};
@@ -36,7 +36,7 @@ fn solve_text(
     requires { (m ≤ most_rows) × (n ≤ most_columns) × (length output.old ≡ 4 * n) × (answer_bytes ≤ length out.old) }
     ensures { Wrote out.old out.new 0 (solve_text (given m n s offsets.now columns.now values.now b.now c.now tolerances.now (standard_controls limit)) (lent output.old (blank (4 * m)) index.old work.old)) result }
 {
-    let mut prices = memory::prices();
+    let mut prices = record_memory::prices();
     let price_count = LANES * m;
     let centring = Controls::CENTRING;
     let damping = Controls::DAMPING;
@@ -117,11 +117,11 @@ fn answer(bytes: &[u8], sizes: RecordSizes, out: &mut [u8]) -> usize
     let short_count = m + 1 + t;
     let float_count = t + TOLERANCES + LANES * m + LANES * n;
     let output_count = LANES * n;
-    let mut shorts = memory::shorts();
-    let mut floats = memory::floats();
-    let mut output = memory::output();
-    let mut index = memory::index();
-    let mut work = memory::work();
+    let mut shorts = record_memory::shorts();
+    let mut floats = record_memory::floats();
+    let mut output = record_memory::output();
+    let mut index = record_memory::index();
+    let mut work = record_memory::work();
     record::read_shorts(bytes, OFFSETS_AT, &mut shorts[..short_count]);
     record::read_floats(
         bytes,

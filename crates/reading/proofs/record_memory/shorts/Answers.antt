@@ -1,6 +1,6 @@
 use mathlib.Core.Path.{refl}
 use Rattle.reading.specs.Answer.{zeros}
-use Rattle.reading.proofs.memory.shorts.Goals as goal
+use Rattle.reading.proofs.record_memory.shorts.Goals as goal
 
 pub returns : goal.returns
 unfolding zeros

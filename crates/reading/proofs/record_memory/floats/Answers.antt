@@ -1,6 +1,6 @@
 use mathlib.Core.Path.{refl}
 use Rattle.reading.specs.Answer.{blank}
-use Rattle.reading.proofs.memory.output.Goals as goal
+use Rattle.reading.proofs.record_memory.floats.Goals as goal
 
 pub returns : goal.returns
 unfolding blank

@@ -1,6 +1,6 @@
 use mathlib.Core.Path.{refl}
 use Rattle.reading.specs.Answer.{zeros}
-use Rattle.reading.proofs.memory.index.Goals as goal
+use Rattle.reading.proofs.record_memory.index.Goals as goal
 
 pub returns : goal.returns
 unfolding zeros
