@@ -208,7 +208,7 @@ module _ (a : Given) where
     pub demand3 : begun B ≡ passed → (o : Outcome) × (told_solve r ≡ outcome_verdict price_count o) × Demand3 call words room planned_has a.limit B B' o
 
 -- 'where these don't arise it gives the answer and buffers that it gives without one': unless the answer is a no at 14, 15 or 16, it is that of the
--- solve without a file, and so is every buffer. `as-unfiled` of proofs/Filed.antt, for all numbers and lists
+-- solve without a file, and so is every buffer. `as_unfiled` of proofs/Filed.antt, for all numbers and lists
 pub record AsUnfiled (a : Given) (B : Buffers) : Type 0 where
   pub same : ((q : ℕ) → 14 ≤ q → q ≤ 16 → solve_verdict a B ≡ refused q 0 0 → ⊥)
       → (solve_verdict a B ≡ solve_verdict (unfiled a) B) × (solve_buffers a B ≡ solve_buffers (unfiled a) B)

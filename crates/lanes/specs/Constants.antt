@@ -29,6 +29,6 @@ damping_value = round binary64 false 9995 10000
 abbrev pub damping_bits : ℕ
 damping_bits = 0x3fef_fbe7_6c8b_4396
 
--- each pattern stands for its number; `patterns-exact` of `proofs/Consts` proves it
+-- each pattern stands for its number; `patterns_exact` of `proofs/Consts` proves it
 abbrev pub PatternsExact : Type 0
 PatternsExact = (of_bits binary64 start_bits ≡ start_value) × (of_bits binary64 centring_bits ≡ centring_value) × (of_bits binary64 damping_bits ≡ damping_value)

@@ -22,6 +22,6 @@ proper p = lt null p && lt p one
 abbrev pub fractions_proper : Controls → Bool
 fractions_proper k = proper k.centring && proper k.damping
 
--- `proper` by patterns: from 1, which is 2^-1074, to 3FEFFFFFFFFFFFFF, which is 1 - 2^-53, and no others; `proper-patterns` of `proofs/Fractions` proves it
+-- `proper` by patterns: from 1, which is 2^-1074, to 3FEFFFFFFFFFFFFF, which is 1 - 2^-53, and no others; `proper_patterns` of `proofs/Fractions` proves it
 abbrev pub ProperPatterns : Type 0
 ProperPatterns = (b : ℕ) → proper (of_bits binary64 b) ≡ (ltb 0 b && ltb b one_bits)

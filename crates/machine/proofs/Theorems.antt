@@ -1,4 +1,4 @@
--- The theorems of specs/Theorems.antt, each under its name in lower case. Assumes nothing.
+-- The theorems of specs/Theorems.antt, each under its name in snake case. Assumes nothing.
 use mathlib.Core.Path.{◌≡◌, refl, sym, ap, ◌∙◌, subst}
 use mathlib.Core.Logic.{◌⊎◌, inl, inr}
 use mathlib.Core.Bool.{Bool, true, not}

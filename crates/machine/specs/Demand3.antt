@@ -80,7 +80,7 @@ module _ (C : Call) where
   -- `plan` and F are the matrix's; `planned i j`: the plan's factor has an entry (i, j). The lent lists were B and are B', and the answer is o
   pub record Demand3 (plan : List ℕ) (F : ℕ) (planned : ℕ → ℕ → Bool) (N : ℕ) (B B' : Buffers) (o : Outcome) : Type 0 where
     -- 'at every test made each lane has the numbers of document 01's one-lane machine and is done or spoilt exactly when that machine is':
-    -- the contract of the loop over the tests, which holds for every limit, ties the memory of each of them to the working memory (Test-by-test)
+    -- the contract of the loop over the tests, which holds for every limit, ties the memory of each of them to the working memory (TestByTest)
     pub tests : (M : Memory) × (said : List Status) × Made (tests_made C.K (lane_status C) N) M said
     -- 'whatever the other three lanes hold'
     pub others :

@@ -1,4 +1,4 @@
--- Worked examples, as rows: document 01's, and others that tell its rules from near misses. proofs/Examples.antt has the one theorem, `examples-hold`. Definitions only.
+-- Worked examples, as rows: document 01's, and others that tell its rules from near misses. proofs/Examples.antt has the one theorem, `examples_hold`. Definitions only.
 use Rattle.std.specs.Prelude.{◌≡◌, false, List, [], ◌∷◌, ◌++◌, map, ℕ, Float, replicate}
 use Rattle.std.specs.Float.{nan, binary64}
 use Rattle.std.specs.Float.Ieee.{to_bits, of_bits, round}

@@ -1,4 +1,4 @@
--- Files and their answers, and the bytes of four matrices' files: rows under one theorem, `examples-hold` of proofs/Examples.antt. Definitions only.
+-- Files and their answers, and the bytes of four matrices' files: rows under one theorem, `examples_hold` of proofs/Examples.antt. Definitions only.
 use Rattle.std.specs.Prelude.{◌≡◌, List, [], ◌∷◌, ◌++◌, map, ℕ, ◌+◌, length}
 use Rattle.csr.specs.Verdict.{Verdict, passed, refused}
 use Rattle.csr.specs.Examples.{Matrix, single, star, late, four}

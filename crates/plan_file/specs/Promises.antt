@@ -41,6 +41,6 @@ module _ (off cols : List ℕ) (m n : ℕ) where
     -- with its own bodies it is the written file
     pub own : records_with (λ k. words 4 (matrix_lists off cols m n k)) 1 16 ≡ plan_file
 
--- they hold of every matrix that gets a yes at questions 1 to 5, with as many values as it may have: `all-files` of proofs/Plans.antt
+-- they hold of every matrix that gets a yes at questions 1 to 5, with as many values as it may have: `all_files` of proofs/Plans.antt
 abbrev pub AllFiles : Type 0
 AllFiles = (m n : ℕ) (off cols : List ℕ) (values : ℕ) → first_no m n off cols values ≡ passed → Files off cols m n

@@ -1,4 +1,4 @@
--- `wholeRoot n` is the largest number whose square is no more than n. Assumes nothing.
+-- `whole_root n` is the largest number whose square is no more than n. Assumes nothing.
 use mathlib.Core.Path.{◌≡◌}
 use Prim.Native.Nat.{ℕ, zero, suc, ◌*◌, ◌/◌, ◌^◌, ◌≤◌, ◌<◌}
 use native.Mathlib.Nat.{lt_of_lt_of_le, pow-suc}

@@ -1,5 +1,5 @@
 -- IEEE 754 on squareRoot: it is computed as if with unlimited range and precision, and rounded once, to the nearest value, ties to even.
--- Here that is said of `root` with no word of how it is worked out. `root-nearest` of `proofs/Law` proves `RootNearest`. Definitions only.
+-- Here that is said of `root` with no word of how it is worked out. `root_nearest` of `proofs/Law` proves `RootNearest`. Definitions only.
 use Rattle.std.specs.Prelude.{ℕ, ◌+◌, ◌*◌, ◌^◌, ◌<◌, false, T, Float}
 use Rattle.std.specs.Float.{binary64}
 use Rattle.std.specs.Float.Ieee.{fits}

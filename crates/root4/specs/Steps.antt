@@ -20,7 +20,7 @@ small = of_bits binary64 small_bits
 abbrev pub left_to_one_lane : Float → Bool
 left_to_one_lane x = not (lt small x)
 
--- by patterns: those above its own are taken, up to +infinity's, and no others; `left-patterns` of `proofs/Order` proves it
+-- by patterns: those above its own are taken, up to +infinity's, and no others; `left_patterns` of `proofs/Order` proves it
 abbrev pub LeftPatterns : Type 0
 LeftPatterns = (b : ℕ) → left_to_one_lane (of_bits binary64 b) ≡ not (ltb small_bits b && leb b infinity_bits)
 
