@@ -5,7 +5,7 @@
  *
  * with its own b, c and tolerances. All four lanes share A, which is m rows by n columns in compressed rows.
  *
- * Link libipm_c.a, written by `rt lib ipm_c` to crates/ipm_c/out. No function allocates, keeps state, blocks or
+ * Link libipm_c.a, written by `rt lib` in crates/ipm_c to its out/. No function allocates, keeps state, blocks or
  * fails otherwise than by its answer, so calls may run in several threads, each on memory of its own.
  *
  * Pointers: none is NULL, even where the length after it is 0; each is aligned to its element; the parts must not
