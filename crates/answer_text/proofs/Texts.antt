@@ -1,19 +1,22 @@
 -- The digits of a number, and texts written one after the other. Assumes nothing.
 use mathlib.Core.Path.{◌≡◌, refl, sym, ap, ◌∙◌, subst}
 use mathlib.Core.Bool.{Bool, cond}
-use mathlib.Core.List.{List, [], ◌∷◌, ◌++◌}
+use mathlib.Core.List.{List, [], ◌∷◌, ◌++◌, append_assoc}
 use Prim.Native.Nat.{ℕ, zero, suc, ◌+◌, ◌-◌, ◌*◌, ◌/◌, ◌%◌, ◌^◌, ◌≤◌, ◌<◌}
 use native.Mathlib.Nat.{mod-eq_of_lt, div-lt_iff_lt-mul, le-div_iff_mul-le, pow-suc, pow-le-pow_right, le_trans, lt_of_lt_of_le, lt_irrefl}
 use native.Mathlib.Decide.{dec_le}
-use native.Mathlib.Numerals.{add-one}
 use native.Mathlib.Omega.{arith}
 use borrow.Author.Tests.{lt-ltb, le-ltb}
-use lib.ListN.{length, get_or, set, take, length-append}
-use lib.Seq.{take-suc}
+use borrow.Rule.Slice.PartMut.{put_mid}
+use lib.Ieee.{Float, nan}
+use lib.ListN.{length, get_or, take, drop, length-append}
+use lib.Seq.{drop-drop, get_or-take, get_or-drop}
+use Rattle.std.proofs.lemmas.List.Edits.{sets-eq}
+use Rattle.std.specs.Simd.{first_chunks}
 use Rattle.io.specs.Digits.{hex_digit_ascii, last_digits, IsDigitCount}
+use Rattle.lanes.specs.Lists.{at as element}
 use Rattle.base.specs.Cat.{Wrote}
-use Rattle.base.proofs.Write.{wrote_join, wrote_as, then_written, same_text}
-use Rattle.answer_text.specs.Text.{decimal_to, hex_text}
+use Rattle.answer_text.specs.Text.{decimal_to, hex_text, float_text, line_text, space, line_feed}
 
 pub length_digits : (b k n : ℕ) → length (last_digits b k n) ≡ k
 length_digits b zero n = refl
@@ -69,15 +72,38 @@ hex_is k b h f = let e : k ≡ 16 = omega (arith, f.0) in ap (λ (j : ℕ). last
 
 -- ---- texts written one after the other
 
--- a text, and one byte after it
-pub then_byte : {a b c : List ℕ} {at r s : ℕ} {t u : List ℕ} {x : ℕ} → t ≡ u → Wrote a b at t r → Wrote b c r (x ∷ []) s → Wrote a c at (u ++ (x ∷ [])) s
-then_byte e p q = then_written (same_text e p) q
+-- a text copied to its part of a list
+pub copied : (a : List ℕ) (start : ℕ) (s : List ℕ) → start + length s ≤ length a
+    → Wrote a (put_mid start (start + length s - start) a s) start s (start + length s)
+copied a start s h = record { is = sym (sets-eq s a start h ∙ append_assoc (take start a) s (drop (start + length s) a) ∙ part (omega arith)); next = refl }
+  where
+    part : {k : ℕ} → k ≡ length s → take start a ++ (s ++ drop (start + length s) a) ≡ put_mid start k a s
+    part e = rw (e, drop-drop)
 
--- one byte more of a text
-pub copied : (a b : List ℕ) (at i : ℕ) (s : List ℕ) → i < length s → Wrote a b at (take i s) (at + i)
-    → Wrote a (set b (at + i) (get_or s i 0)) at (take (i + 1) s) (at + (i + 1))
-copied a b at i s h w =
-    wrote_as a (set b (at + i) (get_or s i 0)) at (at + (i + 1)) (take i s ++ (get_or s i 0 ∷ [])) (take (i + 1) s)
-    (sym (ap (λ (k : ℕ). take k s) (add-one i) ∙ take-suc s i 0 h))
-    (wrote_join a b (set b (at + i) (get_or s i 0)) at (at + i) (at + (i + 1)) (take i s) (get_or s i 0 ∷ []) w
-    (record { is = refl; next = omega arith }))
+-- ---- the columns of a list of lanes
+
+abbrev lanes_text : Float → Float → Float → Float → List ℕ
+lanes_text a b c d = float_text a space ++ (float_text b space ++ (float_text c space ++ float_text d line_feed))
+
+same_lanes : {a b c d e f g h : Float} → a ≡ e → b ≡ f → c ≡ g → d ≡ h → lanes_text a b c d ≡ lanes_text e f g h
+same_lanes p q r s = rw (p, q, r, s)
+
+column_at : (x : List Float) (m k : ℕ) → k < m → get_or (first_chunks 4 m x) k [] ≡ take 4 (drop (4 * k) x)
+column_at x zero k h = absurd (omega arith)
+column_at x (suc m) zero h = refl
+column_at x (suc m) (suc k) h =
+    let e : 4 + 4 * k ≡ 4 * suc k = omega arith in
+    column_at (drop 4 x) m k (omega arith) ∙ ap (take 4) (drop-drop (4 * k) 4 x) ∙ ap (λ (i : ℕ). take 4 (drop i x)) e
+
+lane_at : (x : List Float) (k i : ℕ) → i < 4 → element (take 4 (drop (4 * k) x)) i ≡ element x (4 * k + i)
+lane_at x k i h = get_or-take 4 (drop (4 * k) x) i nan h ∙ get_or-drop (4 * k) x i nan
+
+column_text : (x : List Float) (k : ℕ) → line_text (take 4 (drop (4 * k) x)) 0 ≡ line_text x k
+unfolding line_text
+column_text x k =
+    let e : 4 * k + 0 ≡ 4 * k = omega arith in
+    same_lanes (lane_at x k 0 (omega arith) ∙ ap (element x) e) (lane_at x k 1 (omega arith)) (lane_at x k 2 (omega arith)) (lane_at x k 3 (omega arith))
+
+pub line_is : (x : List Float) (n m k : ℕ) → n ≤ m → k < n → line_text (get_or (take n (first_chunks 4 m x)) k []) 0 ≡ line_text x k
+line_is x n m k l h =
+    ap (λ (y : List Float). line_text y 0) (get_or-take n (first_chunks 4 m x) k [] h ∙ column_at x m k (omega arith)) ∙ column_text x k

@@ -1,7 +1,7 @@
 // The text of an answer, written to a lent buffer.
 #![tactic(auto)]
 
-ghost use Rattle.std.specs.Prelude.{◌≡◌, ◌+◌, ◌*◌, ◌≤◌, length};
+ghost use Rattle.std.specs.Prelude.{◌≡◌, [], ◌∷◌, ◌++◌, ◌+◌, ◌*◌, ◌<◌, ◌≤◌, length};
 ghost use Rattle.base.specs.Cat.{cat, Wrote};
 ghost use Rattle.answer_text.specs.Text.{whole_bytes, float_bytes, line_bytes, accepted_bytes, refused_bytes, input_bytes, whole_text, float_text, line_text, accepted_text, refused_text, input_text};
 
@@ -13,12 +13,18 @@ fn put(out: &mut [u8], at: usize, s: &[u8]) -> usize
     requires { at + length s.now ≤ length out.old }
     ensures { Wrote out.old out.new at s.now result }
 {
-    let mut i = 0;
-    while i < s.len() {
-        out[at + i] = s[i];
-        i += 1;
-    }
-    at + i
+    let end = at + s.len();
+    out[at..end].copy_from_slice(s);
+    end
+}
+
+// A text, and a byte after it.
+fn put_then(out: &mut [u8], at: usize, s: &[u8], after: u8) -> usize
+    requires { at + length s.now < length out.old }
+    ensures { Wrote out.old out.new at (s.now ++ (after ∷ [])) result }
+{
+    let end = put(out, at, s);
+    base::put(out, end, after)
 }
 
 // A number in decimal digits, and a byte after it.
@@ -29,8 +35,7 @@ fn put_whole(out: &mut [u8], at: usize, x: u64, after: u8) -> usize
 {
     let mut digits = [0u8; 20];
     let k = io::decimal(x, &mut digits);
-    let end = put(out, at, &digits[..k]);
-    base::byte(out, end, after)
+    put_then(out, at, &digits[..k], after)
 }
 
 // A float's pattern in hexadecimal digits, and a byte after it.
@@ -41,21 +46,20 @@ fn put_float(out: &mut [u8], at: usize, x: f64, after: u8) -> usize
 {
     let mut digits = [0u8; 16];
     let k = io::hex(root::bits_of(x), 16, &mut digits);
-    let end = put(out, at, &digits[..k]);
-    base::byte(out, end, after)
+    put_then(out, at, &digits[..k], after)
 }
 
-// The four lanes of column e.
-fn put_line(out: &mut [u8], at: usize, x: &[f64], e: usize) -> usize
-    requires { (at + line_bytes ≤ length out.old) × (4 * e + 4 ≤ length x.now) }
-    ensures wrote { Wrote out.old out.new at (line_text x.now e) result }
+// The four lanes of a column.
+fn put_line(out: &mut [u8], at: usize, lanes: &[f64; 4]) -> usize
+    requires { at + line_bytes ≤ length out.old }
+    ensures wrote { Wrote out.old out.new at (line_text lanes.now 0) result }
     ensures value { result ≡ at + line_bytes }
 {
-    let first = 4 * e;
-    let second = put_float(out, at, x[first], SPACE);
-    let third = put_float(out, second, x[first + 1], SPACE);
-    let fourth = put_float(out, third, x[first + 2], SPACE);
-    put_float(out, fourth, x[first + 3], LINE_FEED)
+    let [first, second, third, fourth] = *lanes;
+    let next = put_float(out, at, first, SPACE);
+    let next = put_float(out, next, second, SPACE);
+    let next = put_float(out, next, third, SPACE);
+    put_float(out, next, fourth, LINE_FEED)
 }
 
 // A line for each of n columns.
@@ -63,11 +67,10 @@ fn put_lines(out: &mut [u8], start: usize, x: &[f64], n: usize) -> usize
     requires { (start + line_bytes * n ≤ length out.old) × (4 * n ≤ length x.now) }
     ensures { Wrote out.old out.new start (cat n (line_text x.now)) result }
 {
+    let (columns, _) = x.as_chunks::<4>();
     let mut at = start;
-    let mut e = 0;
-    while e < n {
-        at = put_line(out, at, x, e);
-        e += 1;
+    for lanes in &columns[..n] {
+        at = put_line(out, at, lanes);
     }
     at
 }

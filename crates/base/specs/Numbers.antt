@@ -1,5 +1,6 @@
 -- Parts of a list, places in it, and lists of numbers that are below a bound or rise. Definitions only.
-use Rattle.std.specs.Prelude.{cond, List, [], ◌∷◌, ℕ, suc, ◌+◌, ◌-◌, ◌<◌, ◌≤◌, eqb, get_or, take, drop, length}
+use Rattle.std.specs.Prelude.{cond, Option, List, [], ◌∷◌, ℕ, suc, ◌+◌, ◌-◌, ◌<◌, ◌≤◌, eqb, ltb, get_or, take, drop, length}
+use Rattle.std.specs.Bool.{then_some}
 
 -- the elements from a to e - 1
 abbrev pub cut {ℓ} : {A : Type ℓ} → ℕ → ℕ → List A → List A
@@ -14,6 +15,10 @@ pub record Part (off : List ℕ) (i size : ℕ) : Type 0 where
   pub here : i + 1 < length off
   pub rises : get_or off i 0 ≤ get_or off (i + 1) 0
   pub ends : get_or off (i + 1) 0 ≤ size
+
+-- a number that is below n, or none
+abbrev pub below : ℕ → ℕ → Option ℕ
+below n i = then_some (ltb i n) i
 
 -- where x stands first, or the length where it does not stand
 unfoldable pub find : ℕ → List ℕ → ℕ

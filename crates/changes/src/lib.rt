@@ -38,6 +38,7 @@ fn ratio_in(v: [f64; 4], da: [f64; 4], a: [f64; 4], db: [f64; 4], b: [f64; 4]) -
 }
 
 // dx, in place of the reduced costs, and dz, in place of mu/x; the largest ratio of both.
+#[tactic(auto, using(lanes::proofs::Regions::room_le))]
 pub fn column_changes(
     atindptr: &[u32],
     atindices: &[u32],
@@ -53,8 +54,7 @@ pub fn column_changes(
 {
     let zero = zero4();
     let mut acc = zero4();
-    let mut e = 0;
-    while e < mem.n {
+    for e in 0..mem.n {
         let da = col_plus(
             atindptr, atindices, atmap, vals, work, width, mem.dy, e, zero,
         );
@@ -68,19 +68,18 @@ pub fn column_changes(
         put(work, mem.dx + e, width, dxe);
         put(work, mem.dz + e, width, dze);
         acc = t;
-        e += 1;
     }
     acc
 }
 
 // dw of w, y, dy, over the slack rows; the largest ratio of dw and dy.
+#[tactic(auto, using(lanes::proofs::Regions::room_le))]
 pub fn slack_changes(work: &mut [f64], width: usize, mem: Regions, mu: [f64; 4]) -> [f64; 4]
     requires { Laid width mem work.old }
     ensures { SlackChanged width mem mu work.old work.new result }
 {
     let mut acc = zero4();
-    let mut i = 0;
-    while i < mem.s {
+    for i in 0..mem.s {
         let wi = get(work, mem.w + i, width);
         let di = get(work, mem.dy + i, width);
         let yi = get(work, mem.y + i, width);
@@ -88,7 +87,6 @@ pub fn slack_changes(work: &mut [f64], width: usize, mem: Regions, mu: [f64; 4])
         let t = ratio_in(acc, v, wi, di, yi);
         put(work, mem.dw + i, width, v);
         acc = t;
-        i += 1;
     }
     acc
 }

@@ -11,6 +11,7 @@ use lib.Dec.{eqb, ltb}
 use lib.ListN.{length, get_or, set, take, replicate, length-set}
 use lib.Seq.{take-suc, take-length, get_or-set_same, get_or-set_other}
 use borrow.Author.Tests.{ne_eqb, eq-eqb, eqb-true, lt-ltb, le-ltb}
+use Rattle.std.proofs.lemmas.Bool.{false_from_ne_true}
 use Rattle.base.specs.Sums.{sum, one}
 use Rattle.base.proofs.Bools.{or_out, or_right, or_nil, same_if}
 use Rattle.base.proofs.Numbers.{below_at, below_more}
@@ -21,7 +22,7 @@ use Rattle.csr.proofs.Has.{has_last, has_at, not_before}
 use Rattle.csr.proofs.Rows.{row_of, row_le}
 use Rattle.csr.specs.Csr.{Accepted}
 use Rattle.csr.specs.Questions.{max_rows}
-use Rattle.csr.specs.Counts.{is_stored, count_e, count_s, count_d, Counted}
+use Rattle.csr.specs.Counts.{is_stored, count_e, count_s, count_d}
 use Rattle.pattern.specs.Links.{or_else, linked, first_of, links}
 use Rattle.lists.proofs.Few.{stored_few, products_few, pairs_256, triples_256}
 use Rattle.pattern.proofs.Whole.{zeros}
@@ -34,10 +35,6 @@ use Rattle.parents.proofs.Lowest.{parent_is, parent_found, parent_next, parent_z
 use Rattle.parents.proofs.Ascent.{along, filled_links}
 use Rattle.counts.proofs.Step.{else_none, next_is, stand}
 use Rattle.counts.proofs.Products.{total, total_last, total_none, rows_few, rows_zero, rows_next, S-next, S-zero, E-next, E-zero, entries_next, entries_zero, D-next, D-zero}
-
-not-true : (s : Bool) → (s ≡ true → ⊥) → s ≡ false
-not-true true f = absurd (f refl)
-not-true false f = refl
 
 -- the climb starts at a row that is an entry, or at row i
 arrive : {st : ℕ → ℕ → Bool} {i : ℕ} {mark parent column : List ℕ} {E D e d : ℕ} → Turn st i i mark parent column E D e d → (at : ℕ) → at ≤ i → (at < i → st i at ≡ true)
@@ -62,11 +59,12 @@ module _ (off cols : List ℕ) (i rows columns : ℕ) where
     pub shared : s ≡ count_s off cols i + total (take q (row off cols i)) (rows_with off cols (suc i))
     pub small : s ≤ most_of_row * i + (max_rows + 1) * q
 
+module _ {off cols : List ℕ} {i rows columns : ℕ} where
   module _ {mark parent column seen first : List ℕ} {e s d : ℕ} (v : Rows off cols i mark parent column seen first e s d) (fit : Fit off cols i rows columns) (wide : length mark ≡ rows) (long : length seen ≡ columns) where
     unmet : (k : ℕ) → met mark i k ≡ false
     unmet k = ne_eqb (get_or mark k 0) (i + 1) (λ z. omega (arith, v.old k))
 
-    pub row_start : Row mark parent column seen first e s d 0
+    pub row_start : Row off cols i rows columns mark parent column seen first e s d 0
     unfolding linked has
     row_start = record {
       marks = wide;
@@ -103,10 +101,20 @@ module _ (off cols : List ℕ) (i rows columns : ℕ) where
       small = omega (arith, v.small);
     }
 
-  module _ {mark parent column seen first : List ℕ} {e s d q : ℕ} (v : Row mark parent column seen first e s d q) (fit : Fit off cols i rows columns) where
-    module _ (c : ℕ) (hq : q < length (row off cols i)) (is : c ≡ get_or (row off cols i) q 0) where
+  module _ {mark parent column seen first : List ℕ} {e s d q : ℕ} (v : Row off cols i rows columns mark parent column seen first e s d q) (fit : Fit off cols i rows columns) where
+    module _ {xs : List ℕ} (same : xs ≡ row off cols i) (hx : q < length xs) where
+      -- the column that is read is entry q of the row
+      abbrev c : ℕ
+      c = get_or xs q 0
+
+      hq : q < length (row off cols i)
+      hq = omega (arith, hx, ap length same)
+
+      is : c ≡ get_or (row off cols i) q 0
+      is = ap (λ (l : List ℕ). get_or l q 0) same
+
       c_in : c < columns
-      c_in = omega (arith, below_at columns (row off cols i) q fit.is.within hq)
+      c_in = omega (arith, is, below_at columns (row off cols i) q fit.is.within hq)
 
       fresh : has (take q (row off cols i)) c ≡ false
       fresh = ap (has (take q (row off cols i))) is ∙ not_before (row off cols i) q fit.is.rising hq
@@ -129,7 +137,10 @@ module _ (off cols : List ℕ) (i rows columns : ℕ) where
       pub first_asks : (c < length first) × (i < 256)
       first_asks = (omega (arith, v.firsts, c_in), fit.few)
 
-      module _ (at : ℕ) (begins : at + 1 ≡ or_else (get_or first c 0) (i + 1)) where
+      longer : take (q + 1) (row off cols i) ≡ take q (row off cols i) ++ (c ∷ [])
+      longer = ap (λ (k : ℕ). take k (row off cols i)) (add-one q) ∙ take-suc (row off cols i) q 0 hq ∙ ap (λ (x : ℕ). take q (row off cols i) ++ (x ∷ [])) (sym is)
+
+      module _ {at : ℕ} (begins : at + 1 ≡ or_else (get_or first c 0) (i + 1)) where
         cases : ((first_of off cols i c ≡ 0) × (at ≡ i)) ⊎ (first_of off cols i c ≡ suc at)
         cases = next_is i (first_of off cols i c) at (begins ∙ ap (λ (x : ℕ). or_else x (i + 1)) first_now)
 
@@ -151,10 +162,7 @@ module _ (off cols : List ℕ) (i rows columns : ℕ) where
         pub climb_asks : Climbing i at mark parent column e d
         climb_asks = record { st = is_stored off cols; E = count_e off cols i; D = count_d off cols i; turn = arrive v.turn at low stands }
 
-        longer : take (q + 1) (row off cols i) ≡ take q (row off cols i) ++ (c ∷ [])
-        longer = ap (λ (k : ℕ). take k (row off cols i)) (add-one q) ∙ take-suc (row off cols i) q 0 hq ∙ ap (λ (x : ℕ). take q (row off cols i) ++ (x ∷ [])) (sym is)
-
-        module _ (mark' parent' column' seen' first' : List ℕ) (e' d' r : ℕ) (w : Climbed i at i mark parent column mark' parent' column' e d e' d') (counts : seen' ≡ set seen c (get_or seen c 0 + 1)) (adds : r ≡ get_or seen c 0 + 1)
+        module _ {mark' parent' column' seen' : List ℕ} (first' : List ℕ) {e' d' r : ℕ} (w : Climbed i at i mark parent column mark' parent' column' e d e' d') (counts : seen' ≡ set seen c (get_or seen c 0 + 1)) (adds : r ≡ get_or seen c 0 + 1)
             (adopts : Adopts first first' c (i + 1)) (len : length first' ≡ length first) where
           reach : (j : ℕ) → linked (first_of off cols i) (take q (row off cols i) ++ (c ∷ [])) j ≡ true → met mark' i j ≡ true
           reach j h = go (or_out (linked (first_of off cols i) (take q (row off cols i)) j) (eqb (first_of off cols i c) (suc j)) (sym (linked_last (first_of off cols i) (take q (row off cols i)) c j) ∙ h))
@@ -182,12 +190,12 @@ module _ (off cols : List ℕ) (i rows columns : ℕ) where
           has_there : (x : ℕ) → (x ≡ c → ⊥) → has (take (q + 1) (row off cols i)) x ≡ has (take q (row off cols i)) x
           has_there x n = has_now x false (ne_eqb x c n) ∙ or_nil (has (take q (row off cols i)) x)
 
-          pub row_turn : Row mark' parent' column' seen' first' e' (s + r) d' (q + 1)
+          pub row_turn : Row off cols i rows columns mark' parent' column' seen' first' e' (s + r) d' (q + 1)
           row_turn = record {
             marks = w.size ∙ v.marks;
             seens = ap length counts ∙ length-set seen c (get_or seen c 0 + 1) ∙ v.seens;
             firsts = len ∙ v.firsts;
-            up_to = omega arith;
+            up_to = omega (arith, hq);
             turn = w.turns (is_stored off cols) (count_e off cols i) (count_d off cols i) (arrive v.turn at low stands);
             reached = λ j h. reach j (sym (ap (λ (l : List ℕ). linked (first_of off cols i) l j) longer) ∙ h);
             seen_at = λ x h. ap (λ (l : List ℕ). get_or l x 0) counts ∙ seen_at_lem x h (ℕ_discrete x c);
@@ -248,7 +256,7 @@ module _ (off cols : List ℕ) (i rows columns : ℕ) where
         where
           go : Dec (k < i) → met mark i k ≡ ltb k i && is_stored off cols i k
           go (yes l) = met_stored k l ∙ sym (ap (λ (b : Bool). b && is_stored off cols i k) (lt-ltb k i l))
-          go (no n) = not-true (met mark i k) (λ h. n (v.turn.sound k h).0) ∙ sym (ap (λ (b : Bool). b && is_stored off cols i k) (le-ltb k i (omega arith)))
+          go (no n) = false_from_ne_true (met mark i k) (λ h. n (v.turn.sound k h).0) ∙ sym (ap (λ (b : Bool). b && is_stored off cols i k) (le-ltb k i (omega arith)))
 
       diagonal : is_stored off cols i i ≡ true
       unfolding is_stored
@@ -309,22 +317,18 @@ rows_start off cols rows columns = record {
   small = omega arith;
 }
 
-pub fits : (off cols : List ℕ) (m rows columns i : ℕ) → Countable off cols m rows columns → i < m → Fit off cols i rows columns
-fits off cols m rows columns i ok l = record {
+pub fits : {off cols : List ℕ} {m rows columns i : ℕ} → Countable off cols m rows columns → i < m → Fit off cols i rows columns
+fits {off} {cols} {m} {rows} {columns} {i} ok l = record {
   few = omega (arith, ok.csr.few);
   room = omega (arith, ok.room);
   short = ok.short;
   is = row_of off cols m i columns ok.csr l (ok.within i l);
 }
 
-pub countable : (off cols : List ℕ) (m n rows columns : ℕ) → Accepted off cols m n → m ≤ rows → n ≤ columns → Countable off cols m rows columns
-countable off cols m n rows columns ok h g = record {
+pub countable : {off cols : List ℕ} {m n : ℕ} (rows columns : ℕ) → Accepted off cols m n → m ≤ rows → n ≤ columns → Countable off cols m rows columns
+countable {off} {cols} {m} {n} rows columns ok h g = record {
   csr = ok.csr;
   short = ok.offsets.few;
   room = h;
   within = λ i l. below_more n columns (row off cols i) g (ok.within i l);
 }
-
-pub rows_end : (off cols : List ℕ) (m i : ℕ) {mark parent column seen first : List ℕ} {e s d : ℕ} → Rows off cols i mark parent column seen first e s d → i ≡ m
-    → Counted off cols m e s d
-rows_end off cols m i v z = record { stored = v.entries ∙ ap (count_e off cols) z; shared = v.shared ∙ ap (count_s off cols) z; products = v.products ∙ ap (count_d off cols) z }

@@ -20,11 +20,19 @@ struct Tally {
     products: usize,
 }
 
-// The entries of a row so far, and their products.
-#[derive(Clone, Copy)]
-struct Met {
-    stored: usize,
-    products: usize,
+// What is noted of each row and of each column.
+#[derive(Drop)]
+struct Notes<const ROWS: usize, const COLUMNS: usize> {
+    // One more than the last row that met this row.
+    mark: [u32; ROWS],
+    // One more than the row's parent, or 0.
+    parent: [u32; ROWS],
+    // The entries of the row's column below the diagonal.
+    column: [u32; ROWS],
+    // The rows that have this column.
+    seen: [u32; COLUMNS],
+    // One more than the first of them, or 0.
+    first: [u32; COLUMNS],
 }
 
 // One more at place k; what stands there then.
@@ -32,9 +40,8 @@ fn bump(table: &mut [u32], k: usize) -> usize
     requires { (k < length table.old) × (get_or table.old k 0 ≤ max_places) }
     ensures { (table.new ≡ set table.old k (get_or table.old k 0 + 1)) × (result ≡ get_or table.old k 0 + 1) }
 {
-    let v = table[k] + 1;
-    table[k] = v;
-    v as usize
+    table[k] += 1;
+    table[k] as usize
 }
 
 // Row i is noted at place k if no row is; the row that is noted there then.
@@ -45,153 +52,74 @@ fn adopt(table: &mut [u32], k: usize, i: usize) -> usize
     let f = table[k];
     if f == 0 {
         table[k] = (i as u32) + 1;
-        return i;
+        i
+    } else {
+        (f - 1) as usize
     }
-    (f - 1) as usize
 }
 
-// Climb from a row along parents until row i or a row that is marked. Each row met is an entry of row i, and adds to the products
-// the entries that its column has by then.
-fn climb(
-    mark: &mut [u32],
-    parent: &mut [u32],
-    column: &mut [u32],
-    at: usize,
-    i: usize,
-    stored: usize,
-    products: usize,
-) -> Met
-    requires { Climbing i at mark.old parent.old column.old stored products }
-    ensures { Climbed i at i mark.old parent.old column.old mark.new parent.new column.new stored products result.stored result.products }
-{
-    let stamp = (i as u32) + 1;
-    let mut e = stored;
-    let mut d = products;
-    let mut k = at;
-    while k < i {
-        if mark[k] == stamp {
-            return Met {
-                stored: e,
-                products: d,
-            };
+impl<const ROWS: usize, const COLUMNS: usize> Notes<ROWS, COLUMNS> {
+    // Climb from a row along parents until row i or a row that is marked. Each row met is an entry of row i, and adds to the products
+    // the entries that its column has by then.
+    fn climb(&mut self, at: usize, i: usize, mut tally: Tally) -> Tally
+        requires { Climbing i at self.old.mark self.old.parent self.old.column tally.stored tally.products }
+        ensures climbed { Climbed i at i self.old.mark self.old.parent self.old.column self.new.mark self.new.parent self.new.column tally.stored tally.products result.stored result.products }
+        ensures shared { result.shared ≡ tally.shared }
+        ensures columns { (self.new.seen ≡ self.old.seen) × (self.new.first ≡ self.old.first) }
+    {
+        let stamp = (i as u32) + 1;
+        let mut k = at;
+        while k < i {
+            if self.mark[k] == stamp {
+                return tally;
+            }
+            self.mark[k] = stamp;
+            tally.stored += 1;
+            tally.products += bump(&mut self.column, k);
+            k = adopt(&mut self.parent, k, i);
         }
-        mark[k] = stamp;
-        e += 1;
-        d += bump(column, k);
-        k = adopt(parent, k, i);
+        tally
     }
-    Met {
-        stored: e,
-        products: d,
-    }
-}
 
-// Row i: each of its columns adds to S the rows that have it by now, and a climb from the first of them.
-fn count_row(
-    offsets: &[u32],
-    columns: &[u32],
-    i: usize,
-    mark: &mut [u32],
-    parent: &mut [u32],
-    column: &mut [u32],
-    seen: &mut [u32],
-    first: &mut [u32],
-    t: Tally,
-) -> Tally
-    requires { Fit offsets.now columns.now i (length mark.old) (length seen.old) × Rows offsets.now columns.now i mark.old parent.old column.old seen.old first.old t.stored t.shared t.products }
-    ensures { Rows offsets.now columns.now (i + 1) mark.new parent.new column.new seen.new first.new result.stored result.shared result.products }
-{
-    let r = csr::get_row(offsets, columns, i);
-    let mut e = t.stored;
-    let mut s = t.shared;
-    let mut d = t.products;
-    let mut q: usize = 0;
-    while q < r.len() {
-        let c = base::word_at(r, q);
-        s += bump(seen, c);
-        let at = adopt(first, c, i);
-        let u = climb(mark, parent, column, at, i, e, d);
-        e = u.stored;
-        d = u.products;
-        q += 1;
+    // Row i: each of its columns adds to S the rows that have it by now, and a climb from the first of them.
+    fn count_row(&mut self, offsets: &[u32], columns: &[u32], i: usize, mut tally: Tally) -> Tally
+        requires { Fit offsets.now columns.now i ROWS COLUMNS × Rows offsets.now columns.now i self.old.mark self.old.parent self.old.column self.old.seen self.old.first tally.stored tally.shared tally.products }
+        ensures { Rows offsets.now columns.now (i + 1) self.new.mark self.new.parent self.new.column self.new.seen self.new.first result.stored result.shared result.products }
+    {
+        for c in csr::get_row(offsets, columns, i) {
+            let c = *c as usize;
+            tally.shared += bump(&mut self.seen, c);
+            let at = adopt(&mut self.first, c, i);
+            tally = self.climb(at, i, tally);
+        }
+        Tally {
+            stored: tally.stored + 1,
+            ..tally
+        }
     }
-    Tally {
-        stored: e + 1,
-        shared: s,
-        products: d,
+
+    // All m rows.
+    fn count(offsets: &[u32], columns: &[u32], m: usize) -> Tally
+        requires { Countable offsets.now columns.now m ROWS COLUMNS × (ROWS ≤ max_rows) × (COLUMNS ≤ max_columns) }
+        ensures { Counted offsets.now columns.now m result.stored result.shared result.products }
+    {
+        let mut notes = Self {
+            mark: [0; ROWS],
+            parent: [0; ROWS],
+            column: [0; ROWS],
+            seen: [0; COLUMNS],
+            first: [0; COLUMNS],
+        };
+        let mut tally = Tally {
+            stored: 0,
+            shared: 0,
+            products: 0,
+        };
+        for i in 0..m {
+            tally = notes.count_row(offsets, columns, i, tally);
+        }
+        tally
     }
-}
-
-// All rows, in clear memories over the rows and over the columns.
-fn count_rows(
-    offsets: &[u32],
-    columns: &[u32],
-    m: usize,
-    mark: &mut [u32],
-    parent: &mut [u32],
-    column: &mut [u32],
-    seen: &mut [u32],
-    first: &mut [u32],
-) -> Tally
-    requires { Countable offsets.now columns.now m (length mark.old) (length seen.old) × Rows offsets.now columns.now 0 mark.old parent.old column.old seen.old first.old 0 0 0 }
-    ensures { Counted offsets.now columns.now m result.stored result.shared result.products }
-{
-    let mut t = Tally {
-        stored: 0,
-        shared: 0,
-        products: 0,
-    };
-    let mut i: usize = 0;
-    while i < m {
-        let u = count_row(offsets, columns, i, mark, parent, column, seen, first, t);
-        t = u;
-        i += 1;
-    }
-    t
-}
-
-// Few rows and columns: little to clear.
-fn count_few(offsets: &[u32], columns: &[u32], m: usize) -> Tally
-    requires { Countable offsets.now columns.now m 16 32 }
-    ensures { Counted offsets.now columns.now m result.stored result.shared result.products }
-{
-    let mut mark = [0u32; Plan::FEW_ROWS];
-    let mut parent = [0u32; Plan::FEW_ROWS];
-    let mut column = [0u32; Plan::FEW_ROWS];
-    let mut seen = [0u32; Plan::FEW_COLUMNS];
-    let mut first = [0u32; Plan::FEW_COLUMNS];
-    count_rows(
-        offsets,
-        columns,
-        m,
-        &mut mark,
-        &mut parent,
-        &mut column,
-        &mut seen,
-        &mut first,
-    )
-}
-
-// As many rows and columns as there may be.
-fn count_many(offsets: &[u32], columns: &[u32], m: usize) -> Tally
-    requires { Countable offsets.now columns.now m max_rows max_columns }
-    ensures { Counted offsets.now columns.now m result.stored result.shared result.products }
-{
-    let mut mark = [0u32; Plan::MAX_ROWS];
-    let mut parent = [0u32; Plan::MAX_ROWS];
-    let mut column = [0u32; Plan::MAX_ROWS];
-    let mut seen = [0u32; Plan::MAX_COLUMNS];
-    let mut first = [0u32; Plan::MAX_COLUMNS];
-    count_rows(
-        offsets,
-        columns,
-        m,
-        &mut mark,
-        &mut parent,
-        &mut column,
-        &mut seen,
-        &mut first,
-    )
 }
 
 // E, S and D of a matrix that is accepted.
@@ -200,9 +128,9 @@ fn count_accepted(m: usize, n: usize, offsets: &[u32], columns: &[u32]) -> Tally
     ensures { Counted offsets.now columns.now m result.stored result.shared result.products }
 {
     if m <= Plan::FEW_ROWS && n <= Plan::FEW_COLUMNS {
-        count_few(offsets, columns, m)
+        Notes::<{ Plan::FEW_ROWS }, { Plan::FEW_COLUMNS }>::count(offsets, columns, m)
     } else {
-        count_many(offsets, columns, m)
+        Notes::<{ Plan::MAX_ROWS }, { Plan::MAX_COLUMNS }>::count(offsets, columns, m)
     }
 }
 
@@ -212,6 +140,14 @@ pub fn plan_sizes(m: usize, n: usize, s: usize, offsets: &[u32], columns: &[u32]
     requires { Accepted offsets.now columns.now m n }
     ensures { result ≡ plan_of m n s (length columns.now) (count_e offsets.now columns.now m) (count_s offsets.now columns.now m) (count_d offsets.now columns.now m) }
 {
-    let t = count_accepted(m, n, offsets, columns);
-    Plan::new(m, n, s, columns.len(), t.stored, t.shared, t.products)
+    let tally = count_accepted(m, n, offsets, columns);
+    Plan::new(
+        m,
+        n,
+        s,
+        columns.len(),
+        tally.stored,
+        tally.shared,
+        tally.products,
+    )
 }

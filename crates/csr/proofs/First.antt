@@ -1,52 +1,19 @@
--- A loop that looks for the first number below m at which p holds: what one turn, a find and the end show. Assumes nothing.
+-- The first number below m at which p holds, and a search for it. Assumes nothing.
+use Rattle.std.specs.Prelude.{Option, Some, None}
+use Rattle.std.specs.Option.{option_map}
+use Rattle.std.specs.List.{find, range_with_len}
+use Rattle.std.proofs.lemmas.Iterator.Adapters.{option_map_id}
+use Rattle.std.specs.Bool.{then_some}
 use mathlib.Core.Path.{◌≡◌, refl, sym, ◌∙◌, ap, ap₂}
 use mathlib.Core.Bool.{Bool, true, false, cond, true≢false}
-use Prim.Native.Nat.{ℕ, zero, suc, ◌+◌, ◌-◌, ◌≤◌, ◌<◌}
+use Prim.Native.Nat.{ℕ, zero, suc, ◌+◌, ◌≤◌, ◌<◌}
 use native.Mathlib.Numerals.{add-one}
 use native.Mathlib.Omega.{arith}
 use borrow.Author.Tests.{lt-ltb, le-ltb, ltb-false}
 use native.Mathlib.Decide.{dec_lt}
+use Rattle.base.specs.Numbers.{below}
 use lib.Dec.{ltb}
 use Rattle.csr.specs.Questions.{first_from}
-
--- the first number of the whole is the first of what is left from i on: the invariant of such a loop
-abbrev pub Left : (ℕ → Bool) → ℕ → ℕ → Type 0
-Left p m i = (i ≤ m) × (first_from p i (m - i) ≡ first_from p 0 m)
-
-pub starts : (p : ℕ → Bool) (m : ℕ) → Left p m 0
-starts p m = let e : m - 0 ≡ m = omega arith in (omega arith, ap (first_from p 0) e)
-
-turn : (p : ℕ → Bool) (i k : ℕ) → p i ≡ false → first_from p i (suc k) ≡ first_from p (suc i) k
-unfolding first_from
-turn p i k h = rw h
-
-pub goes_on : (p : ℕ → Bool) (m i : ℕ) → i < m → p i ≡ false → Left p m i → Left p m (i + 1)
-goes_on p m i l h inv =
-    let e : m - i ≡ suc (m - (i + 1)) = omega arith in
-    (omega arith, rw (add-one i) (sym (turn p i (m - suc i) h)) ∙ sym (ap (first_from p i) (e ∙ ap (λ (k : ℕ). suc (m - k)) (add-one i))) ∙ inv.1)
-
-found_at : (p : ℕ → Bool) (i k : ℕ) → p i ≡ true → first_from p i (suc k) ≡ i
-unfolding first_from
-found_at p i k h = rw h
-
-pub found : (p : ℕ → Bool) (m i : ℕ) → i < m → p i ≡ true → Left p m i → i ≡ first_from p 0 m
-found p m i l h inv =
-    let e : m - i ≡ suc (m - (i + 1)) = omega arith in
-    sym (found_at p i (m - (i + 1)) h) ∙ sym (ap (first_from p i) e) ∙ inv.1
-
-none_at : (p : ℕ → Bool) (i k : ℕ) → k ≡ 0 → first_from p i k ≡ i
-unfolding first_from
-none_at p i k h = rw h
-
-pub none : (p : ℕ → Bool) (m i : ℕ) → m ≤ i → Left p m i → i ≡ first_from p 0 m
-none p m i l inv = let e : m - i ≡ 0 = omega arith in sym (none_at p i (m - i) e) ∙ inv.1
-
--- the same, asked as a test whether there is one
-pub found_test : (p : ℕ → Bool) (m i : ℕ) → i < m → p i ≡ true → Left p m i → true ≡ ltb (first_from p 0 m) m
-found_test p m i l h inv = sym (lt-ltb (first_from p 0 m) m (rw (found p m i l h inv) at l))
-
-pub none_test : (p : ℕ → Bool) (m i : ℕ) → m ≤ i → Left p m i → false ≡ ltb (first_from p 0 m) m
-none_test p m i l inv = sym (le-ltb (first_from p 0 m) m (rw (none p m i l inv) at l))
 
 -- where the search comes to the end, p holds at no number on the way
 AllFalse : (ℕ → Bool) → ℕ → Type 0
@@ -92,3 +59,33 @@ first_same p q i (suc f) h = ap₂ (λ (t : Bool) (r : ℕ). cond t i r) (h i (o
 
 pub first_ext : (p q : ℕ → Bool) (m : ℕ) → ((k : ℕ) → k < m → p k ≡ q k) → first_from p 0 m ≡ first_from q 0 m
 first_ext p q m h = first_same p q 0 m (λ k a b. h k (omega arith))
+
+-- ---- a search that answers the number, or none
+
+found_from : (p : ℕ → Bool) (i f : ℕ) → find p (range_with_len i f) ≡ below (i + f) (first_from p i f)
+unfolding first_from
+found_from p i zero = rw (le-ltb i (i + 0) (omega arith)) refl
+found_from p i (suc f) = go (p i) (found_from p (i + 1) f)
+  where
+    go : (t : Bool) → find p (range_with_len (i + 1) f) ≡ below (i + 1 + f) (first_from p (i + 1) f) → cond t (Some i) (find p (range_with_len (i + 1) f)) ≡ below (i + suc f) (cond t i (first_from p (suc i) f))
+    go true ih = rw (lt-ltb i (i + suc f) (omega arith)) refl
+    go false ih = let e : i + 1 + f ≡ i + suc f = omega arith in ih ∙ ap₂ (λ (n k : ℕ). below n (first_from p k f)) e (add-one i)
+
+-- the answer of `find` over the numbers below m
+pub found : (p : ℕ → Bool) (m : ℕ) (r : Option ℕ) → option_map (λ x. x) r ≡ find p (range_with_len 0 m) → r ≡ below m (first_from p 0 m)
+found p m r h = let e : 0 + m ≡ m = omega arith in sym (option_map_id r) ∙ h ∙ found_from p 0 m ∙ ap (λ (n : ℕ). below n (first_from p 0 m)) e
+
+-- the two ways to read an answer
+pub below_some : (m e i : ℕ) → Some i ≡ below m e → (e ≡ i) × (ltb i m ≡ true)
+below_some m e i h = go (ltb e m) refl
+  where
+    go : (t : Bool) → ltb e m ≡ t → (e ≡ i) × (ltb i m ≡ true)
+    go true q = let z : Some i ≡ Some e = h ∙ ap (λ (t : Bool). then_some t e) q in let s : i ≡ e = cc in (sym s, ap (λ (k : ℕ). ltb k m) s ∙ q)
+    go false q = let z : Some i ≡ None = h ∙ ap (λ (t : Bool). then_some t e) q in cc
+
+pub below_none : (m e : ℕ) → None ≡ below m e → ltb e m ≡ false
+below_none m e h = go (ltb e m) refl
+  where
+    go : (t : Bool) → ltb e m ≡ t → ltb e m ≡ false
+    go true q = let z : None ≡ Some e = h ∙ ap (λ (t : Bool). then_some t e) q in cc
+    go false q = q

@@ -1,16 +1,20 @@
 -- What a yes at question 3 says of the offsets, and the search for a row with too few entries. Assumes nothing.
-use mathlib.Core.Path.{◌≡◌, sym, ap, ◌∙◌}
+use mathlib.Core.Path.{◌≡◌, refl, sym, ap, ◌∙◌}
 use mathlib.Core.List.{List}
-use mathlib.Core.Bool.{true, not, ◌&&◌}
-use Prim.Native.Nat.{ℕ, zero, suc, ◌+◌, ◌≤◌}
+use mathlib.Core.Bool.{Bool, true, false, not, ◌&&◌}
+use Rattle.std.specs.Prelude.{Option, Some, None}
+use Rattle.std.specs.Option.{is_some}
+use Rattle.std.specs.Bool.{then_some}
+use Prim.Native.Nat.{ℕ, zero, suc, ◌+◌, ◌-◌, ◌<◌, ◌≤◌}
 use native.Mathlib.Omega.{arith}
 use native.Mathlib.Decide.{ℕ_discrete}
 use borrow.Author.Tests.{eqb-true, ltb-false, not-true, lt-ltb, le-ltb, eq-eqb, ne_eqb}
 use lib.Dec.{ltb, eqb}
 use lib.ListN.{length, get_or}
+use Rattle.base.specs.Numbers.{Part, below}
 use Rattle.csr.specs.Questions.{first_from, falls, empty, offsets_right}
 use Rattle.csr.specs.Csr.{Offsets}
-use Rattle.csr.proofs.First.{none_below, first_ext}
+use Rattle.csr.proofs.First.{none_below, first_ext, below_some, below_none}
 use Rattle.base.proofs.Bools.{and_left, and_right}
 
 pub right : (m : ℕ) (offsets : List ℕ) (t values : ℕ) → offsets_right m offsets t values ≡ true → Offsets m offsets t
@@ -38,6 +42,10 @@ pub within : (m : ℕ) (offsets : List ℕ) (t : ℕ) → Offsets m offsets t �
 within m offsets t r zero i e = let s : i ≡ m = omega arith in omega (arith, ap (λ (j : ℕ). get_or offsets j 0) s, r.last)
 within m offsets t r (suc k) i e = omega (arith, r.rises i (omega arith), within m offsets t r k (i + 1) (omega arith))
 
+-- a row is a part of the columns
+pub part_of : {m : ℕ} {offsets : List ℕ} {t : ℕ} → Offsets m offsets t → (i : ℕ) → i < m → Part offsets i t
+part_of {m} {offsets} {t} r i l = record { here = omega (arith, r.count); rises = r.rises i l; ends = within m offsets t r (m - (i + 1)) (i + 1) (omega arith) }
+
 -- ---- rows with too few entries
 
 -- with fewer than none: the offsets fall
@@ -45,6 +53,16 @@ pub short_falls : (offsets : List ℕ) (m : ℕ) → first_from (λ k. ltb (get_
 short_falls offsets m =
     first_ext (λ k. ltb (get_or offsets (k + 1) 0) (get_or offsets k 0 + 0)) (falls offsets) m
     (λ k l. let z : get_or offsets k 0 + 0 ≡ get_or offsets k 0 = omega arith in ap (ltb (get_or offsets (k + 1) 0)) z)
+
+-- so none is found just where no offset falls
+pub no_short : (offsets : List ℕ) (m : ℕ) (r : Option ℕ) (b : Bool) → r ≡ below m (first_from (λ k. ltb (get_or offsets (k + 1) 0) (get_or offsets k 0 + 0)) 0 m) → is_some r ≡ not b → b ≡ not (ltb (first_from (falls offsets) 0 m) m)
+no_short offsets m r b h s = go b (ltb (first_from (falls offsets) 0 m) m) (sym s ∙ ap is_some (h ∙ ap (below m) (short_falls offsets m)))
+  where
+    go : (b t : Bool) → not b ≡ is_some (then_some t (first_from (falls offsets) 0 m)) → b ≡ not t
+    go true true e = sym e
+    go true false e = refl
+    go false true e = refl
+    go false false e = sym e
 
 -- with fewer than one, where no offset falls: none
 pub short_empty : (m : ℕ) (offsets : List ℕ) (t : ℕ) → Offsets m offsets t → first_from (λ k. ltb (get_or offsets (k + 1) 0) (get_or offsets k 0 + 1)) 0 m ≡ first_from (empty offsets) 0 m
@@ -56,3 +74,11 @@ short_empty m offsets t r = first_ext (λ k. ltb (get_or offsets (k + 1) 0) (get
         go : Dec (b ≡ a) → ltb b (a + 1) ≡ eqb b a
         go (yes e) = lt-ltb b (a + 1) (omega arith) ∙ sym (eq-eqb b a e)
         go (no e) = le-ltb b (a + 1) (omega arith) ∙ sym (ne_eqb b a e)
+
+-- after a yes at question 3, what a search for such a row says of the rows that have none
+module _ (m : ℕ) (offsets : List ℕ) (t : ℕ) (r : Offsets m offsets t) where
+  pub short_some : (i : ℕ) → Some i ≡ below m (first_from (λ k. ltb (get_or offsets (k + 1) 0) (get_or offsets k 0 + 1)) 0 m) → (first_from (empty offsets) 0 m ≡ i) × (ltb i m ≡ true)
+  short_some i h = below_some m (first_from (empty offsets) 0 m) i (h ∙ ap (below m) (short_empty m offsets t r))
+
+  pub short_none : None ≡ below m (first_from (λ k. ltb (get_or offsets (k + 1) 0) (get_or offsets k 0 + 1)) 0 m) → ltb (first_from (empty offsets) 0 m) m ≡ false
+  short_none h = below_none m (first_from (empty offsets) 0 m) (h ∙ ap (below m) (short_empty m offsets t r))

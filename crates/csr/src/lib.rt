@@ -1,54 +1,84 @@
 // The lent matrix: its rows, and questions 1 to 5.
 #![tactic(auto)]
 
-ghost use Rattle.std.specs.Prelude.{◌≡◌, ◌&&◌, ℕ, ◌+◌, ◌≤◌, leb, ltb, length, get_or};
-ghost use Rattle.base.specs.Numbers.{Part};
+ghost use Rattle.std.specs.Prelude.{◌≡◌, ℕ, ◌+◌, ◌≤◌, ltb, length, get_or};
+ghost use Rattle.base.specs.Numbers.{Part, below};
 ghost use Rattle.csr.specs.Pattern.{row};
 ghost use Rattle.csr.specs.Csr.{Offsets};
-ghost use Rattle.csr.specs.Verdict.{refused, refusal, told_asked};
+ghost use Rattle.csr.specs.Verdict.{at, numbered, told_asked};
 ghost use Rattle.csr.specs.Questions.{first_from, bad_row, offsets_right, rows_right, first_no, max_rows};
 
 use base::{span, word_at};
 
-// A no: the question, its place and its lane, 0 where the question names none.
-#[derive(Clone, Copy)]
-pub struct Refusal {
+// A no, by its question. A row that is refused is named by its place, a test by its number, and a lane by its own.
+#[derive(Clone, Copy, Debug, PartialEq, Eq)]
+pub enum Refusal {
+    Rows,
+    Columns,
+    Offsets,
+    EmptyRow(usize),
+    ColumnOrder(usize),
+    IndexMemory,
+    SlackRows,
+    Lengths,
+    WorkingMemory,
+    Limit,
+    Spoilt(usize, u32),
+    NotDone(usize),
+    Fractions,
+    CutShort,
+    OutOfOrder,
+    OtherLists,
+}
+
+// A no as document 01 numbers it: the question, its place and its lane, 0 where the question names none.
+#[derive(Clone, Copy, Debug, PartialEq, Eq)]
+pub struct Numbered {
     pub question: u32,
     pub place: usize,
     pub lane: u32,
 }
 
-impl Refusal {
-    pub const ROWS: u32 = 1;
-
-    pub const COLUMNS: u32 = 2;
-
-    pub const OFFSETS: u32 = 3;
-
-    pub const EMPTY_ROW: u32 = 4;
-
-    pub const COLUMN_ORDER: u32 = 5;
-
-    pub const INDEX_MEMORY: u32 = 6;
-
-    pub const SLACK_ROWS: u32 = 7;
-
-    pub fn new(question: u32, place: usize, lane: u32) -> Self
-        ensures { refusal result ≡ refused question place lane }
+impl Numbered {
+    // A no that names no lane.
+    fn at(question: u32, place: usize) -> Self
+        ensures { result ≡ at question place }
     {
         Self {
             question,
             place,
-            lane,
+            lane: 0,
         }
     }
 }
 
-// The answer to questions 1 to 5.
-#[derive(Clone, Copy)]
-pub enum Asked {
-    Good,
-    Refused(Refusal),
+impl From<Refusal> for Numbered {
+    ghost from_gives = { λ r n. n ≡ numbered r };
+
+    fn from(refusal: Refusal) -> Self {
+        match refusal {
+            Refusal::Rows => Self::at(1, 0),
+            Refusal::Columns => Self::at(2, 0),
+            Refusal::Offsets => Self::at(3, 0),
+            Refusal::EmptyRow(row) => Self::at(4, row),
+            Refusal::ColumnOrder(row) => Self::at(5, row),
+            Refusal::IndexMemory => Self::at(6, 0),
+            Refusal::SlackRows => Self::at(7, 0),
+            Refusal::Lengths => Self::at(8, 0),
+            Refusal::WorkingMemory => Self::at(9, 0),
+            Refusal::Limit => Self::at(10, 0),
+            Refusal::Spoilt(test, lane) => Self {
+                question: 11,
+                place: test,
+                lane,
+            },
+            Refusal::NotDone(limit) => Self::at(12, limit),
+            Refusal::Fractions => Self::at(13, 0),
+            Refusal::CutShort => Self::at(14, 0),
+            Refusal::OutOfOrder => Self::at(15, 0),
+            Refusal::OtherLists => Self::at(16, 0),
+        }
+    }
 }
 
 // The part of the column list between two offsets.
@@ -59,112 +89,82 @@ pub fn get_row<'a>(offsets: &[u32], columns: &'a [u32], i: usize) -> &'a [u32]
     span(offsets, columns, i)
 }
 
-// Whether x lies from low to high.
-fn between(low: usize, x: usize, high: usize) -> bool
-    ensures { result ≡ (leb low x && leb x high) }
-{
-    if low <= x { x <= high } else { false }
-}
-
-// The first row below m with fewer than `least` entries, or m. Where the offsets fall a row has fewer than none.
-fn first_short(offsets: &[u32], least: usize, m: usize) -> usize
+// The first row below m with fewer than `least` entries. Where the offsets fall a row has fewer than none.
+fn first_short(offsets: &[u32], least: usize, m: usize) -> Option<usize>
     requires { (length offsets.now ≡ m + 1) × (least ≤ 1) }
-    ensures { result ≡ first_from (λ (k : ℕ). ltb (get_or offsets.now (k + 1) 0) (get_or offsets.now k 0 + least)) 0 m }
+    ensures { result ≡ below m (first_from (λ (k : ℕ). ltb (get_or offsets.now (k + 1) 0) (get_or offsets.now k 0 + least)) 0 m) }
 {
-    let mut i = 0;
-    while i < m {
-        if word_at(offsets, i + 1) < word_at(offsets, i) + least {
-            return i;
-        }
-        i += 1;
-    }
-    i
+    (0..m).find(|i| word_at(offsets, *i + 1) < word_at(offsets, *i) + least)
 }
 
 // Whether a row's columns fail to rise strictly or to stay below n.
 fn is_bad(row: &[u32], n: usize) -> bool
     ensures { result ≡ bad_row n row.now }
 {
-    let mut k = 0;
-    while k < row.len() {
-        if row[k] as usize >= n {
+    for (k, x) in row.iter().enumerate() {
+        if *x as usize >= n {
             return true;
         }
-        if k > 0 {
-            if row[k] <= row[k - 1] {
-                return true;
-            }
+        if k > 0 && *x <= row[k - 1] {
+            return true;
         }
-        k += 1;
     }
     false
 }
 
-// The first row below m that is bad, or m.
-fn first_bad(offsets: &[u32], columns: &[u32], m: usize, n: usize) -> usize
+// The first row below m that is bad.
+fn first_bad(offsets: &[u32], columns: &[u32], m: usize, n: usize) -> Option<usize>
     requires { Offsets m offsets.now (length columns.now) }
-    ensures { result ≡ first_from (λ (i : ℕ). bad_row n (row offsets.now columns.now i)) 0 m }
+    ensures { result ≡ below m (first_from (λ (i : ℕ). bad_row n (row offsets.now columns.now i)) 0 m) }
 {
-    let mut i = 0;
-    while i < m {
-        if is_bad(get_row(offsets, columns, i), n) {
-            return i;
-        }
-        i += 1;
-    }
-    i
+    (0..m).find(|i| is_bad(get_row(offsets, columns, *i), n))
 }
 
 // Question 3, of t columns and so many values.
+#[tactic(auto, using(crate::proofs::Right::no_short), unfolding(crate::specs::Questions::offsets_right))]
 fn offsets_right(offsets: &[u32], t: usize, values: usize, m: usize) -> bool
     requires { m ≤ max_rows }
     ensures { result ≡ offsets_right m offsets.now t values }
 {
-    if offsets.len() != m + 1 {
-        return false;
-    }
-    if offsets[0] != 0 {
-        return false;
-    }
-    if first_short(offsets, 0, m) < m {
-        return false;
-    }
-    if offsets[m] as usize != t {
-        return false;
-    }
-    if layout::Plan::MAX_ENTRIES < t {
-        return false;
-    }
-    values == t
+    offsets.len() == m + 1
+        && offsets[0] == 0
+        && first_short(offsets, 0, m).is_none()
+        && offsets[m] as usize == t
+        && t <= layout::Plan::MAX_ENTRIES
+        && values == t
 }
 
 // Question 1.
 pub fn rows_right(m: usize) -> bool
     ensures { result ≡ rows_right m }
 {
-    between(1, m, layout::Plan::MAX_ROWS)
+    (1..=layout::Plan::MAX_ROWS).contains(&m)
 }
 
 // Questions 1 to 5, in order, over any numbers and lists.
-pub fn ask(m: usize, n: usize, offsets: &[u32], columns: &[u32], values: usize) -> Asked
+pub fn ask(
+    m: usize,
+    n: usize,
+    offsets: &[u32],
+    columns: &[u32],
+    values: usize,
+) -> Result<(), Refusal>
     ensures { told_asked result ≡ first_no m n offsets.now columns.now values }
 {
     if !rows_right(m) {
-        return Asked::Refused(Refusal::new(Refusal::ROWS, 0, 0));
+        return Err(Refusal::Rows);
     }
-    if !between(1, n, layout::Plan::MAX_COLUMNS) {
-        return Asked::Refused(Refusal::new(Refusal::COLUMNS, 0, 0));
+    if !(1..=layout::Plan::MAX_COLUMNS).contains(&n) {
+        return Err(Refusal::Columns);
     }
     if !offsets_right(offsets, columns.len(), values, m) {
-        return Asked::Refused(Refusal::new(Refusal::OFFSETS, 0, 0));
+        return Err(Refusal::Offsets);
     }
-    let e = first_short(offsets, 1, m);
-    if e < m {
-        return Asked::Refused(Refusal::new(Refusal::EMPTY_ROW, e, 0));
+    if let Some(row) = first_short(offsets, 1, m) {
+        return Err(Refusal::EmptyRow(row));
     }
-    let b = first_bad(offsets, columns, m, n);
-    if b < m {
-        return Asked::Refused(Refusal::new(Refusal::COLUMN_ORDER, b, 0));
+    if let Some(row) = first_bad(offsets, columns, m, n) {
+        return Err(Refusal::ColumnOrder(row));
     }
-    Asked::Good
+    Ok(())
 }

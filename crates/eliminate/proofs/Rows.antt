@@ -85,7 +85,6 @@ module _ {m : ℕ} (ptr ind : List ℕ) (L : Low m ptr ind) (u v f : List Float)
 
 -- i rows are done: their entries of the factor are the machine's on the memory's own numbers, and their entries of the forward substitution stand
 pub record Done (width : ℕ) (off cols : List ℕ) (vals : List Float) (p : Plan) (index : List ℕ) (old : List Float) (i : ℕ) (work : List Float) : Type 0 where
-  pub low : i ≤ p.m
   pub kept : KeptTwo width (l_in p) p.stored (dy_at p.n p.m) p.m old work
   pub filled : FilledTo width off cols vals p work (get_or (lindptr_in p index) i 0)
   pub solved : (l : ℕ) → l < width → solved_in width p work i l ≡ grow i (front_at (lindptr_in p index) (lindices_in p index) (factor_in width p work l) (side_in width p old l))
@@ -163,7 +162,7 @@ module _ {width : ℕ} {off cols : List ℕ} {vals old : List Float} {p : Plan} 
 
   pub done_none : Loop 0 old
   unfolding grow
-  done_none = record { low = omega arith; kept = two_none; filled = filled_none G; solved = λ l h. reg_none width old d l }
+  done_none = record { kept = two_none; filled = filled_none G; solved = λ l h. reg_none width old d l }
 
   -- THE TURN: row i of the factor, then entry i of the forward substitution
   pub done_more : {i : ℕ} {a b c v : List Float} → Loop i a → i < m
@@ -173,7 +172,6 @@ module _ {width : ℕ} {off cols : List ℕ} {vals old : List Float} {p : Plan} 
       → c ≡ put width b (d + i) v
       → Loop (i + 1) c
   done_more {i} {a} {b} {c} {v} R h K F ev ep = record {
-    low = omega arith;
     kept = two_second (two_first R.kept wide) (kept_wider turn.kept (omega arith));
     filled = filled_same (λ l z. sym (state_still (omega arith) turn.kept l z)) (filled_still turn.kept (apart_front (front_of l_apart) (omega arith)) F);
     solved = λ l z. turn.within l z ∙ ap₂ (λ (p q : List Float). grow (i + 1) (front_at lindptr lindices p q)) (sym (kept_apart turn.kept (apart_front l_apart (omega arith)) l z)) (side l z);

@@ -47,12 +47,11 @@ back_value width W ptr tptr tind tmap work d lo m count i h g R {b} eb ev ep er 
 
 -- what is left to do from i down makes of the memory what all of it makes of the memory at the start
 pub record Falls (width : ℕ) (ptr tptr tind tmap : List ℕ) (d lo m count : ℕ) (old new : List Float) (i : ℕ) : Type 0 where
-  pub low : i ≤ m
   pub kept : Kept width d m old new
   pub reduced : (l : ℕ) → l < width → back ptr tptr tind tmap (reg width old lo count l) i (reg width new d m l) ≡ back ptr tptr tind tmap (reg width old lo count l) m (reg width old d m l)
 
 pub falls_start : (width : ℕ) (ptr tptr tind tmap : List ℕ) (d lo m count : ℕ) (old : List Float) → Falls width ptr tptr tind tmap d lo m count old old m
-falls_start width ptr tptr tind tmap d lo m count old = record { low = omega arith; kept = kept_none width d m old; reduced = λ l h. refl }
+falls_start width ptr tptr tind tmap d lo m count old = record { kept = kept_none width d m old; reduced = λ l h. refl }
 
 back_one : (ptr tptr tind tmap : List ℕ) (lv : List Float) (i : ℕ) (d : List Float)
     → back ptr tptr tind tmap lv (suc i) d ≡ back ptr tptr tind tmap lv i (set d i (back_at ptr tptr tind tmap lv d i))
@@ -60,15 +59,13 @@ unfolding back
 back_one ptr tptr tind tmap lv i d = refl
 
 pub falls_turn : {width : ℕ} {ptr tptr tind tmap : List ℕ} {d lo m count : ℕ} {old new new' v : List Float} {j : ℕ} → Falls width ptr tptr tind tmap d lo m count old new j
-    → 0 < j → Apart lo count d m → d + m ≤ room width old
+    → 0 < j → j ≤ m → Apart lo count d m → d + m ≤ room width old
     → On width v (λ l. back_at ptr tptr tind tmap (reg width new lo count l) (reg width new d m l) (j - 1)) → new' ≡ put width new (d + (j - 1)) v
     → Falls width ptr tptr tind tmap d lo m count old new' (j - 1)
-falls_turn {width} {ptr} {tptr} {tind} {tmap} {d} {lo} {m} {count} {old} {new} {new'} {v} {j} w h a fits ev ep =
-    let low = w.low in
+falls_turn {width} {ptr} {tptr} {tind} {tmap} {d} {lo} {m} {count} {old} {new} {new'} {v} {j} w h low a fits ev ep =
     let e : suc (j - 1) ≡ j = omega arith in
     rw ep
     (record {
-      low = omega arith;
       kept = kept_put w.kept (d + (j - 1)) v (omega arith) (omega arith);
       reduced = λ l z.
           ap (back ptr tptr tind tmap (reg width old lo count l) (j - 1))

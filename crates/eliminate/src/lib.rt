@@ -22,11 +22,9 @@ fn factor_forward(work: &mut [f64], width: usize, values: &[f64], index: &[u32],
     ensures { (off cols : List ℕ) → Planned off cols values.now plan index.now → Forwarded width off cols values.now plan index.now work.old work.new }
 {
     let mem = plan.regions();
-    let mut i = 0;
-    while i < mem.m {
+    for i in 0..mem.m {
         let v = normal_matrix_cholesky_row(work, width, values, index, plan, i);
         put(work, mem.dy + i, width, v);
-        i += 1;
     }
 }
 
@@ -54,9 +52,7 @@ fn backward(work: &mut [f64], width: usize, index: &[u32], plan: Plan)
     ensures { Fills width (dy_at plan.n plan.m) plan.m (λ l. back_all width plan index.now work.old l (solved_in width plan work.old plan.m l)) work.old work.new }
 {
     let mem = plan.regions();
-    let mut i = plan.m;
-    while 0 < i {
-        i -= 1;
+    for i in (0..mem.m).rev() {
         let u = back_entry(work, width, index, plan, i);
         put(work, mem.dy + i, width, u);
     }

@@ -4,8 +4,11 @@ use mathlib.Core.List.{List, [], ◌∷◌}
 use Prim.Native.Nat.{ℕ, zero, suc, ◌+◌, ◌-◌, ◌*◌, ◌/◌, ◌≤◌}
 use native.Mathlib.Nat.{add-zero, add_assoc}
 use native.Mathlib.Omega.{arith}
-use lib.ListN.{set}
-use lib.Seq.{set-set}
+use Rattle.std.proofs.Common.{append_assoc, ◌++◌, take}
+use lib.ListN.{set, length, drop}
+use borrow.Rule.Slice.PartMut.{put_mid}
+use Rattle.std.proofs.lemmas.List.Edits.{sets-eq}
+use lib.Seq.{set-set, drop-drop}
 use lib.Ieee.{Float}
 use Rattle.lanes.specs.Lists.{at}
 use Rattle.lanes.specs.Lanes.{lanes, cell, put, put_to, On}
@@ -17,6 +20,25 @@ pub put_four : (ws : List Float) (k : ℕ) (v : List Float)
     → put 4 ws k v ≡ set (set (set (set ws (4 * k) (at v 0)) (4 * k + 1) (at v 1)) (4 * k + 2) (at v 2)) (4 * k + 3) (at v 3)
 unfolding put_to
 put_four ws k v = rw add-zero
+
+-- a copy over four places stores four lanes
+pub put_copy : (ws : List Float) (k : ℕ) (v : List Float) → length v ≡ 4 → 4 * k + 4 ≤ length ws
+    → put_mid (4 * k) (4 * k + 4 - 4 * k) ws v ≡ put 4 ws k v
+put_copy ws k [] e h = absurd (omega arith)
+put_copy ws k (a ∷ []) e h = absurd (omega arith)
+put_copy ws k (a ∷ b ∷ []) e h = absurd (omega arith)
+put_copy ws k (a ∷ b ∷ c ∷ []) e h = absurd (omega arith)
+put_copy ws k (a ∷ b ∷ c ∷ d ∷ []) e h =
+    let v : List Float = a ∷ b ∷ c ∷ d ∷ [] in
+    let n : 4 * k + 4 - 4 * k ≡ 4 = omega arith in
+    let i1 : 4 * k + 1 ≡ suc (4 * k) = omega arith in
+    let i2 : 4 * k + 2 ≡ suc (suc (4 * k)) = omega arith in
+    let i3 : 4 * k + 3 ≡ suc (suc (suc (4 * k))) = omega arith in
+    let stores : set (set (set (set ws (4 * k) a) (suc (4 * k)) b) (suc (suc (4 * k))) c) (suc (suc (suc (4 * k)))) d
+    ≡ set (set (set (set ws (4 * k) a) (4 * k + 1) b) (4 * k + 2) c) (4 * k + 3) d = cc in
+    let left : put_mid (4 * k) 4 ws v ≡ (take (4 * k) ws ++ v) ++ drop (4 * k + 4) ws = simp (append_assoc, drop-drop) in
+    ap (λ (m : ℕ). put_mid (4 * k) m ws v) n ∙ left ∙ sym (sets-eq v ws (4 * k) h) ∙ stores ∙ sym (put_four ws k v)
+put_copy ws k (a ∷ b ∷ c ∷ d ∷ f ∷ l) e h = absurd (omega arith)
 
 -- three stores are those of three lanes; where there are fewer, the last is stored again
 pub put_few : (w : ℕ) (ws : List Float) (k : ℕ) (v : List Float) → 1 ≤ w → w ≤ 3

@@ -24,6 +24,7 @@ fn narrow(list: &[f64], p: usize, width: usize) -> [f64; 4]
 }
 
 // Entry `entry` of the working memory: its lanes lie at width·entry .. width·entry + width − 1. What the array has behind them is open.
+#[tactic(auto, using(lanes::proofs::Regions::room_in))]
 pub fn get(work: &[f64], entry: usize, width: usize) -> [f64; 4]
     requires { Width width × (entry < room width work.now) }
     ensures { On width result (cell width work.now entry) }
@@ -35,6 +36,7 @@ pub fn get(work: &[f64], entry: usize, width: usize) -> [f64; 4]
 }
 
 // The lanes from `first` on of an entry of a list of `total` lanes. What the array has behind them is open.
+#[tactic(auto, using(lanes::proofs::Regions::room_in))]
 pub fn get_lanes(list: &[f64], total: usize, entry: usize, first: usize, width: usize) -> [f64; 4]
     requires { Width width × (first + width ≤ total) × (entry < room total list.now) }
     ensures { On width result (λ l. cell total list.now entry (first + l)) }
@@ -51,13 +53,11 @@ fn put4(work: &mut [f64], entry: usize, v: [f64; 4])
     ensures { work.new ≡ put 4 work.old entry v }
 {
     let p = 4 * entry;
-    work[p] = v[0];
-    work[p + 1] = v[1];
-    work[p + 2] = v[2];
-    work[p + 3] = v[3];
+    work[p..p + 4].copy_from_slice(&v);
 }
 
 // The first lanes of v, fewer than four. Every lane of v is read, so that v is worked out before it is known how many lanes there are.
+#[tactic(auto, using(lanes::proofs::Regions::room_in))]
 fn put_narrow(work: &mut [f64], entry: usize, width: usize, v: [f64; 4])
     requires { (1 ≤ width) × (width ≤ 3) × (entry < room width work.old) }
     ensures { work.new ≡ put width work.old entry v }

@@ -30,8 +30,7 @@ pub fn normal_matrix_cholesky_row(
     let first = start_of(work, width, mem.y, mem.w, mem.s, i);
     let mut diag = normal_sum(work, width, values, index, plan, mem, g, first);
     let mut side = get(work, mem.rhs + i, width);
-    let mut e = word_at(ends, i);
-    while e < g {
+    for e in word_at(ends, i)..g {
         let j = word_at(columns, e);
         let start = splat(0.0);
         let sum = normal_sum(work, width, values, index, plan, mem, e, start);
@@ -43,7 +42,6 @@ pub fn normal_matrix_cholesky_row(
         let q = less_in(side, u, v);
         diag = p;
         side = q;
-        e += 1;
     }
     let root = root_of(diag);
     put(work, mem.l + g, width, root);

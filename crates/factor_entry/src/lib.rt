@@ -22,6 +22,7 @@ fn normal_in(acc: [f64; 4], a: f64, b: f64, x: [f64; 4], z: [f64; 4]) -> [f64; 4
 }
 
 // The shared columns of entry e, added in turn.
+#[tactic(auto, using(lanes::proofs::Regions::room_le))]
 pub fn normal_sum(
     work: &[f64],
     width: usize,
@@ -39,23 +40,21 @@ pub fn normal_sum(
     let left = plan.anorm_indptr_i(index);
     let right = plan.anorm_indptr_j(index);
     let columns = plan.anorm_indices(index);
-    let to = word_at(ends, e + 1);
     let mut acc = start;
-    let mut p = word_at(ends, e);
-    while p < to {
+    for p in word_at(ends, e)..word_at(ends, e + 1) {
         let i = word_at(left, p);
         let j = word_at(right, p);
         let c = word_at(columns, p);
-        let xc = get(work, mem.x + c, width);
-        let zc = get(work, mem.z + c, width);
-        let t = normal_in(acc, values[i], values[j], xc, zc);
+        let x = get(work, mem.x + c, width);
+        let z = get(work, mem.z + c, width);
+        let t = normal_in(acc, values[i], values[j], x, z);
         acc = t;
-        p += 1;
     }
     acc
 }
 
 // The products of the entries before e, subtracted in turn.
+#[tactic(auto, using(lanes::proofs::Regions::room_le))]
 pub fn less_products(
     work: &[f64],
     width: usize,
@@ -71,22 +70,20 @@ pub fn less_products(
     let ends = plan.ldecomp_indptr(index);
     let left = plan.ldecomp_indptr_i(index);
     let right = plan.ldecomp_indptr_j(index);
-    let to = word_at(ends, e + 1);
     let mut acc = start;
-    let mut p = word_at(ends, e);
-    while p < to {
+    for p in word_at(ends, e)..word_at(ends, e + 1) {
         let i = word_at(left, p);
         let j = word_at(right, p);
         let a = get(work, lo + i, width);
         let b = get(work, lo + j, width);
         let t = less_in(acc, a, b);
         acc = t;
-        p += 1;
     }
     acc
 }
 
 // Where the diagonal's entry of row i starts: w / y in a slack row, else 0.
+#[tactic(auto, using(lanes::proofs::Regions::room_le))]
 pub fn start_of(work: &[f64], width: usize, y: usize, w: usize, s: usize, i: usize) -> [f64; 4]
     requires { (w + s ≤ room width work.now) × (y + i < room width work.now) × Width width }
     ensures { On width result (λ l. cond (ltb i s) (here width work.now (w + i) l ⊘ here width work.now (y + i) l) null) }
@@ -111,6 +108,7 @@ pub fn root_of(v: [f64; 4]) -> [f64; 4]
 }
 
 // Elsewhere over the diagonal's entry of the column's row.
+#[tactic(auto, using(lanes::proofs::Regions::room_le))]
 pub fn over_diagonal(
     work: &[f64],
     width: usize,

@@ -1,6 +1,6 @@
 -- The public calls `write_plan` and `read_plan`: their questions, their answers, and what they leave in the lent lists. Definitions only.
-use Rattle.std.specs.Prelude.{◌≡◌, List, ◌++◌, ℕ, ◌+◌, ◌*◌, leb, length, take, drop}
-use Rattle.csr.specs.Verdict.{Verdict, passed, told, written, refused, ask, and_then, refusal}
+use Rattle.std.specs.Prelude.{◌≡◌, List, ◌++◌, ℕ, ◌+◌, ◌*◌, leb, length, take, drop, Result}
+use Rattle.csr.specs.Verdict.{Verdict, passed, told, written, refused, ask, and_then, told_by}
 use Rattle.csr.specs.Questions.{first_no}
 use Rattle.csr.specs.Counts.{size_w}
 use Rattle.lists.specs.Lists.{plan_words}
@@ -9,13 +9,11 @@ use Rattle.plan_file.specs.Matrix.{matrix_lists}
 use Rattle.plan_file.specs.Tables.{wide}
 use Rattle.plan_file.specs.Verdicts.{file_verdict}
 use Rattle.plan_file.specs.Promises.{plan_file}
-use Rattle.file_calls.specs.declared.WriteAnswer.{WriteAnswer}
-use Rattle.file_calls.specs.declared.WriteAnswer.TheVariants.{Written, Refused}
+use Rattle.csr.specs.declared.Refusal.{Refusal}
 
--- each case of the answer of write_plan, by its number and values
-abbrev pub told_write : WriteAnswer → Verdict
-told_write (Written k) = told (written k)
-told_write (Refused r) = refusal r
+-- the answer of write_plan, by its number and values
+abbrev pub told_write : Result ℕ Refusal → Verdict
+told_write r = told_by (λ k. told (written k)) r
 
 module _ (m n : ℕ) (offsets columns : List ℕ) where
   -- 'at least 4W + 96 bytes for the file'

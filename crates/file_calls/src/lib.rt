@@ -10,18 +10,7 @@ ghost use Rattle.plan_file.specs.Tables.{wide};
 ghost use Rattle.plan_file.specs.Verdicts.{file_verdict};
 ghost use Rattle.file_calls.specs.Calls.{told_write, rooms_verdict, write_verdict, words_after, bytes_after, read_verdict};
 
-use csr::{Asked, Refusal};
-use ipm_common::PlanAnswer;
-
-// Question 8, asked of the file's bytes.
-const FILE_BYTES: u32 = 8;
-
-// The answer of write_plan: the bytes written, or the first no.
-#[derive(Clone, Copy)]
-pub enum WriteAnswer {
-    Written(usize),
-    Refused(Refusal),
-}
+use csr::Refusal;
 
 // Questions 6 and 8 of a matrix that is accepted, and the plan with its file. All sizes are known before a word is written.
 fn write_accepted(
@@ -31,7 +20,7 @@ fn write_accepted(
     columns: &[u32],
     index: &mut [u32],
     file: &mut [u8],
-) -> WriteAnswer
+) -> Result<usize, Refusal>
     requires { Accepted offsets.now columns.now m n }
     ensures answer { told_write result ≡ rooms_verdict m n offsets.now columns.now (length index.old) (length file.old) }
     ensures words { index.new ≡ words_after m n offsets.now columns.now (told_write result) index.old }
@@ -40,16 +29,16 @@ fn write_accepted(
     let plan = counts::plan_sizes(m, n, 0, offsets, columns);
     let words = plan.words();
     if index.len() < words {
-        return WriteAnswer::Refused(Refusal::new(Refusal::INDEX_MEMORY, 0, 0));
+        return Err(Refusal::IndexMemory);
     }
     let bytes = file_write::file_bytes(words);
     if file.len() < bytes {
-        return WriteAnswer::Refused(Refusal::new(FILE_BYTES, 0, 0));
+        return Err(Refusal::Lengths);
     }
-    // Question 6 got a yes, so this writes the plan.
-    ipm_common::plan_accepted(m, n, offsets, columns, index);
+    // The plan has room: question 6 got a yes above.
+    ipm_common::plan_accepted(m, n, offsets, columns, index)?;
     file_write::put_file(file, index, plan);
-    WriteAnswer::Written(bytes)
+    Ok(bytes)
 }
 
 // Questions 1 to 6 and 8, and after these the plan and its file. Any numbers, any lists.
@@ -60,15 +49,13 @@ pub fn write_plan(
     columns: &[u32],
     index: &mut [u32],
     file: &mut [u8],
-) -> WriteAnswer
+) -> Result<usize, Refusal>
     ensures answer { told_write result ≡ write_verdict m n offsets.now columns.now (length index.old) (length file.old) }
     ensures words { index.new ≡ words_after m n offsets.now columns.now (write_verdict m n offsets.now columns.now (length index.old) (length file.old)) index.old }
     ensures bytes { file.new ≡ bytes_after m n offsets.now columns.now (write_verdict m n offsets.now columns.now (length index.old) (length file.old)) file.old }
 {
-    match csr::ask(m, n, offsets, columns, columns.len()) {
-        Asked::Good => write_accepted(m, n, offsets, columns, index, file),
-        Asked::Refused(r) => WriteAnswer::Refused(r),
-    }
+    csr::ask(m, n, offsets, columns, columns.len())?;
+    write_accepted(m, n, offsets, columns, index, file)
 }
 
 // Question 6 of a matrix that is accepted and of a file that is its plan's, and the file's lists in the index memory.
@@ -79,17 +66,17 @@ fn read_accepted(
     columns: &[u32],
     file: &[u8],
     index: &mut [u32],
-) -> PlanAnswer
+) -> Result<usize, Refusal>
     requires { Accepted offsets.now columns.now m n × (file_verdict wide (matrix_lists offsets.now columns.now m n) file.now ≡ passed) }
     ensures { Answered m n offsets.now columns.now index.old index.new (told_plan result) }
 {
     let plan = counts::plan_sizes(m, n, 0, offsets, columns);
     let count = plan.words();
     if index.len() < count {
-        return PlanAnswer::Refused(Refusal::new(Refusal::INDEX_MEMORY, 0, 0));
+        return Err(Refusal::IndexMemory);
     }
     file_copy::copy_plan(file, index);
-    PlanAnswer::Planned(count)
+    Ok(count)
 }
 
 // Questions 1 to 5, 14 to 16 and 6, and after these the plan. Any numbers, any lists, any bytes.
@@ -100,13 +87,11 @@ pub fn read_plan(
     columns: &[u32],
     file: &[u8],
     index: &mut [u32],
-) -> PlanAnswer
+) -> Result<usize, Refusal>
     ensures answer { told_plan result ≡ read_verdict m n offsets.now columns.now file.now (length index.old) }
     ensures words { index.new ≡ words_after m n offsets.now columns.now (read_verdict m n offsets.now columns.now file.now (length index.old)) index.old }
 {
-    match file_questions::ask(m, n, offsets, columns, columns.len(), file) {
-        // The file's lists are the matrix's.
-        Asked::Good => read_accepted(m, n, offsets, columns, file, index),
-        Asked::Refused(r) => PlanAnswer::Refused(r),
-    }
+    file_questions::ask(m, n, offsets, columns, columns.len(), file)?;
+    // The file's lists are the matrix's.
+    read_accepted(m, n, offsets, columns, file, index)
 }

@@ -1,14 +1,15 @@
 -- The lists of a file, copied record by record. Assumes nothing.
 use mathlib.Core.Path.{◌≡◌, refl, sym, ap, ap₂, ◌∙◌, subst}
-use mathlib.Core.Logic.{◌⊎◌, inl, inr}
 use mathlib.Core.Bool.{Bool, true, false, cond, false≢true}
 use mathlib.Core.List.{List, [], ◌++◌, append_assoc, append-nil}
-use Prim.Native.Nat.{ℕ, ◌+◌, ◌-◌, ◌<◌, ◌≤◌}
+use Prim.Native.Nat.{ℕ, zero, suc, ◌+◌, ◌-◌, ◌*◌, ◌/◌, ◌<◌, ◌≤◌}
 use native.Mathlib.Omega.{arith}
 use native.Mathlib.Numerals.{add-one}
 use lib.Dec.{leb}
 use lib.ListN.{length, get_or, take, drop, set, length-append, drop_of_length-le}
-use lib.Seq.{take-suc, take_all, sets}
+use lib.Seq.{take-suc, take_all, sets, drop-drop, get_or-take, get_or-drop}
+use Rattle.std.specs.Int.{w32, from_le_bytes}
+use Rattle.std.specs.Simd.{first_chunks}
 use Rattle.record.specs.Little.{le2, le4}
 use Rattle.base.specs.Cat.{join, Wrote}
 use Rattle.base.proofs.Write.{then_written, same_text}
@@ -19,34 +20,43 @@ use Rattle.plan_file.specs.Tables.{Table, first_note, is_list, wide}
 use Rattle.plan_file.specs.Verdicts.{whole_cut, whole_file, given, given_by, given_cut, lists_in}
 use Rattle.plan_file.proofs.Parse.{records_first}
 use Rattle.file_numbers.specs.Agree.{numbers_of}
+use Rattle.file_numbers.proofs.Agrees.{how_many, number_is}
 use Rattle.file_walk.proofs.Walks.{some_left, both_parts, meant, body_there, rest_there, good_there, within_there}
 use Rattle.file_copy.specs.Copied.{given_words, Words}
 
 -- ---- the numbers of a body
 
--- k of a list's words stand from `start` on
-pub record Stored (old new : List ℕ) (start : ℕ) (xs : List ℕ) (k : ℕ) : Type 0 where
-  pub within : k ≤ length xs
-  pub wrote : Wrote old new start (take k xs) (start + k)
+-- one number more is written
+pub word_more : (old new : List ℕ) (start : ℕ) (xs : List ℕ) (k x : ℕ) → k < length xs → x ≡ get_or xs k 0
+    → Wrote old new start (take k xs) (start + k) → Wrote old (set new (start + k) x) start (take (k + 1) xs) (start + (k + 1))
+word_more old new start xs k x h e s =
+    same_text (sym (take-suc xs k 0 h) ∙ ap (λ (j : ℕ). take j xs) (sym (add-one k)))
+    (then_written s (record { is = ap (set new (start + k)) e; next = omega arith }))
 
-pub stored_none : (old : List ℕ) (start : ℕ) (xs : List ℕ) → Stored old old start xs 0
-stored_none old start xs = record { within = omega arith; wrote = record { is = refl; next = omega arith } }
+pub words_all : (old new : List ℕ) (start : ℕ) (xs : List ℕ) (k n : ℕ) → n ≡ length xs → n ≡ k → Wrote old new start (take k xs) (start + k) → Wrote old new start xs (start + n)
+words_all old new start xs k n c q s = record { is = s.is ∙ ap (sets old start) (take_all k xs (omega arith)); next = omega arith }
 
-pub stored_more : (old new : List ℕ) (start : ℕ) (xs : List ℕ) (k x : ℕ) → k < length xs → x ≡ get_or xs k 0
-    → Stored old new start xs k → Stored old (set new (start + k) x) start xs (k + 1)
-stored_more old new start xs k x h e s =
-    let z : start + k + 1 ≡ start + (k + 1) = omega arith in
-    record {
-      within = omega arith;
-      wrote =
-          same_text (sym (take-suc xs k 0 h) ∙ ap (λ (j : ℕ). take j xs) (sym (add-one k)))
-          (then_written s.wrote (record { is = ap (set new (start + k)) e; next = sym z }));
-    }
+chunk_at : (n k : ℕ) (s : List ℕ) → k < n → get_or (first_chunks 4 n s) k [] ≡ take 4 (drop (4 * k) s)
+chunk_at zero k s h = absurd (omega arith)
+chunk_at (suc n) zero s h = refl
+chunk_at (suc n) (suc k) s h =
+    let e : 4 + 4 * k ≡ 4 * suc k = omega arith in
+    chunk_at n k (drop 4 s) (omega arith) ∙ ap (take 4) (drop-drop (4 * k) 4 s) ∙ ap (λ (i : ℕ). take 4 (drop i s)) e
 
-pub stored_all : (old new : List ℕ) (start : ℕ) (xs : List ℕ) (k count : ℕ) → count ≡ length xs → count ≤ k → Stored old new start xs k → Wrote old new start xs (start + count)
-stored_all old new start xs k count c h s =
-    let q : k ≡ count = omega (arith, s.within) in
-    record { is = s.wrote.is ∙ ap (sets old start) (take_all k xs (omega arith)); next = omega arith }
+byte_at : (s : List ℕ) (at i : ℕ) → i < 4 → get_or (take 4 (drop at s)) i 0 ≡ get_or s (at + i) 0
+byte_at s at i h = get_or-take 4 (drop at s) i 0 h ∙ get_or-drop at s i 0
+
+four_bytes : (s : List ℕ) (at : ℕ) → from_le_bytes w32 (take 4 (drop at s)) ≡ le4 s at
+four_bytes s at =
+    let e : at + 0 ≡ at = omega arith in
+    let f : at + 2 + 1 ≡ at + 3 = omega arith in
+    omega (arith, byte_at s at 0 (omega arith), byte_at s at 1 (omega arith), byte_at s at 2 (omega arith), byte_at s at 3 (omega arith), ap (λ (i : ℕ). get_or s i 0) e, ap (λ (i : ℕ). get_or s i 0) f)
+
+-- a word of a body is its number
+pub word_is : (body : List ℕ) (n k : ℕ) → n ≡ length body / 4 → k < n → from_le_bytes w32 (get_or (first_chunks 4 n body) k []) ≡ get_or (numbers_of body) k 0
+word_is body n k e h =
+    number_is body k _ (omega (arith, how_many body))
+    (ap (from_le_bytes w32) (chunk_at n k body h) ∙ four_bytes body (4 * k))
 
 -- ---- one record
 
@@ -63,10 +73,6 @@ unfolding numbers_of
 list_words m body {k} {w} e h =
     let four : w ≡ 4 = subst Words e h in
     ap (λ (x : ℕ). given_words (Listed k x) body) (sym four) ∙ ap (λ (q : Meaning). given_words q body) (sym e)
-
-pub no_words : (m : Meaning) (body : List ℕ) → (m ≡ Note) ⊎ (m ≡ Neither) → [] ≡ given_words m body
-no_words m body (inl e) = ap (λ (q : Meaning). given_words q body) (sym e)
-no_words m body (inr e) = ap (λ (q : Meaning). given_words q body) (sym e)
 
 join_given : (m : Meaning) (body : List ℕ) (more : List (List ℕ)) → join (given m body more) ≡ given_words m body ++ join more
 join_given (Listed k w) body more = refl
@@ -101,9 +107,6 @@ module _ (t : Table) where
     pub wrote : Wrote old new 0 front to
 
   module _ (file old : List ℕ) where
-    pub copying_none : whole_file t file ≡ true → Copying file old old 0 0
-    copying_none e = record { within = omega arith; good = e; front = []; both = refl; wrote = record { is = refl; next = refl } }
-
     pub copying_all : (new : List ℕ) (at to : ℕ) → length file ≤ at → Copying file old new at to → Wrote old new 0 (join (lists_in t file)) to
     copying_all new at to h w =
         same_text

@@ -15,13 +15,11 @@ fn copy_body(body: &[u8], index: &mut [u32], start: usize) -> usize
     requires { start + length (numbers_of body.now) ≤ length index.old }
     ensures { Wrote index.old index.new start (numbers_of body.now) result }
 {
-    let count = file_numbers::count(body);
-    let mut k = 0;
-    while k < count {
-        base::store(index, start + k, record::le32(body, WORD_BYTES * k) as u32);
-        k += 1;
+    let (words, _) = body.as_chunks::<WORD_BYTES>();
+    for (k, word) in words.iter().enumerate() {
+        index[start + k] = u32::from_le_bytes(*word);
     }
-    start + count
+    start + words.len()
 }
 
 // The numbers of a list; a note has none.
@@ -30,9 +28,8 @@ fn copy_record(meaning: Meaning, body: &[u8], index: &mut [u32], at: usize) -> u
     ensures { Wrote index.old index.new at (given_words meaning body.now) result }
 {
     match meaning {
-        Meaning::Listed(_, _) => copy_body(body, index, at),
-        Meaning::Note => at,
-        Meaning::Neither => at,
+        Meaning::Listed(..) => copy_body(body, index, at),
+        Meaning::Note | Meaning::Neither => at,
     }
 }
 
@@ -45,11 +42,8 @@ pub fn copy_plan(file: &[u8], index: &mut [u32]) -> usize
     let mut to = 0;
     while at < file.len() {
         let r = file_walk::record_at(file, at);
-        let meaning = r.meaning;
-        let body = r.body;
-        let end = r.end;
-        to = copy_record(meaning, &file[body..end], index, to);
-        at = end;
+        to = copy_record(r.meaning, &file[r.body..r.end], index, to);
+        at = r.end;
     }
     to
 }

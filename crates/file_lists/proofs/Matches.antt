@@ -1,17 +1,14 @@
 -- The columns of a transpose, compared row by row. Assumes nothing.
 use mathlib.Core.Path.{◌≡◌, refl, sym, ap, ap₂, ◌∙◌, subst}
-use mathlib.Core.Bool.{Bool, true, false, ◌&&◌, false≢true}
+use mathlib.Core.Bool.{Bool, true, false}
 use mathlib.Core.List.{List, ◌++◌, append-nil}
 use Prim.Native.Nat.{ℕ, zero, suc, ◌+◌, ◌-◌, ◌<◌, ◌≤◌}
 use native.Mathlib.Omega.{arith}
 use native.Mathlib.Decide.{ℕ_discrete}
-use borrow.Author.Tests.{eq-eqb, eqb-true}
-use lib.Dec.{eqb}
 use lib.ListN.{length, get_or, set, take, length-append, get_or-append, drop_of_length-le}
 use lib.Seq.{sets, get_or-append-add, set-get_or}
 use Rattle.base.specs.Cat.{cat, pick}
 use Rattle.base.specs.Sums.{sum}
-use Rattle.base.proofs.Bools.{and_out}
 use Rattle.base.proofs.Write.{cat_room}
 use Rattle.csr.specs.Csr.{RowOf}
 use Rattle.csr.specs.Pattern.{has, row}
@@ -79,27 +76,16 @@ not_same s l q n = go (same s l) refl
     go false e = refl
     go true e = absurd (n (ap (λ (x : List ℕ). get_or x q 0) (same_out s l e)))
 
-either : (s l : List ℕ) (a t : Bool) → a && t ≡ false → (a ≡ false → same s l ≡ false) → (t ≡ false → same s l ≡ false) → same s l ≡ false
-either s l true t h f g = g h
-either s l false t h f g = f refl
-
-neq : (x y : ℕ) (t : Bool) → t ≡ eqb x y → t ≡ false → x ≡ y → ⊥
-neq x y t e h q = false≢true (sym h ∙ e ∙ eq-eqb x y q)
-
 -- the same bins by another name
-matched_as : (s l next : List ℕ) (n : ℕ) (size : ℕ → ℕ) (f g : ℕ → List ℕ) (c : Bool) → ((index : List ℕ) → Bins index next 0 n size f → Bins index next 0 n size g) → Matched s l next n size f c → Matched s l next n size g c
-matched_as s l next n size f g c h b = record { bins = h l b.bins; like = λ q. h s (b.like q); other = b.other }
+matched_as : (s l next : List ℕ) (n : ℕ) (size : ℕ → ℕ) (f g : ℕ → List ℕ) → ((index : List ℕ) → Bins index next 0 n size f → Bins index next 0 n size g) → Matched s l next n size f → Matched s l next n size g
+matched_as s l next n size f g h b = record { bins = h l b.bins; like = h s b.like }
 
 -- ---- row i, from what stood when it began
 
-module _ (off cols : List ℕ) (m n : ℕ) (ok : Grid off cols m n) (w : What) (i : ℕ) (hi : i < m) (s : List ℕ) (size : length s ≡ sum n (room_of off cols m)) (old : List ℕ) (long : n ≤ length old) (was : Bool)
-    (first : Matched s (entries_of off cols w m n) old n (room_of off cols m) (rows_of off cols w i) was) where
+module _ (off cols : List ℕ) (m n : ℕ) (ok : Grid off cols m n) (w : What) (i : ℕ) (hi : i < m) (s : List ℕ) (size : length s ≡ sum n (room_of off cols m)) (old : List ℕ) (long : n ≤ length old)
+    (first : Matched s (entries_of off cols w m n) old n (room_of off cols m) (rows_of off cols w i)) where
   rowed : RowOf off cols i n
   rowed = row_of off cols m i n ok.csr hi (ok.within i hi)
-
-  -- the row is a part of the columns, and places are words
-  pub row_fits : (i < 256) × (i + 1 < length off) × (get_or off (i + 1) 0 ≤ length cols) × (length cols ≤ 65536)
-  row_fits = (omega (arith, hi, ok.csr.few), rowed.part.here, rowed.part.ends, ok.short)
 
   scattering : Scattering off cols m n w i (entries_of off cols w m n) old 0
   scattering = record {
@@ -112,22 +98,22 @@ module _ (off cols : List ℕ) (m n : ℕ) (ok : Grid off cols m n) (w : What) (
   }
 
   -- the first entries of row i are looked up
-  abbrev pub Looking : ℕ → List ℕ → Bool → Type 0
-  Looking k next good = Matched s (entries_of off cols w m n) next n (room_of off cols m) (in_row off cols w i (k - get_or off i 0)) good
+  abbrev pub Looking : ℕ → List ℕ → Type 0
+  Looking k next = Matched s (entries_of off cols w m n) next n (room_of off cols m) (in_row off cols w i (k - get_or off i 0))
 
-  pub match_start : (k : ℕ) → k ≡ get_or off i 0 → Looking k old was
+  pub match_start : (k : ℕ) → k ≡ get_or off i 0 → Looking k old
   match_start k e =
       let z : 0 ≡ k - get_or off i 0 = omega arith in
-      matched_as s (entries_of off cols w m n) old n (room_of off cols m) (rows_of off cols w i) (in_row off cols w i (k - get_or off i 0)) was
+      matched_as s (entries_of off cols w m n) old n (room_of off cols m) (rows_of off cols w i) (in_row off cols w i (k - get_or off i 0))
       (λ index d.
       subst (λ (y : ℕ). Bins index old 0 n (room_of off cols m) (in_row off cols w i y)) z
       (bins_ext index old 0 n (room_of off cols m) (rows_of off cols w i) (in_row off cols w i 0) (λ c h. in_start off cols w i c) d))
       first
 
-  pub match_end : (k : ℕ) (next : List ℕ) (good : Bool) → get_or off (i + 1) 0 ≤ k → Looking k next good
-      → Matched s (entries_of off cols w m n) next n (room_of off cols m) (rows_of off cols w (i + 1)) good
-  match_end k next good h b =
-      matched_as s (entries_of off cols w m n) next n (room_of off cols m) (in_row off cols w i (k - get_or off i 0)) (rows_of off cols w (i + 1)) good
+  pub match_end : (k : ℕ) (next : List ℕ) → get_or off (i + 1) 0 ≤ k → Looking k next
+      → Matched s (entries_of off cols w m n) next n (room_of off cols m) (rows_of off cols w (i + 1))
+  match_end k next h b =
+      matched_as s (entries_of off cols w m n) next n (room_of off cols m) (in_row off cols w i (k - get_or off i 0)) (rows_of off cols w (i + 1))
       (λ index d.
       bins_ext index next 0 n (room_of off cols m) (in_row off cols w i (k - get_or off i 0)) (rows_of off cols w (i + 1))
       (λ c l. in_end off cols w i (k - get_or off i 0) c (omega (arith, row_long off cols i n rowed))) d)
@@ -135,7 +121,7 @@ module _ (off cols : List ℕ) (m n : ℕ) (ok : Grid off cols m n) (w : What) (
 
   -- one entry more
   module _ (k e x : ℕ) (lo : get_or off i 0 ≤ k) (hk : k < get_or off (i + 1) 0) (he : e ≡ get_or cols k 0) (hx : x ≡ by_what w i k)
-      (next : List ℕ) (same_long : length next ≡ length old) (good : Bool) (b : Looking k next good) where
+      (next : List ℕ) (same_long : length next ≡ length old) (b : Looking k next) where
     passing : Passing off cols m n w i k (entries_of off cols w m n) (entries_of off cols w m n) next 0
     passing = record { bins = b.bins; outside = record { low = λ q h. refl; high = λ q h. refl } }
 
@@ -180,20 +166,22 @@ module _ (off cols : List ℕ) (m n : ℕ) (ok : Grid off cols m n) (w : What) (
         (subst (λ (y : ℕ). Bins (set index (0 + get_or next e 0) x) (set next e (get_or next e 0 + 1)) 0 n (room_of off cols m) (in_row off cols w i y)) z
         (turn off cols w i (k - get_or off i 0) e x rowed.rising there_in e_is is_entry index next 0 n m hi e_in match_asks.0 r d))
 
-    pub match_turn : (t c : Bool) (next' : List ℕ) → t ≡ eqb (get_or s (get_or next e 0) 0) x → c ≡ good && t → next' ≡ set next e (get_or next e 0 + 1) → Looking (k + 1) next' c
-    match_turn t c next' f g u = rw u (record {
+    pub match_turn : (next' : List ℕ) → get_or s (get_or next e 0) 0 ≡ x → next' ≡ set next e (get_or next e 0 + 1) → Looking (k + 1) next'
+    match_turn next' h u = rw u (record {
       bins = on (entries_of off cols w m n) (omega (arith, cols_long off cols m n w)) there b.bins;
-      like = λ h. let z = and_out good t (sym g ∙ h) in on s (omega (arith, size)) (eqb-true (get_or s (get_or next e 0) 0) x (sym f ∙ z.1)) (b.like z.0);
-      other = λ h. either s (entries_of off cols w m n) good t (sym g ∙ h) b.other (λ q. not_same s (entries_of off cols w m n) (get_or next e 0) (λ r. neq (get_or s (get_or next e 0) 0) x t f q (r ∙ there)));
+      like = on s (omega (arith, size)) h b.like;
     })
+
+    -- another number there
+    pub match_not : (get_or s (get_or next e 0) 0 ≡ x → ⊥) → same s (entries_of off cols w m n) ≡ false
+    match_not h = not_same s (entries_of off cols w m n) (get_or next e 0) (λ r. h (r ∙ there))
 
 -- ---- all rows
 
-pub match_none : (off cols : List ℕ) (m n : ℕ) (ok : Grid off cols m n) (w : What) (s next : List ℕ) → length s ≡ sum n (room_of off cols m) → n ≤ length next → Starts next n (room_of off cols m) → Matched s (entries_of off cols w m n) next n (room_of off cols m) (rows_of off cols w 0) true
+pub match_none : (off cols : List ℕ) (m n : ℕ) (ok : Grid off cols m n) (w : What) (s next : List ℕ) → length s ≡ sum n (room_of off cols m) → n ≤ length next → Starts next n (room_of off cols m) → Matched s (entries_of off cols w m n) next n (room_of off cols m) (rows_of off cols w 0)
 match_none off cols m n ok w s next size long h = record {
   bins = bins_start (entries_of off cols w m n) (omega (arith, cols_long off cols m n w));
-  like = λ q. bins_start s (omega (arith, size));
-  other = λ q. absurd (false≢true (sym q));
+  like = bins_start s (omega (arith, size));
 }
   where
     bins_start : (index : List ℕ) → 0 + sum n (room_of off cols m) ≤ length index → Bins index next 0 n (room_of off cols m) (rows_of off cols w 0)
@@ -208,7 +196,6 @@ full_is off cols m n w s next size b =
     ∙ ap (λ (r : List ℕ). l ++ r) (drop_of_length-le s {i = length l} (omega arith))
     ∙ append-nil l
 
-pub match_all : (off cols : List ℕ) (m n : ℕ) (w : What) (s next : List ℕ) (c : Bool) → length s ≡ sum n (room_of off cols m) → Matched s (entries_of off cols w m n) next n (room_of off cols m) (rows_of off cols w m) c → c ≡ same s (entries_of off cols w m n)
-match_all off cols m n w s next false size b = sym (b.other refl)
-match_all off cols m n w s next true size b =
-    sym (ap (λ (x : List ℕ). same x (entries_of off cols w m n)) (full_is off cols m n w s next size (b.like refl)) ∙ same_in (entries_of off cols w m n))
+pub match_all : (off cols : List ℕ) (m n : ℕ) (w : What) (s next : List ℕ) → length s ≡ sum n (room_of off cols m) → Matched s (entries_of off cols w m n) next n (room_of off cols m) (rows_of off cols w m) → true ≡ same s (entries_of off cols w m n)
+match_all off cols m n w s next size b =
+    sym (ap (λ (x : List ℕ). same x (entries_of off cols w m n)) (full_is off cols m n w s next size b.like) ∙ same_in (entries_of off cols w m n))

@@ -1,25 +1,28 @@
 -- What a pair adds to a list is short, what was just written to the front of a memory, and words compared. Assumes nothing.
-use mathlib.Core.Path.{◌≡◌, refl, sym, ap, ap₂, ◌∙◌}
+use mathlib.Core.Path.{◌≡◌, refl, sym, ap, ap₂, ◌∙◌, subst}
 use mathlib.Core.Bool.{Bool, true, false, ◌&&◌}
-use mathlib.Core.List.{List}
+use mathlib.Core.List.{List, [], ◌∷◌}
 use Prim.Native.Nat.{ℕ, suc, ◌+◌, ◌<◌, ◌≤◌}
 use native.Mathlib.Omega.{arith}
 use lib.Dec.{eqb}
 use lib.ListN.{length, get_or, take, drop, length-map}
 use lib.Seq.{take_at}
-use Rattle.base.specs.Cat.{pick, Wrote}
+use Rattle.base.specs.Cat.{kept, pick, Wrote}
+use Rattle.std.specs.Prelude.{Option, Some, None}
+use Rattle.std.specs.Bool.{then_some}
+use Rattle.base.proofs.Bools.{and_true}
 use Rattle.base.proofs.Sums.{one_le, count_le}
 use Rattle.base.proofs.Write.{length_pick}
 use Rattle.csr.specs.Pattern.{has, row}
 use Rattle.csr.proofs.Has.{common_le}
-use Rattle.lists.specs.Lists.{shape, piece, place, lplace, shared, products, weight, before}
+use Rattle.lists.specs.Lists.{shape, piece, place, lplace, shared, products, weight, before, begins}
 use Rattle.lists.specs.declared.Which.{Which}
 use Rattle.lists.specs.declared.Which.TheVariants.{AnormIndptr, AnormIndptrI, AnormIndptrJ, AnormIndices, LdecompIndptr, LdecompIndptrI, LdecompIndptrJ, Lindptr, LdiagIndptr, Lindices}
 use Rattle.lists.proofs.Merge.{length_both}
 use Rattle.lists.proofs.Sizes.{row_ones_lem}
 use Rattle.lists.proofs.Whole.{as_written}
 use Rattle.transpose.specs.Bins.{Grid, Room}
-use Rattle.pair_lists.specs.Kept.{kept}
+use Rattle.pair_lists.specs.Kept as rows
 use Rattle.pair_lists.proofs.Lists.{kept_short}
 use Rattle.file_numbers.specs.Agree.{agree}
 use Rattle.file_lists.specs.Sizes.{PieceRoom, Stands}
@@ -44,7 +47,7 @@ module _ (off cols : List ℕ) (i j : ℕ) (hj : j ≤ i) (made : List ℕ) (roo
   shared_fits = omega (arith, length_both (row off cols i) (row off cols j), common_le (row off cols i) (row off cols j), room.columns)
 
   products_fits : length (products (shape off cols) i j) ≤ length made
-  unfolding products kept
+  unfolding products rows.kept
   products_fits = omega (arith, kept_short (λ k. (shape off cols).held i k && (shape off cols).held j k) j, room.rows)
 
   pub piece_fits : (w : Which) → length (piece (shape off cols) w i j) ≤ length made
@@ -67,23 +70,32 @@ front a b l r h w =
     let e = as_written a b l r h w in
     ap₂ (λ (k : ℕ) (x : List ℕ). take k x) e.1 e.0 ∙ take_at l (drop (length l) a) (length l) refl
 
+-- the 0 that some lists have in front
+pub head_front : (w : Which) (a b : List ℕ) (t : Bool) (o : Option ℕ) (r : ℕ) → t ≡ begins w → o ≡ then_some t 0 → 0 < length a → Wrote a b 0 (kept o) r → (r ≡ length (pick (begins w) 0)) × (take r b ≡ pick (begins w) 0)
+head_front w a b t o r e f h v =
+    let z : kept o ≡ pick (begins w) 0 = ap kept f ∙ ap (λ (x : Bool). pick x 0) e in
+    (omega (arith, v.next, ap length z), front a b (kept o) r (omega (arith, ap length z, pick_le (begins w) 0)) v ∙ z)
+
 -- ---- words compared
 
-pub stands_as : {s : List ℕ} {at : ℕ} {l k : List ℕ} {words : ℕ} {good : Bool} → l ≡ k → Stands s at l words good → Stands s at k words good
-stands_as {s} {at} e v = record { many = v.many ∙ ap length e; says = v.says ∙ ap (agree s at) e }
+-- a list by another name
+pub stands_as : (s : List ℕ) (at : ℕ) (l k : List ℕ) (r : Option ℕ) → l ≡ k → Stands s at l r → Stands s at k r
+stands_as s at l k r e v = subst (λ (x : List ℕ). Stands s at x r) e v
 
-and_yes : (b : Bool) → b ≡ b && true
-and_yes true = refl
-and_yes false = refl
+pub stands_if : (s : List ℕ) (at : ℕ) (l : List ℕ) (t : Bool) (end : ℕ) → t ≡ agree s at l → end ≡ at + length l → Stands s at l (then_some t end)
+stands_if s at l true end e q = (q, sym e)
+stands_if s at l false end e q = sym e
 
-module _ (s : List ℕ) (at : ℕ) (keep : Bool) (x : ℕ) where
-  pub word_room : keep ≡ true → at + length (pick keep x) ≤ length s → at < length s
-  word_room e h = omega (arith, h, ap (λ (b : Bool). length (pick b x)) e)
+module _ (s : List ℕ) (at : ℕ) (o : Option ℕ) where
+  pub word_room : (x : ℕ) → o ≡ Some x → at + length (kept o) ≤ length s → at < length s
+  word_room x e h = omega (arith, ap (λ (p : Option ℕ). length (kept p)) e)
 
-  pub word_stands : (y : ℕ) → keep ≡ true → y ≡ get_or s at 0 → Stands s at (pick keep x) 1 (eqb y x)
+  pub word_stands : (x y : ℕ) → o ≡ Some x → y ≡ get_or s at 0 → Stands s at (kept o) (then_some (eqb y x) (at + 1))
   unfolding agree
-  word_stands y e h = stands_as (ap (λ (b : Bool). pick b x) (sym e)) (record { many = refl; says = ap (λ (z : ℕ). eqb z x) h ∙ and_yes (eqb (get_or s at 0) x) })
+  word_stands x y e h =
+      stands_as s at (x ∷ []) (kept o) (then_some (eqb y x) (at + 1)) (ap kept (sym e))
+      (stands_if s at (x ∷ []) (eqb y x) (at + 1) (ap (λ (z : ℕ). eqb z x) h ∙ sym (and_true (eqb (get_or s at 0) x))) refl)
 
-  pub no_word_stands : keep ≡ false → Stands s at (pick keep x) 0 true
+  pub no_word_stands : o ≡ None → Stands s at (kept o) (Some at)
   unfolding agree
-  no_word_stands e = stands_as (ap (λ (b : Bool). pick b x) (sym e)) (record { many = refl; says = refl })
+  no_word_stands e = stands_as s at [] (kept o) (Some at) (ap kept (sym e)) (omega arith, refl)

@@ -1,30 +1,38 @@
--- Room for what a pair adds to a list, and the three lists of a transpose. Definitions only.
-use Rattle.std.specs.Prelude.{◌≡◌, Bool, List, ℕ, zero, suc, ◌<◌, ◌≤◌, length}
+-- Room for what a pair adds to a list, and the sixteen lists by what they are. Definitions only.
+use Rattle.std.specs.Prelude.{◌≡◌, true, false, List, ℕ, ◌+◌, ◌<◌, ◌≤◌, length, Option, Some, None}
 use Rattle.csr.specs.Pattern.{row}
-use Rattle.lists.specs.Lists.{shape, ends_of}
-use Rattle.lists.specs.declared.Side.TheVariants.{Matrix}
-use Rattle.lists.specs.declared.What.{What}
-use Rattle.lists.specs.declared.What.TheVariants.{Numbers, Places}
+use Rattle.lists.specs.Lists.{Shape, shape, list_of, ends_of, columns_of}
+use Rattle.lists.specs.declared.Side.{Side}
+use Rattle.lists.specs.declared.Side.TheVariants.{Factor, Matrix}
 use Rattle.file_numbers.specs.Agree.{agree}
 use Rattle.file_lists.specs.Matched.{entries_of}
+use Rattle.file_lists.specs.declared.Part.{Part}
+use Rattle.file_lists.specs.declared.Part.TheVariants.{Ends, Entries}
+use Rattle.file_lists.specs.declared.Kind.{Kind}
+use Rattle.file_lists.specs.declared.Kind.TheVariants.{Pairs, Columns}
 
 -- a memory has room for what any pair of row i adds to a list: a word for each row up to i, one for each column of row i
 pub record PieceRoom (off cols : List ℕ) (i : ℕ) (made : List ℕ) : Type 0 where
   pub rows : i < length made
   pub columns : length (row off cols i) ≤ length made
 
--- a list of so many words was compared with the numbers from place `at` on
-pub record Stands (s : List ℕ) (at : ℕ) (l : List ℕ) (words : ℕ) (good : Bool) : Type 0 where
-  pub many : words ≡ length l
-  pub says : good ≡ agree s at l
+-- a list was compared with the numbers from place `at` on: the place after it, or nothing where they differ
+abbrev pub Stands : List ℕ → ℕ → List ℕ → Option ℕ → Type 0
+Stands s at l (Some end) = (end ≡ at + length l) × (agree s at l ≡ true)
+Stands s at l None = agree s at l ≡ false
 
--- rows, then places
-abbrev pub what_of : ℕ → What
-what_of zero = Numbers
-what_of (suc zero) = Numbers
-what_of (suc (suc k)) = Places
+-- ends or entries
+abbrev pub side_list : List ℕ → List ℕ → ℕ → ℕ → Part → List ℕ
+side_list off cols m n Ends = ends_of (shape off cols) Matrix m n
+side_list off cols m n (Entries w) = entries_of off cols w m n
 
--- ends, rows, places
-abbrev pub side_list : List ℕ → List ℕ → ℕ → ℕ → ℕ → List ℕ
-side_list off cols m n zero = ends_of (shape off cols) Matrix m n
-side_list off cols m n (suc k) = entries_of off cols (what_of (suc k)) m n
+-- a side of m rows and n columns has a column for each row, or for each column
+abbrev pub width : Side → ℕ → ℕ → ℕ
+width Factor m n = m
+width Matrix m n = n
+
+-- the list of a kind
+abbrev pub of_kind : Shape → ℕ → ℕ → Kind → List ℕ
+of_kind g m n (Pairs w) = list_of g w m
+of_kind g m n (Columns s Ends) = ends_of g s m (width s m n)
+of_kind g m n (Columns s (Entries w)) = columns_of g s w m (width s m n)

@@ -1,8 +1,7 @@
 // The six lists of the two transposes: the rows' entries are looked up where their columns have got to.
-ghost use Rattle.std.specs.Prelude.{◌≡◌, ◌+◌, ◌*◌, ◌<◌, ◌≤◌, length, get_or, set};
+ghost use Rattle.std.specs.Prelude.{◌≡◌, true, false, ◌+◌, ◌<◌, ◌≤◌, length};
 ghost use Rattle.base.specs.Cat.{Wrote};
 ghost use Rattle.base.specs.Sums.{sum};
-ghost use Rattle.csr.specs.Questions.{max_rows, max_columns};
 ghost use Rattle.lists.specs.Lists.{shape, ends_of};
 ghost use Rattle.lists.specs.declared.Side.TheVariants.{Matrix};
 ghost use Rattle.transpose.specs.Bins.{room_of, Grid, Starts, cols_of};
@@ -11,20 +10,11 @@ ghost use Rattle.file_numbers.specs.Agree.{numbers_of};
 ghost use Rattle.file_lists.specs.Matched.{MatchedTo, entries_of};
 
 use base::word_at;
-use file_numbers::{both, number_at, of_word};
+use file_numbers::number_at;
 use lists::{Side, What};
+use transpose::{column_at, count_rows, of_entry, put_ends, step};
 
-// Where column e has got to, and one on.
-fn step(next: &mut [u32], e: usize) -> usize
-    requires { (e < length next.old) × (get_or next.old e 0 < max_rows * max_columns) }
-    ensures { (result ≡ get_or next.old e 0) × (next.new ≡ set next.old e (get_or next.old e 0 + 1)) }
-{
-    let q = next[e];
-    next[e] = q + 1;
-    q as usize
-}
-
-// The entries of row i, each at its column's place.
+// The entries of row i, each looked up at its column's place.
 fn match_row(
     side: Side,
     what: What,
@@ -36,23 +26,22 @@ fn match_row(
     i: usize,
     next: &mut [u32],
     body: &[u8],
-    was: bool,
 ) -> bool
-    requires { Grid off.now (cols_of side cols.now bytes.now) m n × (i < m) × (n ≤ length next.old) × (length (numbers_of body.now) ≡ sum n (room_of off.now (cols_of side cols.now bytes.now) m)) × MatchedTo (numbers_of body.now) off.now (cols_of side cols.now bytes.now) what m n i next.old was }
-    ensures { MatchedTo (numbers_of body.now) off.now (cols_of side cols.now bytes.now) what m n (i + 1) next.new result }
+    requires { Grid off.now (cols_of side cols.now bytes.now) m n × (i < m) × (n ≤ length next.old) × (length (numbers_of body.now) ≡ sum n (room_of off.now (cols_of side cols.now bytes.now) m)) × MatchedTo (numbers_of body.now) off.now (cols_of side cols.now bytes.now) what m n i next.old }
+    ensures on { result ≡ true → MatchedTo (numbers_of body.now) off.now (cols_of side cols.now bytes.now) what m n (i + 1) next.new }
+    ensures other { result ≡ false → same (numbers_of body.now) (entries_of off.now (cols_of side cols.now bytes.now) what m n) ≡ false }
 {
     let a = word_at(off, i);
     let b = word_at(off, i + 1);
-    let mut good = was;
-    let mut k = a;
-    while k < b {
-        let e = transpose::column_at(side, cols, bytes, k);
-        let x = of_word(transpose::of_entry(what, i as u32, k as u32));
+    for k in a..b {
+        let e = column_at(side, cols, bytes, k);
+        let x = of_entry(what, i as u32, k as u32);
         let q = step(next, e);
-        good = both(good, number_at(body, q) == x);
-        k += 1;
+        if number_at(body, q) != x as usize {
+            return false;
+        }
     }
-    good
+    true
 }
 
 // The entries of all rows, from the starts of the columns.
@@ -70,13 +59,12 @@ pub fn match_rows(
     requires { Grid off.now (cols_of side cols.now bytes.now) m n × (n ≤ length next.old) × (length (numbers_of body.now) ≡ sum n (room_of off.now (cols_of side cols.now bytes.now) m)) × Starts next.old n (room_of off.now (cols_of side cols.now bytes.now) m) }
     ensures { result ≡ same (numbers_of body.now) (entries_of off.now (cols_of side cols.now bytes.now) what m n) }
 {
-    let mut good = true;
-    let mut i: usize = 0;
-    while i < m {
-        good = match_row(side, what, off, cols, bytes, m, n, i, next, body, good);
-        i += 1;
+    for i in 0..m {
+        if !match_row(side, what, off, cols, bytes, m, n, i, next, body) {
+            return false;
+        }
     }
-    good
+    true
 }
 
 // The ends of the columns in one memory, and their starts in another.
@@ -96,6 +84,6 @@ pub fn put_starts(
     ensures starts { Starts next.new n (room_of off.now (cols_of side cols.now bytes.now) m) }
 {
     base::clear(next, n);
-    transpose::count_rows(side, off, cols, bytes, m, next);
-    transpose::put_ends(n, made, next, again, 0)
+    count_rows(side, off, cols, bytes, m, next);
+    put_ends(n, made, next, again, 0)
 }

@@ -2,23 +2,103 @@
 #![tactic(auto)]
 
 ghost use Rattle.std.specs.Prelude.{◌≡◌, List, ℕ, ◌+◌, ◌<◌, ◌≤◌, length};
-ghost use Rattle.base.specs.Sums.{sum};
-ghost use Rattle.transpose.specs.Bins.{Room, room_of, Grid, cols_of};
-ghost use Rattle.plan_file.specs.Matrix.{matrix_lists};
+ghost use Rattle.lists.specs.Lists.{Shape, shape};
+ghost use Rattle.transpose.specs.Bins.{Room, Grid, cols_of};
+ghost use Rattle.plan_file.specs.Matrix.{list_at, matrix_lists};
 ghost use Rattle.plan_file.specs.Verdicts.{same};
 ghost use Rattle.file_numbers.specs.Agree.{numbers_of};
 ghost use Rattle.file_lists.specs.Known.{Known};
-ghost use Rattle.file_lists.specs.Sizes.{what_of, side_list};
+ghost use Rattle.file_lists.specs.Sizes.{side_list, of_kind};
 
 mod columns;
 mod pairs;
 
 use layout::Plan;
-use lists::{Side, What};
+use lists::{Side, What, Which};
 
-// One of the ten lists of pairs.
+// One of the three lists of a transpose: its ends, or its entries by their rows or by their places.
+#[derive(Clone, Copy)]
+enum Part {
+    Ends,
+    Entries(What),
+}
+
+// What a list is: one that goes pair by pair, or one of a transpose.
+#[derive(Clone, Copy)]
+enum Kind {
+    Pairs(Which),
+    Columns(Side, Part),
+}
+
+// What list number k is, 1 to 16.
+fn kind_of(k: usize) -> Kind
+    requires { (1 ≤ k) × (k ≤ 16) }
+    ensures { (g : Shape) (m n : ℕ) → of_kind g m n result ≡ list_at g m n k }
+{
+    match k {
+        11 => Kind::Columns(Side::Factor, Part::Ends),
+        12 => Kind::Columns(Side::Factor, Part::Entries(What::Numbers)),
+        13 => Kind::Columns(Side::Factor, Part::Entries(What::Places)),
+        14 => Kind::Columns(Side::Matrix, Part::Ends),
+        15 => Kind::Columns(Side::Matrix, Part::Entries(What::Numbers)),
+        16 => Kind::Columns(Side::Matrix, Part::Entries(What::Places)),
+        _ => Kind::Pairs(lists::which_field(k - 1)),
+    }
+}
+
+// Are the numbers of a body, as many as a list of a transpose has, that list?
+fn is_side_list(
+    side: Side,
+    part: Part,
+    body: &[u8],
+    off: &[u32],
+    cols: &[u32],
+    bytes: &[u8],
+    m: usize,
+    n: usize,
+    next: &mut [u32],
+    again: &mut [u32],
+    made: &mut [u32],
+) -> bool
+    requires { Grid off.now (cols_of side cols.now bytes.now) m n × (n < length next.old) × (n < length again.old) × (n < length made.old) × (length (numbers_of body.now) ≡ length (side_list off.now (cols_of side cols.now bytes.now) m n part)) }
+    ensures { result ≡ same (numbers_of body.now) (side_list off.now (cols_of side cols.now bytes.now) m n part) }
+{
+    let words = columns::put_starts(side, off, cols, bytes, m, n, next, again, made);
+    match part {
+        Part::Ends => file_numbers::is_same(body, 0, made, words),
+        Part::Entries(what) => columns::match_rows(side, what, off, cols, bytes, m, n, next, body),
+    }
+}
+
+// Are they a list of one of the two transposes?
+fn is_column_list(
+    side: Side,
+    part: Part,
+    body: &[u8],
+    off: &[u32],
+    cols: &[u32],
+    plan: Plan,
+    lindptr: &[u32],
+    lindices: &[u8],
+    next: &mut [u32],
+    again: &mut [u32],
+    made: &mut [u32],
+) -> bool
+    requires { (length (numbers_of body.now) ≡ length (of_kind (shape off.now cols.now) plan.m plan.n (Kind.Columns side part))) × ((p : List ℕ) × Known off.now cols.now plan p lindptr.now lindices.now) × Room plan.m plan.n next.old × Room plan.m plan.n again.old × Room plan.m plan.n made.old }
+    ensures { result ≡ same (numbers_of body.now) (of_kind (shape off.now cols.now) plan.m plan.n (Kind.Columns side part)) }
+{
+    let (ends, n) = match side {
+        Side::Factor => (lindptr, plan.m),
+        Side::Matrix => (off, plan.n),
+    };
+    is_side_list(
+        side, part, body, ends, cols, lindices, plan.m, n, next, again, made,
+    )
+}
+
+// Are they one of the ten lists of pairs?
 fn is_pair_list(
-    k: usize,
+    which: Which,
     body: &[u8],
     off: &[u32],
     cols: &[u32],
@@ -29,124 +109,12 @@ fn is_pair_list(
     mark: &mut [u32],
     made: &mut [u32],
 ) -> bool
-    requires { (1 ≤ k) × (k ≤ 10) × Known off.now cols.now plan p.now lindptr.now lindices.now × (plan.n ≤ length mark.old) × Room plan.m plan.n made.old }
-    ensures { result ≡ same (numbers_of body.now) (matrix_lists off.now cols.now plan.m plan.n k) }
+    requires { (length (numbers_of body.now) ≡ length (of_kind (shape off.now cols.now) plan.m plan.n (Kind.Pairs which))) × Known off.now cols.now plan p.now lindptr.now lindices.now × (plan.n ≤ length mark.old) × Room plan.m plan.n made.old }
+    ensures { result ≡ same (numbers_of body.now) (of_kind (shape off.now cols.now) plan.m plan.n (Kind.Pairs which)) }
 {
-    let sizes = plan.sizes();
-    let field = k - 1;
-    if file_numbers::count(body) != sizes[field] {
-        return false;
-    }
-    let m = plan.m;
-    let n = plan.n;
-    base::clear(mark, n);
-    let which = lists::which_field(field);
-    pairs::same_list(which, off, cols, m, p, lindptr, lindices, mark, made, body)
-}
-
-// An entry of a transpose by its row, then by its place.
-fn entry_of(part: usize) -> What
-    requires { 0 < part }
-    ensures { result ≡ what_of part }
-{
-    if part == 1 {
-        What::Numbers
-    } else {
-        What::Places
-    }
-}
-
-// One of the three lists of a transpose with t entries: its ends, its rows, its places.
-fn is_side_list(
-    side: Side,
-    part: usize,
-    body: &[u8],
-    off: &[u32],
-    cols: &[u32],
-    bytes: &[u8],
-    m: usize,
-    n: usize,
-    t: usize,
-    next: &mut [u32],
-    again: &mut [u32],
-    made: &mut [u32],
-) -> bool
-    requires { Grid off.now (cols_of side cols.now bytes.now) m n × (n < length next.old) × (n < length again.old) × (n < length made.old) × (t ≡ sum n (room_of off.now (cols_of side cols.now bytes.now) m)) }
-    ensures { result ≡ same (numbers_of body.now) (side_list off.now (cols_of side cols.now bytes.now) m n part) }
-{
-    let words = columns::put_starts(side, off, cols, bytes, m, n, next, again, made);
-    if part == 0 {
-        if file_numbers::count(body) != words {
-            return false;
-        }
-        return file_numbers::is_same(body, 0, made, words);
-    }
-    if file_numbers::count(body) != t {
-        return false;
-    }
-    let what = entry_of(part);
-    columns::match_rows(side, what, off, cols, bytes, m, n, next, body)
-}
-
-// How many lists are written pair by pair.
-const PAIR_LISTS: usize = 10;
-
-// The numbers of the two lists of ends: of the factor's columns, and of the matrix's.
-const FACTOR_ENDS: usize = 11;
-
-const MATRIX_ENDS: usize = 14;
-
-// One of the six lists of the two transposes.
-fn is_column_list(
-    k: usize,
-    body: &[u8],
-    off: &[u32],
-    cols: &[u32],
-    plan: Plan,
-    lindptr: &[u32],
-    lindices: &[u8],
-    next: &mut [u32],
-    again: &mut [u32],
-    made: &mut [u32],
-) -> bool
-    requires { (10 < k) × (k ≤ 16) × ((p : List ℕ) × Known off.now cols.now plan p lindptr.now lindices.now) × Room plan.m plan.n next.old × Room plan.m plan.n again.old × Room plan.m plan.n made.old }
-    ensures { result ≡ same (numbers_of body.now) (matrix_lists off.now cols.now plan.m plan.n k) }
-{
-    let m = plan.m;
-    if k < MATRIX_ENDS {
-        let e = plan.stored;
-        let part = k - FACTOR_ENDS;
-        return is_side_list(
-            Side::Factor,
-            part,
-            body,
-            lindptr,
-            cols,
-            lindices,
-            m,
-            m,
-            e,
-            next,
-            again,
-            made,
-        );
-    }
-    let n = plan.n;
-    let t = plan.t;
-    let part = k - MATRIX_ENDS;
-    is_side_list(
-        Side::Matrix,
-        part,
-        body,
-        off,
-        cols,
-        lindices,
-        m,
-        n,
-        t,
-        next,
-        again,
-        made,
+    base::clear(mark, plan.n);
+    pairs::same_list(
+        which, off, cols, plan.m, p, lindptr, lindices, mark, made, body,
     )
 }
 
@@ -167,10 +135,18 @@ pub fn is_list(
     requires { (1 ≤ k) × (k ≤ 16) × Known off.now cols.now plan p.now lindptr.now lindices.now × Room plan.m plan.n next.old × Room plan.m plan.n again.old × Room plan.m plan.n made.old }
     ensures { result ≡ same (numbers_of body.now) (matrix_lists off.now cols.now plan.m plan.n k) }
 {
-    if k > PAIR_LISTS {
-        return is_column_list(
-            k, body, off, cols, plan, lindptr, lindices, next, again, made,
-        );
+    let sizes = plan.sizes();
+    if file_numbers::count(body) != sizes[k - 1] {
+        return false;
     }
-    is_pair_list(k, body, off, cols, plan, p, lindptr, lindices, next, made)
+    match kind_of(k) {
+        Kind::Pairs(which) => {
+            is_pair_list(
+                which, body, off, cols, plan, p, lindptr, lindices, next, made,
+            )
+        }
+        Kind::Columns(side, part) => is_column_list(
+            side, part, body, off, cols, plan, lindptr, lindices, next, again, made,
+        ),
+    }
 }

@@ -1,17 +1,18 @@
 -- Laws of numbers compared with a list. Assumes nothing.
-use mathlib.Core.Path.{◌≡◌, refl, sym, ap, ap₂, ◌∙◌, subst}
+use mathlib.Core.Path.{◌≡◌, refl, sym, ap, ap₂, ◌∙◌}
 use mathlib.Core.Bool.{Bool, true, false, not, ◌&&◌}
 use mathlib.Core.List.{List, [], ◌∷◌, ◌++◌}
-use Prim.Native.Nat.{ℕ, zero, suc, ◌+◌, ◌*◌, ◌/◌, ◌<◌, ◌≤◌}
+use Prim.Native.Nat.{ℕ, suc, ◌+◌, ◌*◌, ◌/◌, ◌<◌, ◌≤◌}
 use native.Mathlib.Omega.{arith}
-use native.Mathlib.Decide.{ℕ_discrete}
-use borrow.Author.Tests.{eq-eqb, ne_eqb}
+use native.Mathlib.Nat.{add-zero}
+use borrow.Author.Tests.{ne_eqb}
 use lib.Dec.{eqb}
 use lib.ListN.{length, get_or, take, drop, drop_of_length-le}
-use lib.Seq.{drop-cons, get_or-take}
+use lib.Seq.{drop-cons}
 use Rattle.record.specs.Little.{le4}
-use Rattle.base.specs.Sums.{one}
-use Rattle.base.proofs.Bools.{and_false}
+use mir.Val.{bool_byte}
+use Rattle.std.proofs.lemmas.List.{take_more}
+use Rattle.base.proofs.Bools.{and_false, and_true}
 use Rattle.base.proofs.Numbers.{length_takes}
 use Rattle.plan_file.specs.Verdicts.{same}
 use Rattle.file_numbers.specs.Agree.{numbers_of, agree}
@@ -36,82 +37,6 @@ unfolding numbers_of
 number_is body k r h q =
     q ∙ le4_is body (4 * k) (number_room body k h) ∙ sym (number_at 4 (length body / 4) body k (omega (arith, how_many body)))
 
--- ---- number by number
-
-abbrev pub Each : List ℕ → ℕ → List ℕ → ℕ → Type 0
-Each s at l k = (j : ℕ) → j < k → get_or s (at + j) 0 ≡ get_or l j 0
-
-each_more : (s : List ℕ) (at : ℕ) (l : List ℕ) (k : ℕ) → Each s at l k → get_or s (at + k) 0 ≡ get_or l k 0 → Each s at l (k + 1)
-each_more s at l k h e j b = go (ℕ_discrete j k)
-  where
-    go : Dec (j ≡ k) → get_or s (at + j) 0 ≡ get_or l j 0
-    go (yes q) = subst (λ (i : ℕ). get_or s (at + i) 0 ≡ get_or l i 0) (sym q) e
-    go (no q) = h j (omega arith)
-
-all_agree : (s : List ℕ) (at : ℕ) (l : List ℕ) → Each s at l (length l) → agree s at l ≡ true
-unfolding agree
-all_agree s at [] h = refl
-all_agree s at (x ∷ l) h =
-    let z : at + 0 ≡ at = omega arith in
-    let e : get_or s at 0 ≡ x = ap (λ (i : ℕ). get_or s i 0) (sym z) ∙ h 0 (omega arith) in
-    ap₂ ◌&&◌ (eq-eqb (get_or s at 0) x e)
-    (all_agree s (suc at) l (λ j b. let y : suc at + j ≡ at + suc j = omega arith in ap (λ (i : ℕ). get_or s i 0) y ∙ h (suc j) (omega arith)))
-
-not_agree : (s : List ℕ) (at : ℕ) (l : List ℕ) (k : ℕ) → k < length l → (get_or s (at + k) 0 ≡ get_or l k 0 → ⊥) → agree s at l ≡ false
-unfolding agree
-not_agree s at [] k h n = absurd (omega arith)
-not_agree s at (x ∷ l) zero h n =
-    let z : at + 0 ≡ at = omega arith in
-    ap (λ (b : Bool). b && agree s (suc at) l) (ne_eqb (get_or s at 0) x (λ e. n (ap (λ (i : ℕ). get_or s i 0) z ∙ e)))
-not_agree s at (x ∷ l) (suc k) h n =
-    let y : at + suc k ≡ suc at + k = omega arith in
-    ap (λ (b : Bool). eqb (get_or s at 0) x && b) (not_agree s (suc at) l k (omega arith) (λ e. n (ap (λ (i : ℕ). get_or s i 0) y ∙ e)))
-    ∙ and_false (eqb (get_or s at 0) x)
-
-each_all : (s : List ℕ) (at : ℕ) (l : List ℕ) (k words : ℕ) → words ≤ k → words ≤ length l → Each s at l k → true ≡ agree s at (take words l)
-each_all s at l k words h r e =
-    sym (all_agree s at (take words l) (λ j b. let q : j < words = omega (arith, length_takes words l r) in e j (omega arith) ∙ sym (get_or-take words l j 0 q)))
-
-each_not : (s : List ℕ) (at : ℕ) (l : List ℕ) (k words : ℕ) → k < words → words ≤ length l → (get_or s (at + k) 0 ≡ get_or l k 0 → ⊥) → false ≡ agree s at (take words l)
-each_not s at l k words h r n =
-    sym (not_agree s at (take words l) k (omega (arith, length_takes words l r)) (λ e. n (e ∙ get_or-take words l k 0 h)))
-
--- k numbers are looked at, and so many of them differ
-pub record Looked (s : List ℕ) (at : ℕ) (l : List ℕ) (k bad : ℕ) : Type 0 where
-  pub most : bad ≤ k
-  pub each : bad ≡ 0 → Each s at l k
-  pub other : 0 < bad → (words : ℕ) → k ≤ words → words ≤ length l → false ≡ agree s at (take words l)
-
-module _ (s : List ℕ) (at : ℕ) (l : List ℕ) where
-  pub looked_none : Looked s at l 0 0
-  looked_none = record { most = omega arith; each = λ e j h. absurd (omega arith); other = λ h w a b. absurd (omega arith) }
-
-  pub looked_more : (k bad x y r : ℕ) → Looked s at l k bad → x ≡ get_or s (at + k) 0 → y ≡ get_or l k 0 → r ≡ one (not (eqb x y)) → Looked s at l (k + 1) (bad + r)
-  looked_more k bad x y r v e f g = go (ℕ_discrete x y)
-    where
-      go : Dec (x ≡ y) → Looked s at l (k + 1) (bad + r)
-      go (yes q) =
-          let z : r ≡ 0 = g ∙ ap (λ (b : Bool). one (not b)) (eq-eqb x y q) in
-          record {
-            most = omega (arith, v.most);
-            each = λ n. each_more s at l k (v.each (omega arith)) (sym e ∙ q ∙ f);
-            other = λ h w a b. v.other (omega arith) w (omega arith) b;
-          }
-      go (no q) =
-          let z : r ≡ 1 = g ∙ ap (λ (b : Bool). one (not b)) (ne_eqb x y q) in
-          record {
-            most = omega (arith, v.most);
-            each = λ n. absurd (omega arith);
-            other = λ h w a b. each_not s at l k w (omega arith) b (λ d. q (e ∙ d ∙ sym f));
-          }
-
-  pub looked_all : (k bad words : ℕ) → k ≡ words → words ≤ length l → Looked s at l k bad → eqb bad 0 ≡ agree s at (take words l)
-  looked_all k bad words e h v = go (ℕ_discrete bad 0)
-    where
-      go : Dec (bad ≡ 0) → eqb bad 0 ≡ agree s at (take words l)
-      go (yes q) = eq-eqb bad 0 q ∙ each_all s at l k words (omega arith) h (v.each q)
-      go (no q) = ne_eqb bad 0 q ∙ v.other (omega arith) words (omega arith) h
-
 -- ---- piece by piece
 
 pub agree_none : (s : List ℕ) (at : ℕ) → true ≡ agree s at []
@@ -130,9 +55,37 @@ agree_join s at (x ∷ l) r =
     ap (λ (b : Bool). eqb (get_or s at 0) x && b) (agree_join s (suc at) l r ∙ ap (λ (i : ℕ). agree s (suc at) l && agree s i r) z)
     ∙ and_assoc (eqb (get_or s at 0) x) (agree s (suc at) l) (agree s (at + suc (length l)) r)
 
+pub byte_le : (b : Bool) → bool_byte b ≤ 1
+byte_le true = omega arith
+byte_le false = omega arith
+
+-- one number more, and how many differ so far
+pub differ_more : (s : List ℕ) (at : ℕ) (l : List ℕ) (k bad : ℕ) → k < length l → eqb bad 0 ≡ agree s at (take k l) → eqb (bad + bool_byte (not (eqb (get_or s (at + k) 0) (get_or l k 0)))) 0 ≡ agree s at (take (k + 1) l)
+unfolding agree
+differ_more s at l k bad h e =
+    go (eqb (get_or s (at + k) 0) (get_or l k 0))
+    ∙ ap (λ (b : Bool). b && eqb (get_or s (at + k) 0) (get_or l k 0)) e
+    ∙ ap (λ (b : Bool). agree s at (take k l) && b) last
+    ∙ sym (ap (agree s at) (take_more l k 0 h) ∙ agree_join s at (take k l) (get_or l k 0 ∷ []))
+  where
+    go : (t : Bool) → eqb (bad + bool_byte (not t)) 0 ≡ eqb bad 0 && t
+    go true = ap (λ (n : ℕ). eqb n 0) (add-zero bad) ∙ sym (and_true (eqb bad 0))
+    go false = ne_eqb (bad + 1) 0 (λ q. omega arith) ∙ sym (and_false (eqb bad 0))
+
+    last : eqb (get_or s (at + k) 0) (get_or l k 0) ≡ agree s (at + length (take k l)) (get_or l k 0 ∷ [])
+    last = sym (and_true (eqb (get_or s (at + length (take k l)) 0) (get_or l k 0)) ∙ ap (λ (n : ℕ). eqb (get_or s (at + n) 0) (get_or l k 0)) (length_takes k l (omega arith)))
+
 -- one piece more
-pub agree_more : (s : List ℕ) (at q : ℕ) (l r : List ℕ) (a b c : Bool) → q ≡ at + length l → a ≡ agree s at l → b ≡ agree s q r → c ≡ a && b → c ≡ agree s at (l ++ r)
-agree_more s at q l r a b c e f g h = h ∙ ap₂ ◌&&◌ f (g ∙ ap (λ (i : ℕ). agree s i r) e) ∙ sym (agree_join s at l r)
+pub agree_more : (s : List ℕ) (at q : ℕ) (l r : List ℕ) → q ≡ at + length l → agree s at l ≡ true → agree s q r ≡ true → agree s at (l ++ r) ≡ true
+agree_more s at q l r e f g = agree_join s at l r ∙ ap₂ ◌&&◌ f (ap (λ (i : ℕ). agree s i r) (sym e) ∙ g)
+
+-- a piece that differs, whatever follows
+pub agree_not : (s : List ℕ) (at q : ℕ) (l r rest : List ℕ) → q ≡ at + length l → agree s q r ≡ false → agree s at (l ++ (r ++ rest)) ≡ false
+agree_not s at q l r rest e g =
+    agree_join s at l (r ++ rest)
+    ∙ ap (λ (b : Bool). agree s at l && b)
+    (agree_join s (at + length l) r rest ∙ ap (λ (b : Bool). b && agree s (at + length l + length r) rest) (ap (λ (i : ℕ). agree s i r) (sym e) ∙ g))
+    ∙ and_false (agree s at l)
 
 agree_drop : (s : List ℕ) (at : ℕ) (l : List ℕ) → length s ≡ at + length l → agree s at l ≡ same (drop at s) l
 unfolding agree same

@@ -1,8 +1,7 @@
 // The numbers of a record's body, compared with a list.
 #![tactic(auto)]
 
-ghost use Rattle.std.specs.Prelude.{◌≡◌, not, ◌&&◌, eqb, ◌+◌, ◌≤◌, ◌<◌, length, get_or, take};
-ghost use Rattle.base.specs.Sums.{one};
+ghost use Rattle.std.specs.Prelude.{◌≡◌, ◌+◌, ◌≤◌, ◌<◌, length, get_or, take};
 ghost use Rattle.file_numbers.specs.Agree.{numbers_of, agree};
 
 use plan_file::WORD_BYTES;
@@ -22,35 +21,14 @@ pub fn number_at(body: &[u8], k: usize) -> usize
     record::le32(body, WORD_BYTES * k)
 }
 
-pub fn of_word(x: u32) -> usize
-    ensures { result ≡ x }
-{
-    x as usize
-}
-
-pub fn both(a: bool, b: bool) -> bool
-    ensures { result ≡ (a && b) }
-{
-    if a { b } else { false }
-}
-
-// 1 where two numbers differ.
-fn differs(x: usize, y: usize) -> usize
-    ensures { result ≡ one (not (eqb x y)) }
-{
-    if x == y { 0 } else { 1 }
-}
-
 // Do the first words of a list stand from number `start` on? All are looked at: a loop with one way out is run several numbers at a time.
 pub fn is_same(body: &[u8], start: usize, list: &[u32], words: usize) -> bool
     requires { (start + words ≤ length (numbers_of body.now)) × (words ≤ length list.now) }
     ensures { result ≡ agree (numbers_of body.now) start (take words list.now) }
 {
     let mut bad = 0;
-    let mut k = 0;
-    while k < words {
-        bad += differs(number_at(body, start + k), of_word(list[k]));
-        k += 1;
+    for k in 0..words {
+        bad += (number_at(body, start + k) != list[k] as usize) as usize;
     }
     bad == 0
 }

@@ -1,7 +1,7 @@
 // Question 16, asked of a whole file. Nothing that is lent is written.
-ghost use Rattle.std.specs.Prelude.{◌≡◌, true, ◌≤◌};
+ghost use Rattle.std.specs.Prelude.{◌≡◌, true};
 ghost use Rattle.transpose.specs.Bins.{Room};
-ghost use Rattle.ipm_common.specs.Plan.{Memories};
+ghost use Rattle.ipm_common.specs.Plan.{Enough};
 ghost use Rattle.plan_file.specs.Matrix.{matrix_lists};
 ghost use Rattle.plan_file.specs.Tables.{wide};
 ghost use Rattle.plan_file.specs.Verdicts.{is_matrixs, whole_file, matrixs_file};
@@ -9,6 +9,7 @@ ghost use Rattle.file_lists.specs.Known.{Known};
 ghost use Rattle.file_questions.specs.Sized.{Sized};
 ghost use Rattle.file_questions.specs.Takes.{Takes};
 
+use ipm_common::{FEW_BINS, FEW_PAIRS, FEW_STARTS, MAX_BINS, MAX_PAIRS, MAX_STARTS};
 use layout::Plan;
 use plan_file::Meaning;
 
@@ -33,8 +34,7 @@ fn is_record(
         Meaning::Listed(k, _) => file_lists::is_list(
             k, body, off, cols, plan, p, lindptr, lindices, next, again, made,
         ),
-        Meaning::Note => true,
-        Meaning::Neither => true,
+        Meaning::Note | Meaning::Neither => true,
     }
 }
 
@@ -57,12 +57,9 @@ fn is_file(
     let mut at = 0;
     while at < file.len() {
         let r = file_walk::record_at(file, at);
-        let meaning = r.meaning;
-        let body = r.body;
-        let end = r.end;
         if !is_record(
-            meaning,
-            &file[body..end],
+            r.meaning,
+            &file[r.body..r.end],
             off,
             cols,
             plan,
@@ -75,77 +72,31 @@ fn is_file(
         ) {
             return false;
         }
-        at = end;
+        at = r.end;
     }
     true
 }
 
-// With memories that are long enough.
-fn is_plan_in(
+// In memories of such lengths.
+fn is_plan_in<const STARTS: usize, const PAIRS: usize, const BINS: usize>(
     file: &[u8],
     off: &[u32],
     cols: &[u32],
     plan: Plan,
-    lindptr: &mut [u32],
-    lindices: &mut [u8],
-    made: &mut [u32],
-    next: &mut [u32],
-    again: &mut [u32],
 ) -> bool
-    requires { (whole_file wide file.now ≡ true) × Sized off.now cols.now plan × Memories plan.m plan.n lindptr.old lindices.old made.old next.old again.old }
+    requires { (whole_file wide file.now ≡ true) × Sized off.now cols.now plan × Enough plan.m plan.n STARTS PAIRS BINS }
     ensures { result ≡ matrixs_file wide (matrix_lists off.now cols.now plan.m plan.n) file.now }
 {
     let mut p = [0u64; pattern::WORDS];
+    let mut lindptr = [0u32; STARTS];
+    let mut lindices = [0u8; PAIRS];
+    let mut made = [0u32; BINS];
+    let mut next = [0u32; BINS];
+    let mut again = [0u32; BINS];
     pattern::pattern(off, cols, plan.m, &mut p);
-    pair_lists::list_rows(&p, plan.m, lindptr, lindices);
+    pair_lists::list_rows(&p, plan.m, &mut lindptr, &mut lindices);
     is_file(
-        file, off, cols, plan, &p, lindptr, lindices, next, again, made,
-    )
-}
-
-// At most 16 rows and 32 columns.
-fn is_plan_few(file: &[u8], off: &[u32], cols: &[u32], plan: Plan) -> bool
-    requires { (whole_file wide file.now ≡ true) × Sized off.now cols.now plan × (plan.m ≤ 16) × (plan.n ≤ 32) }
-    ensures { result ≡ matrixs_file wide (matrix_lists off.now cols.now plan.m plan.n) file.now }
-{
-    let mut lindptr = [0u32; Plan::FEW_ROWS + 1];
-    let mut lindices = [0u8; Plan::FEW_ROWS * (Plan::FEW_ROWS + 1) / 2];
-    let mut made = [0u32; Plan::FEW_COLUMNS + 1];
-    let mut next = [0u32; Plan::FEW_COLUMNS + 1];
-    let mut again = [0u32; Plan::FEW_COLUMNS + 1];
-    is_plan_in(
-        file,
-        off,
-        cols,
-        plan,
-        &mut lindptr,
-        &mut lindices,
-        &mut made,
-        &mut next,
-        &mut again,
-    )
-}
-
-// As many rows as there may be.
-fn is_plan_many(file: &[u8], off: &[u32], cols: &[u32], plan: Plan) -> bool
-    requires { (whole_file wide file.now ≡ true) × Sized off.now cols.now plan }
-    ensures { result ≡ matrixs_file wide (matrix_lists off.now cols.now plan.m plan.n) file.now }
-{
-    let mut lindptr = [0u32; Plan::MAX_ROWS + 1];
-    let mut lindices = [0u8; Plan::MAX_ROWS * (Plan::MAX_ROWS + 1) / 2];
-    let mut made = [0u32; Plan::MAX_COLUMNS + 1];
-    let mut next = [0u32; Plan::MAX_COLUMNS + 1];
-    let mut again = [0u32; Plan::MAX_COLUMNS + 1];
-    is_plan_in(
-        file,
-        off,
-        cols,
-        plan,
-        &mut lindptr,
-        &mut lindices,
-        &mut made,
-        &mut next,
-        &mut again,
+        file, off, cols, plan, &p, &lindptr, &lindices, &mut next, &mut again, &mut made,
     )
 }
 
@@ -154,11 +105,9 @@ pub fn is_plan(file: &[u8], off: &[u32], cols: &[u32], plan: Plan) -> bool
     requires { (whole_file wide file.now ≡ true) × Sized off.now cols.now plan }
     ensures { result ≡ matrixs_file wide (matrix_lists off.now cols.now plan.m plan.n) file.now }
 {
-    let m = plan.m;
-    let n = plan.n;
-    if m <= Plan::FEW_ROWS && n <= Plan::FEW_COLUMNS {
-        is_plan_few(file, off, cols, plan)
+    if plan.m <= Plan::FEW_ROWS && plan.n <= Plan::FEW_COLUMNS {
+        is_plan_in::<FEW_STARTS, FEW_PAIRS, FEW_BINS>(file, off, cols, plan)
     } else {
-        is_plan_many(file, off, cols, plan)
+        is_plan_in::<MAX_STARTS, MAX_PAIRS, MAX_BINS>(file, off, cols, plan)
     }
 }

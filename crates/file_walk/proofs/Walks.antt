@@ -35,6 +35,37 @@ pub no_kind : (s : List ℕ) → 4 ≤ length s → length_at s ≤ length s - 4
 unfolding starts_whole
 no_kind s h r l = rw (le-leb 4 (length s) h, le-leb (length_at s) (length s - 4) r, lt-leb 2 (length_at s) l)
 
+-- by what is read at a place of a file
+module _ (file : List ℕ) (at : ℕ) where
+  left_at : length (drop at file) ≡ length file - at
+  left_at = length-drop at file
+
+  pub no_length_at : length file - at < 4 → starts_whole (drop at file) ≡ false
+  no_length_at h = no_length (drop at file) (omega (arith, left_at))
+
+  module _ (four : 4 ≤ length file - at) where
+    said_at : length_at (drop at file) ≡ le4 file at
+    said_at = sym (le4_is file at (omega arith))
+
+    pub no_room_at : length file - at - 4 < le4 file at → starts_whole (drop at file) ≡ false
+    no_room_at h = no_room (drop at file) (omega (arith, left_at)) (omega (arith, left_at, said_at))
+
+    module _ (room : le4 file at ≤ length file - at - 4) where
+      pub no_kind_at : le4 file at < 2 → starts_whole (drop at file) ≡ false
+      no_kind_at h = no_kind (drop at file) (omega (arith, left_at)) (omega (arith, left_at, said_at)) (omega (arith, said_at))
+
+      pub starts_at : 2 ≤ le4 file at → starts_whole (drop at file) ≡ true
+      starts_at h =
+          starts_yes (drop at file)
+          (record { room = omega (arith, left_at, said_at); long = omega (arith, left_at); kinded = omega (arith, said_at) })
+
+  pub headed_at : starts_whole (drop at file) ≡ true → Headed file at
+  headed_at e =
+      let s = starts_out (drop at file) e in
+      let f : at + 4 ≤ length file = omega (arith, s.long, left_at) in
+      let l = le4_is file at f in
+      record { four = f; six = omega (arith, s.room, s.kinded, left_at); kinded = omega (arith, s.kinded, l); room = omega (arith, s.room, left_at, l) }
+
 -- ---- question 14, record by record
 
 module _ (t : Table) where
@@ -75,62 +106,41 @@ module _ (t : Table) where
     pub left : whole_file t (drop at file) ≡ whole_file t file
 
   module _ (file : List ℕ) where
-    pub walked_none : Walked file 0
-    walked_none = record { within = omega arith; left = refl }
-
     pub walked_all : (at : ℕ) → length file ≤ at → Walked file at → true ≡ whole_file t file
     walked_all at h w = sym whole_none ∙ sym (ap (whole_file t) (drop_of_length-le file {i = at} h)) ∙ w.left
 
     module _ (at : ℕ) (w : Walked file at) (more : at < length file) where
-      long : length (drop at file) ≡ length file - at
-      long = length-drop at file
+      first : whole_file t (drop at file) ≡ cond (starts_whole (drop at file)) (whole_body (t (kind_at (drop at file))) (length (body_at (drop at file))) && whole_file t (rest_at (drop at file))) false
+      first = whole_first (drop at file) (omega (arith, left_at file at))
 
-      stopped : starts_whole (drop at file) ≡ false → false ≡ whole_file t file
-      stopped e =
-          sym (ap (λ (b : Bool). cond b (whole_body (t (kind_at (drop at file))) (length (body_at (drop at file))) && whole_file t (rest_at (drop at file))) false) e)
-          ∙ sym (whole_first (drop at file) (omega (arith, long))) ∙ w.left
+      pub stopped : starts_whole (drop at file) ≡ false → false ≡ whole_file t file
+      stopped e = sym (rw e at first) ∙ w.left
 
-      pub cut_short : length file - at < 4 → false ≡ whole_file t file
-      cut_short h = stopped (no_length (drop at file) (omega (arith, long)))
+      module _ (begins : starts_whole (drop at file) ≡ true) (b : Bool) (said : b ≡ whole_body (t (le2 file (at + 4))) (at + 4 + le4 file at - (at + 6))) where
+        there : Headed file at
+        there = headed_at file at begins
 
-      module _ (size : ℕ) (is : size ≡ le4 file at) (four : 4 ≤ length file - at) where
-        said : length_at (drop at file) ≡ size
-        said = sym (is ∙ le4_is file at (omega arith))
+        long : length_at (drop at file) ≡ le4 file at
+        long = sym (le4_is file at there.four)
 
-        pub cut_body : length file - at - 4 < size → false ≡ whole_file t file
-        cut_body h = stopped (no_room (drop at file) (omega (arith, long)) (omega (arith, long, said)))
+        same : b ≡ whole_body (t (kind_at (drop at file))) (length (body_at (drop at file)))
+        same =
+            let n : at + 4 + le4 file at - (at + 6) ≡ length (body_at (drop at file)) = omega (arith, body_length (drop at file) (starts_out (drop at file) begins), long) in
+            said ∙ ap₂ (λ (k n : ℕ). whole_body (t k) n) (kind_is file at there.six) n
 
-        module _ (room : size ≤ length file - at - 4) where
-          pub cut_kind : size < 2 → false ≡ whole_file t file
-          cut_kind h = stopped (no_kind (drop at file) (omega (arith, long)) (omega (arith, long, said)) (omega (arith, said)))
+        goes : b && whole_file t (rest_at (drop at file)) ≡ whole_file t file
+        goes = ap (λ (x : Bool). x && whole_file t (rest_at (drop at file))) same ∙ sym (rw begins at first) ∙ w.left
 
-          module _ (kinded : 2 ≤ size) (kind : ℕ) (has : kind ≡ le2 file (at + 4)) (m : Meaning) (means : m ≡ t kind) (b : Bool) (said14 : b ≡ whole_body m (size - 2)) where
-            body : b ≡ whole_body (t kind) (size - 2)
-            body = said14 ∙ ap (λ (q : Meaning). whole_body q (size - 2)) means
+        pub bad_body : b ≡ false → false ≡ whole_file t file
+        bad_body e = sym (ap (λ (x : Bool). x && whole_file t (rest_at (drop at file))) e) ∙ goes
 
-            begun : Starts (drop at file)
-            begun = record { room = omega (arith, long, said); long = omega (arith, long); kinded = omega (arith, said) }
-
-            known : kind_at (drop at file) ≡ kind
-            known = sym (has ∙ kind_is file at (omega arith))
-
-            goes : b && whole_file t (rest_at (drop at file)) ≡ whole_file t file
-            goes =
-                ap (λ (x : Bool). x && whole_file t (rest_at (drop at file)))
-                (body ∙ sym (ap₂ (λ (k n : ℕ). whole_body (t k) n) known (body_length (drop at file) begun ∙ ap (λ (n : ℕ). n - 2) said)))
-                ∙ sym (ap (λ (x : Bool). cond x (whole_body (t (kind_at (drop at file))) (length (body_at (drop at file))) && whole_file t (rest_at (drop at file))) false) (starts_yes (drop at file) begun))
-                ∙ sym (whole_first (drop at file) (omega (arith, long))) ∙ w.left
-
-            pub bad_body : b ≡ false → false ≡ whole_file t file
-            bad_body e = sym (ap (λ (x : Bool). x && whole_file t (rest_at (drop at file))) e) ∙ goes
-
-            pub walked_on : b ≡ true → Walked file (at + 4 + size)
-            walked_on e = record {
-              within = omega arith;
-              left =
-                  sym (ap (whole_file t) (ap (λ (n : ℕ). drop n (drop 4 (drop at file))) said ∙ ap (drop size) (drop-drop 4 at file) ∙ drop-drop size (at + 4) file))
-                  ∙ sym (ap (λ (x : Bool). x && whole_file t (rest_at (drop at file))) e) ∙ goes;
-            }
+        pub walked_on : b ≡ true → Walked file (at + 4 + le4 file at)
+        walked_on e = record {
+          within = there.room;
+          left =
+              sym (ap (whole_file t) (ap (λ (n : ℕ). drop n (drop 4 (drop at file))) long ∙ ap (drop (le4 file at)) (drop-drop 4 at file) ∙ drop-drop (le4 file at) (at + 4) file))
+              ∙ sym (ap (λ (x : Bool). x && whole_file t (rest_at (drop at file))) e) ∙ goes;
+        }
 
 -- ---- a record of a file that got a yes at 14
 
@@ -146,11 +156,7 @@ module _ (t : Table) (file : List ℕ) (at : ℕ) (good : whole_file t (drop at 
   both_parts = whole_starts t (drop at file) some_left good
 
   pub headed : Headed file at
-  headed =
-      let s = starts_out (drop at file) both_parts.0 in
-      let f : at + 4 ≤ length file = omega (arith, s.long, bytes_left) in
-      let l = le4_is file at f in
-      record { four = f; six = omega (arith, s.room, s.kinded, bytes_left); kinded = omega (arith, s.kinded, l); room = omega (arith, s.room, bytes_left, l) }
+  headed = headed_at file at both_parts.0
 
   pub meant : (kind : ℕ) → kind ≡ le2 file (at + 4) → (m : Meaning) → m ≡ t kind → m ≡ t (kind_at (drop at file))
   meant kind has m means = means ∙ ap t (has ∙ kind_is file at headed.six)
@@ -209,31 +215,27 @@ module _ (t : Table) (most : (kind k w : ℕ) → t kind ≡ Listed k w → k �
     pub left : ordered_file t next (drop at file) ≡ ordered_file t 1 file
 
   module _ (file : List ℕ) where
-    pub started : whole_file t file ≡ true → Ordered file 0 1
-    started e = record { within = omega arith; few = omega arith; good = e; left = refl }
-
     pub ended_at : (at next : ℕ) → length file ≤ at → Ordered file at next → eqb next 17 ≡ ordered_file t 1 file
     ended_at at next h w = sym (ordered_none next) ∙ sym (ap (ordered_file t next) (drop_of_length-le file {i = at} h)) ∙ w.left
 
-    module _ (at next : ℕ) (w : Ordered file at next) (more : at < length file) (size : ℕ) (is : size ≡ le4 file at)
-        (kind : ℕ) (has : kind ≡ le2 file (at + 4)) (m : Meaning) (means : m ≡ t kind) (b : Bool) (said : b ≡ is_next m next) where
-      means_there : m ≡ t (kind_at (drop at file))
-      means_there = meant t file at w.good more kind has m means
+    module _ (at next : ℕ) (w : Ordered file at next) (more : at < length file) where
+      means_there : t (le2 file (at + 4)) ≡ t (kind_at (drop at file))
+      means_there = meant t file at w.good more (le2 file (at + 4)) refl (t (le2 file (at + 4))) refl
 
-      onward : b && ordered_file t (after m next) (rest_at (drop at file)) ≡ ordered_file t 1 file
+      onward : is_next (t (le2 file (at + 4))) next && ordered_file t (after (t (le2 file (at + 4))) next) (rest_at (drop at file)) ≡ ordered_file t 1 file
       onward =
-          ap₂ (λ (x : Bool) (q : Meaning). x && ordered_file t (after q next) (rest_at (drop at file))) (said ∙ ap (λ (q : Meaning). is_next q next) means_there) means_there
+          ap (λ (q : Meaning). is_next q next && ordered_file t (after q next) (rest_at (drop at file))) means_there
           ∙ sym (ordered_first (drop at file) next (some_left t file at w.good more) (both_parts t file at w.good more).0) ∙ w.left
 
-      pub not_next : b ≡ false → false ≡ ordered_file t 1 file
-      not_next e = sym (ap (λ (x : Bool). x && ordered_file t (after m next) (rest_at (drop at file))) e) ∙ onward
+      pub not_next : is_next (t (le2 file (at + 4))) next ≡ false → false ≡ ordered_file t 1 file
+      not_next e = rw e at onward
 
-      pub ordered_on : b ≡ true → (r : ℕ) → r ≡ after m next → Ordered file (at + 4 + size) r
+      pub ordered_on : is_next (t (le2 file (at + 4))) next ≡ true → (r : ℕ) → r ≡ after (t (le2 file (at + 4))) next → Ordered file (at + 4 + le4 file at) r
       ordered_on e r q = record {
-        within = within_there t file at w.good more size is;
-        few = omega (arith, q, after_few m next (λ k v z. most kind k v (sym means ∙ z)) w.few (sym said ∙ e));
-        good = good_there t file at w.good more size is;
+        within = (headed t file at w.good more).room;
+        few = omega (arith, q, after_few (t (le2 file (at + 4))) next (λ k v z. most (le2 file (at + 4)) k v z) w.few e);
+        good = good_there t file at w.good more (le4 file at) refl;
         left =
-            ap₂ (λ (n : ℕ) (l : List ℕ). ordered_file t n l) q (sym (rest_there t file at w.good more size is))
-            ∙ sym (ap (λ (x : Bool). x && ordered_file t (after m next) (rest_at (drop at file))) e) ∙ onward;
+            ap₂ (λ (n : ℕ) (l : List ℕ). ordered_file t n l) q (sym (rest_there t file at w.good more (le4 file at) refl))
+            ∙ rw e at onward;
       }

@@ -1,5 +1,5 @@
 // What the kinds of a file mean.
-ghost use Rattle.std.specs.Prelude.{◌≡◌, ◌+◌, ◌<◌, ◌≤◌};
+ghost use Rattle.std.specs.Prelude.{◌≡◌, true, false, ◌<◌, ◌≤◌, MatchOption};
 ghost use Rattle.plan_file.specs.Tables.{wide, width_of};
 ghost use Rattle.plan_file.specs.Verdicts.{whole_body, is_next, after};
 
@@ -15,16 +15,11 @@ const FIRST: usize = 1;
 pub fn wide_meaning(kind: usize) -> Meaning
     ensures { result ≡ wide kind }
 {
-    if kind >= FIRST_NOTE {
-        return Meaning::Note;
+    match kind {
+        FIRST..=LISTS => Meaning::Listed(kind, WORD_BYTES),
+        FIRST_NOTE.. => Meaning::Note,
+        _ => Meaning::Neither,
     }
-    if kind < FIRST {
-        return Meaning::Neither;
-    }
-    if kind > LISTS {
-        return Meaning::Neither;
-    }
-    Meaning::Listed(kind, WORD_BYTES)
 }
 
 // A list's body is whole numbers of its width; any other body is free.
@@ -39,25 +34,14 @@ pub fn is_whole_body(m: Meaning, size: usize) -> bool
     }
 }
 
-// Whether a record is the next list or a note.
-pub fn is_next(m: Meaning, next: usize) -> bool
-    ensures { result ≡ is_next m next }
-{
-    match m {
-        Meaning::Listed(list, _) => list == next,
-        Meaning::Note => true,
-        Meaning::Neither => false,
-    }
-}
-
-// The next list after it.
-pub fn after_one(m: Meaning, next: usize) -> usize
+// The list that is next after a record, if the record is the next list or a note.
+pub fn next_after(m: Meaning, next: usize) -> Option<usize>
     requires { next ≤ 17 }
-    ensures { result ≡ after m next }
+    ensures { MatchOption result (is_next m next ≡ false) (λ r. (is_next m next ≡ true) × (r ≡ after m next)) }
 {
     match m {
-        Meaning::Listed(_, _) => next + 1,
-        Meaning::Note => next,
-        Meaning::Neither => next,
+        Meaning::Listed(list, _) if list == next => Some(next + 1),
+        Meaning::Note => Some(next),
+        _ => None,
     }
 }

@@ -1,32 +1,39 @@
 -- Numbers written one after the other. Assumes nothing.
 use mathlib.Core.Path.{◌≡◌, refl, sym, ap, ◌∙◌}
 use mathlib.Core.List.{List, [], ◌∷◌, ◌++◌, append_assoc, append-nil}
-use Prim.Native.Nat.{ℕ, ◌+◌, ◌*◌, ◌/◌, ◌%◌, ◌<◌, ◌≤◌}
+use Prim.Native.Nat.{ℕ, ◌+◌, ◌-◌, ◌*◌, ◌/◌, ◌<◌, ◌≤◌}
 use native.Mathlib.Omega.{arith}
 use native.Mathlib.Numerals.{add-one}
 use native.Mathlib.Nat.{mul-suc}
-use lib.ListN.{length, get_or, take, set, length-append}
-use lib.Seq.{take-suc, take_all}
+use Rattle.std.specs.Int.{w16, w32, to_le_bytes}
+use borrow.Rule.Slice.PartMut.{put_mid}
+use lib.ListN.{length, get_or, take, drop, length-append}
+use lib.Seq.{take-suc, take_all, drop-drop}
+use Rattle.std.proofs.lemmas.List.Edits.{sets-eq}
 use Rattle.base.specs.Cat.{Wrote}
-use Rattle.base.proofs.Write.{then_written, same_text, same_long}
+use Rattle.base.proofs.Write.{then_written, same_text}
 use Rattle.plan_file.specs.Bytes.{bytes_of, words}
 use Rattle.plan_file.specs.Records.{head_of, record_of}
 use Rattle.plan_file.proofs.Numbers.{length_words, length_bytes}
 
--- two bytes
-pub wrote_two : (a : List ℕ) (at x : ℕ) → Wrote a (set (set a at (x % 256)) (at + 1) (x / 256 % 256)) at (bytes_of 2 x) (at + 2)
+-- the bytes of numbers of two and of four bytes
+pub bytes_two : (x : ℕ) → to_le_bytes w16 x ≡ bytes_of 2 x
 unfolding bytes_of
-wrote_two a at x = record {
-  is = ap (λ (k : ℕ). set (set a at (x % 256)) k (x / 256 % 256)) (add-one at);
-  next = refl;
-}
+bytes_two x = refl
 
--- four bytes are two and two
-pub bytes_four : (x : ℕ) → bytes_of 2 x ++ bytes_of 2 (x / 65536) ≡ bytes_of 4 x
+pub bytes_four : (x : ℕ) → to_le_bytes w32 x ≡ bytes_of 4 x
 unfolding bytes_of
 bytes_four x =
     let e : x / 65536 ≡ x / 256 / 256 = omega arith in
-    ap (λ (y : ℕ). x % 256 ∷ (x / 256 % 256 ∷ (y % 256 ∷ (y / 256 % 256 ∷ [])))) e
+    let f : x / 16777216 ≡ x / 256 / 256 / 256 = omega arith in
+    rw (e, f)
+
+-- a text copied to its part of a list
+pub copied : (a : List ℕ) (at n : ℕ) (s : List ℕ) → length s ≡ n → at + n ≤ length a → Wrote a (put_mid at (at + n - at) a s) at s (at + n)
+copied a at n s l h = record { is = sym (sets-eq s a at (omega arith) ∙ append_assoc (take at a) s (drop (at + length s) a) ∙ part (omega arith)); next = omega arith }
+  where
+    part : {k : ℕ} → k ≡ length s → take at a ++ (s ++ drop (at + length s) a) ≡ put_mid at k a s
+    part e = rw (e, drop-drop)
 
 words_append : (w : ℕ) (xs ys : List ℕ) → words w (xs ++ ys) ≡ words w xs ++ words w ys
 unfolding words
@@ -45,13 +52,12 @@ words_more w xs k h =
 
 -- a list's numbers, k of them written
 pub record Puts (w : ℕ) (old new : List ℕ) (start : ℕ) (xs : List ℕ) (k at : ℕ) : Type 0 where
-  pub within : k ≤ length xs
   pub place : at ≡ start + w * k
   pub wrote : Wrote old new start (words w (take k xs)) at
 
 pub puts_none : (w : ℕ) (old : List ℕ) (start : ℕ) (xs : List ℕ) → Puts w old old start xs 0 start
 unfolding words
-puts_none w old start xs = record { within = omega arith; place = omega arith; wrote = record { is = refl; next = omega arith } }
+puts_none w old start xs = record { place = omega arith; wrote = record { is = refl; next = omega arith } }
 
 pub after_bytes : (w x : ℕ) {a b : List ℕ} {at r : ℕ} → Wrote a b at (bytes_of w x) r → r ≡ at + w
 after_bytes w x {at = at} p = p.next ∙ ap (λ (n : ℕ). at + n) (length_bytes w x)
@@ -59,7 +65,6 @@ after_bytes w x {at = at} p = p.next ∙ ap (λ (n : ℕ). at + n) (length_bytes
 pub puts_more : (w : ℕ) (old new next : List ℕ) (start : ℕ) (xs : List ℕ) (k at r : ℕ) → k < length xs
     → Puts w old new start xs k at → Wrote new next at (bytes_of w (get_or xs k 0)) r → Puts w old next start xs (k + 1) r
 puts_more w old new next start xs k at r h p q = record {
-  within = omega arith;
   place = after_bytes w (get_or xs k 0) q ∙ omega (arith, p.place, mul-suc w k, ap (λ (j : ℕ). w * j) (add-one k));
   wrote = same_text (words_more w xs k h) (then_written p.wrote q);
 }
@@ -67,9 +72,6 @@ puts_more w old new next start xs k at r h p q = record {
 pub puts_all : (w : ℕ) (old new : List ℕ) (start : ℕ) (xs : List ℕ) (k at : ℕ) → length xs ≤ k
     → Puts w old new start xs k at → Wrote old new start (words w xs) at
 puts_all w old new start xs k at h p = same_text (ap (words w) (take_all k xs h)) p.wrote
-
-pub puts_long : (w : ℕ) (old new : List ℕ) (start : ℕ) (xs : List ℕ) (k at : ℕ) → Puts w old new start xs k at → length new ≡ length old
-puts_long w old new start xs k at p = same_long p.wrote
 
 -- a record is its head and then its body
 pub wrote_record : {a b c : List ℕ} {at r s : ℕ} (w kind size : ℕ) (xs : List ℕ) → size ≡ w * length xs

@@ -15,7 +15,7 @@ use Rattle.plan_file.specs.Verdicts.{lists_from}
 use Rattle.plan_file.proofs.Numbers.{length_words}
 use Rattle.plan_file.proofs.Parse.{length_record}
 use Rattle.file_write.specs.Writable.{Writable}
-use Rattle.base.proofs.Write.{then_written, same_text, same_long}
+use Rattle.base.proofs.Write.{then_written, same_text}
 
 -- the sizes as they are worked out
 pub with_sizes : {lists : ℕ → List ℕ} {sizes z index : List ℕ} {bytes : ℕ} → z ≡ sizes → Writable lists sizes index bytes → Writable lists z index bytes
@@ -49,7 +49,6 @@ left_is lists k h =
 module _ (lists : ℕ → List ℕ) (index : List ℕ) where
   -- k records are written, and their lists end at `from`
   pub record Writing (old new : List ℕ) (at from k : ℕ) : Type 0 where
-    pub within : k ≤ 16
     pub stand : From index from (left lists k)
     pub total : from + length (join (left lists k)) ≡ length (join (lists_from lists 1 16))
     pub place : at ≡ 6 * k + 4 * from
@@ -58,20 +57,14 @@ module _ (lists : ℕ → List ℕ) (index : List ℕ) where
   pub writing_none : (sizes : List ℕ) (bytes : ℕ) (old : List ℕ) → Writable lists sizes index bytes → Writing old old 0 0 0
   unfolding written_from
   writing_none sizes bytes old w = record {
-    within = omega arith;
     stand = record { rest = w.rest; is = w.is };
     total = omega arith;
     place = refl;
     wrote = record { is = refl; next = refl };
   }
 
-  pub writing_long : (old new : List ℕ) (at from k : ℕ) → Writing old new at from k → length new ≡ length old
-  writing_long old new at from k s = same_long s.wrote
-
-  pub writing_all : (old new : List ℕ) (at from k : ℕ) → 16 ≤ k → Writing old new at from k → Wrote old new 0 (written_file wide_writer lists) at
-  writing_all old new at from k h s =
-      let e : k ≡ 16 = omega (arith, s.within) in
-      same_text (ap (written_from wide_writer lists 1) e) s.wrote
+  pub writing_all : (old new : List ℕ) (at from k : ℕ) → k ≡ 16 → Writing old new at from k → Wrote old new 0 (written_file wide_writer lists) at
+  writing_all old new at from k e s = same_text (ap (written_from wide_writer lists 1) e) s.wrote
 
   module _ (sizes : List ℕ) (bytes : ℕ) (w : Writable lists sizes index bytes) (old new : List ℕ) (at from k size : ℕ) (h : k < 16) (q : size ≡ get_or sizes k 0) (s : Writing old new at from k) where
     size_is : size ≡ length (lists (suc k))
@@ -105,7 +98,6 @@ module _ (lists : ℕ → List ℕ) (index : List ℕ) where
     writing_more next r p =
         let one : k + 1 ≡ 1 + k = omega arith in
         record {
-          within = omega arith;
           stand = behind stands (from + size) (omega (arith, size_is));
           total = omega (arith, halves, s.total);
           place = p.next ∙ omega (arith, s.place, length_record (k + 1) (words 4 (cut from (from + size) index)), length_words 4 (cut from (from + size) index), list_long);

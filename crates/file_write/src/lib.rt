@@ -29,12 +29,10 @@ pub fn put_file(file: &mut [u8], index: &[u32], plan: Plan) -> usize
     let sizes = plan.sizes();
     let mut at = 0;
     let mut from = 0;
-    let mut k = 0;
-    while k < Plan::LISTS {
-        let end = from + sizes[k];
+    for (k, size) in sizes.iter().enumerate() {
+        let end = from + *size;
         at = records::put_record(file, at, k + 1, &index[from..end]);
         from = end;
-        k += 1;
     }
     at
 }

@@ -10,7 +10,7 @@ use borrow.Author.Tests.{leb-true}
 use lib.ListN.{length}
 use Rattle.csr.specs.Counts.{count_e, size_w}
 use Rattle.csr.specs.Pattern.{row}
-use Rattle.csr.specs.Verdict.{Verdict, Told, passed, told, planned, accepted, sized, costs, written, refused, ask, and_then}
+use Rattle.csr.specs.Verdict.{Verdict, passed, told, planned, refused, ask, and_then}
 use Rattle.csr.specs.Questions.{first_from, empty, bad_row, offsets_right, rows_right, first_no}
 use Rattle.csr.specs.Csr.{Accepted}
 use Rattle.base.proofs.Bools.{and_right}
@@ -27,10 +27,12 @@ use Rattle.machine.specs.declared.Outcome.TheVariants.{Accepted as accepted_at, 
 use Rattle.machine.specs.Outcome.{is_spoilt, lowest_spoilt, some_spoilt, all_done, outcome, lane_status, solved}
 use Rattle.machine.specs.Demand3.{Buffers}
 use Rattle.ipm_simd.specs.declared.Lengths.{Lengths}
-use Rattle.ipm_simd.specs.declared.SolveAnswer.{SolveAnswer}
+use Rattle.csr.specs.declared.Refusal.{Refusal}
+use Rattle.ipm_simd.specs.declared.Solution.{Solution}
+use Rattle.std.specs.Prelude.{Option, Some, None, Result}
 use Rattle.ipm_simd.specs.Solve.{Given, controls_of, call, price_count, lengths_of, told_solve, Solved, outcome_verdict, lengths_right, lengths_verdict, memory_verdict, if_filed, matrix_verdict, begun, solve_verdict}
 use Rattle.ipm_simd.proofs.Questions.{lengths_passed}
-use Rattle.ipm_c.specs.Packed.{packed, SolvedInOne}
+use Rattle.ipm_c.specs.Packed.{packed, Small, SolvedInOne}
 use Rattle.lists.proofs.Few.{few_stored, shared_few, few_products}
 use Rattle.plan_file.specs.Matrix.{matrix_lists}
 use Rattle.plan_file.specs.Tables.{wide}
@@ -38,19 +40,6 @@ use Rattle.plan_file.specs.Verdicts.{file_verdict, whole_file, ordered_file, mat
 use Rattle.plan_file.proofs.Files.{one_by_one}
 use Rattle.file_questions.proofs.Three.{passes}
 use Rattle.file_calls.specs.Calls.{file_bytes, rooms_verdict, write_verdict, read_verdict}
-
--- what packing asks of an answer
-abbrev SmallTold : Told → Type 0
-SmallTold (planned w) = w < 2 ^ 32
-SmallTold (accepted k count) = (k < 2 ^ 32) × (count < 2 ^ 16)
-SmallTold (sized e s d w f) = w < 2 ^ 32
-SmallTold (costs e d) = Unit {0}
-SmallTold (written k) = k < 2 ^ 32
-
-abbrev pub Small : Verdict → Type 0
-Small passed = Unit {0}
-Small (told a) = SmallTold a
-Small (refused q p l) = (q ≤ 16) × (p < 2 ^ 32) × (l < 2 ^ 8)
 
 small_ask : (t : Bool) (v w : Verdict) → (t ≡ true → Small v) → Small w → Small (ask t v w)
 small_ask true v w h g = h refl
@@ -136,9 +125,9 @@ small_file lists file =
     (λ _. small_ask (ordered_file wide 1 file) _ (refused 15 0 0) (λ _. small_ask (matrixs_file wide lists file) passed (refused 16 0 0) (λ _. tt) (small_no 16 (omega arith))) (small_no 15 (omega arith)))
     (small_no 14 (omega arith)))
 
-small_filed : (filed : Bool) (v : Verdict) → Small v → Small (if_filed filed v)
-small_filed true v h = h
-small_filed false v h = tt
+small_filed : (file : Option (List ℕ)) (says : List ℕ → Verdict) → ((bytes : List ℕ) → Small (says bytes)) → Small (if_filed file says)
+small_filed (Some bytes) says h = h bytes
+small_filed None says h = tt
 
 -- QUESTIONS 1 TO 5, 14 TO 16 AND 6
 pub small_read : (m n : ℕ) (off cols file : List ℕ) (words : ℕ) → Small (read_verdict m n off cols file words)
@@ -202,9 +191,9 @@ small_solve a B =
     let W = size_w a.offsets a.columns a.m a.n in
     let E = count_e a.offsets a.columns a.m in
     let first5 = first_no a.m a.n a.offsets a.columns (length a.values) in
-    let matrix = and_then first5 (if_filed a.filed (file_verdict wide (matrix_lists a.offsets a.columns a.m a.n) a.file)) in
+    let matrix = and_then first5 (if_filed a.file (file_verdict wide (matrix_lists a.offsets a.columns a.m a.n))) in
     small_then (and_then matrix (memory_verdict a B)) _
-    (small_then matrix _ (small_then first5 _ (small_first a.m a.n a.offsets a.columns (length a.values)) (λ _. small_filed a.filed _ (small_file (matrix_lists a.offsets a.columns a.m a.n) a.file)))
+    (small_then matrix _ (small_then first5 _ (small_first a.m a.n a.offsets a.columns (length a.values)) (λ _. small_filed a.file _ (small_file (matrix_lists a.offsets a.columns a.m a.n))))
     (λ _. small_lengths W E a.m a.n a.s (lengths_of a B) (controls_of a)))
     (λ e.
     let both = passes matrix (memory_verdict a B) e in
@@ -213,7 +202,7 @@ small_solve a B =
     small_outcome 4 (lane_status (call a)) a.limit (price_count a) (omega arith) asked.up_to (omega (arith, ok.csr.few)))
 
 -- what solve promises of its answer holds of the number
-pub in_one : {a : Given} {B B' : Buffers} {r : SolveAnswer} {code : ℕ} → Solved a B B' r → code ≡ packed (told_solve r) → SolvedInOne a B B' code
+pub in_one : {a : Given} {B B' : Buffers} {r : Result Solution Refusal} {code : ℕ} → Solved a B B' r → code ≡ packed (told_solve r) → SolvedInOne a B B' code
 in_one s e = record {
   answer = e ∙ ap packed s.answer;
   buffers = s.buffers;

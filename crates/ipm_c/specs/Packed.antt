@@ -1,5 +1,6 @@
 -- An answer as one number, for callers in other languages. Definitions only.
-use Rattle.std.specs.Prelude.{◌≡◌, Bool, ℕ, ◌+◌, ◌*◌, ◌^◌, ltb}
+use Rattle.std.specs.Prelude.{◌≡◌, List, ℕ, ◌+◌, ◌*◌, ◌^◌, ◌≤◌, ◌<◌, ltb, Option}
+use Rattle.std.specs.Bool.{then_some}
 use Rattle.csr.specs.Verdict.{Verdict, Told, passed, told, planned, accepted, sized, costs, written, refused}
 use Rattle.machine.specs.declared.Outcome.{Outcome}
 use Rattle.machine.specs.Demand3.{Buffers, Demand3}
@@ -22,9 +23,22 @@ packed passed = in_one 0 0 0 0
 packed (told a) = packed_told a
 packed (refused q p l) = in_one 0 q p l
 
--- a flag: 0 is no, anything else yes
-abbrev pub is_filed : ℕ → Bool
-is_filed flag = ltb 0 flag
+-- what packing asks of an answer
+abbrev SmallTold : Told → Type 0
+SmallTold (planned w) = w < 2 ^ 32
+SmallTold (accepted k count) = (k < 2 ^ 32) × (count < 2 ^ 16)
+SmallTold (sized e s d w f) = w < 2 ^ 32
+SmallTold (costs e d) = Unit {0}
+SmallTold (written k) = k < 2 ^ 32
+
+abbrev pub Small : Verdict → Type 0
+Small passed = Unit {0}
+Small (told a) = SmallTold a
+Small (refused q p l) = (q ≤ 16) × (p < 2 ^ 32) × (l < 2 ^ 8)
+
+-- the bytes that are lent as a file, by a flag: 0 is no, anything else yes
+abbrev pub lent_file : ℕ → List ℕ → Option (List ℕ)
+lent_file flag file = then_some (ltb 0 flag) file
 
 -- a solve with its answer in one number: the answer, the lent lists, and demand 3 whole once questions 1 to 10, 13 and, of a file that is lent, 14 to 16 got a yes
 pub record SolvedInOne (a : Given) (B B' : Buffers) (r : ℕ) : Type 0 where

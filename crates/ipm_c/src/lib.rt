@@ -1,20 +1,18 @@
 // The calls and the square root for callers in C and Rust. An answer is one number; what else a call tells goes through pointers.
 #![tactic(auto)]
 
-ghost use Rattle.std.specs.Prelude.{◌≡◌, ◌≤◌, ◌<◌, ◌^◌, length};
+ghost use Rattle.std.specs.Prelude.{◌≡◌, ◌≤◌, ◌<◌, ◌^◌, length, option_map};
 ghost use Rattle.ipm_common.specs.Plan.{plan_verdict, plan_index};
 ghost use Rattle.root.specs.Root.{root_bits};
 ghost use Rattle.lanes.specs.Controls.{controls};
 ghost use Rattle.ipm_simd.specs.Solve.{given, with_file, lent};
 ghost use Rattle.file_calls.specs.Calls.{write_verdict, words_after, bytes_after, read_verdict};
 ghost use Rattle.sizes.specs.Sizes.{sizes_verdict, costliest_verdict};
-ghost use Rattle.ipm_c.specs.Packed.{in_one, packed, is_filed, SolvedInOne};
+ghost use Rattle.csr.specs.Verdict.{refusal};
+ghost use Rattle.ipm_c.specs.Packed.{in_one, packed, Small, lent_file, SolvedInOne};
 ghost use Rattle.ipm_c.specs.Results.{results, results_left, costs_of, costs_left};
 
-use file_calls::WriteAnswer;
-use ipm_common::PlanAnswer;
-use ipm_simd::SolveAnswer;
-use sizes::{CostliestAnswer, SizesAnswer};
+use csr::{Numbered, Refusal};
 
 // The question of a yes.
 const YES: u32 = 0;
@@ -28,11 +26,20 @@ fn pack(length: usize, question: u32, place: usize, lane: u32) -> u64
     front + (place as u64) * 0x100 + lane as u64
 }
 
-// A flag of a caller: 0 is no, anything else yes.
-fn is_filed(flag: usize) -> bool
-    ensures { result ≡ is_filed flag }
+// A no in one number.
+fn pack_refusal(why: Refusal) -> u64
+    requires { Small (refusal why) }
+    ensures { result ≡ packed (refusal why) }
 {
-    flag > 0
+    let no = Numbered::from(why);
+    pack(0, no.question, no.place, no.lane)
+}
+
+// The file that a caller lends, by its flag: 0 is no, anything else yes.
+fn lent_file(flag: usize, file: &[u8]) -> Option<&[u8]>
+    ensures { option_map (λ f. f.now) result ≡ lent_file flag file.now }
+{
+    (flag > 0).then_some(file)
 }
 
 // Questions 1 to 6, and after six yeses the plan.
@@ -48,8 +55,8 @@ pub extern "C" fn ipm_plan(
     ensures words { index.new ≡ plan_index m n offsets.now columns.now index.old }
 {
     match ipm_common::plan(m, n, offsets, columns, index) {
-        PlanAnswer::Planned(w) => pack(0, YES, w, 0),
-        PlanAnswer::Refused(r) => pack(0, r.question, r.place, r.lane),
+        Ok(w) => pack(0, YES, w, 0),
+        Err(why) => pack_refusal(why),
     }
 }
 
@@ -68,8 +75,8 @@ pub extern "C" fn ipm_write_plan(
     ensures bytes { file.new ≡ bytes_after m n offsets.now columns.now (write_verdict m n offsets.now columns.now (length index.old) (length file.old)) file.old }
 {
     match file_calls::write_plan(m, n, offsets, columns, index, file) {
-        WriteAnswer::Written(k) => pack(0, YES, k, 0),
-        WriteAnswer::Refused(r) => pack(0, r.question, r.place, r.lane),
+        Ok(bytes) => pack(0, YES, bytes, 0),
+        Err(why) => pack_refusal(why),
     }
 }
 
@@ -87,8 +94,8 @@ pub extern "C" fn ipm_read_plan(
     ensures words { index.new ≡ words_after m n offsets.now columns.now (read_verdict m n offsets.now columns.now file.now (length index.old)) index.old }
 {
     match file_calls::read_plan(m, n, offsets, columns, file, index) {
-        PlanAnswer::Planned(words) => pack(0, YES, words, 0),
-        PlanAnswer::Refused(no) => pack(0, no.question, no.place, no.lane),
+        Ok(words) => pack(0, YES, words, 0),
+        Err(why) => pack_refusal(why),
     }
 }
 
@@ -110,7 +117,7 @@ pub extern "C" fn ipm_sizes(
     ensures results { results stored.new shared.new products.new words.new numbers.new ≡ results_left (sizes_verdict m n s offsets.now columns.now) (results stored.old shared.old products.old words.old numbers.old) }
 {
     match sizes::sizes(m, n, s, offsets, columns) {
-        SizesAnswer::Sized(z) => {
+        Ok(z) => {
             *stored = z.stored as u64;
             *shared = z.shared as u64;
             *products = z.products as u64;
@@ -118,7 +125,7 @@ pub extern "C" fn ipm_sizes(
             *numbers = z.numbers as u64;
             pack(0, YES, z.words, 0)
         }
-        SizesAnswer::Refused(r) => pack(0, r.question, r.place, r.lane),
+        Err(why) => pack_refusal(why),
     }
 }
 
@@ -129,12 +136,12 @@ pub extern "C" fn ipm_costliest(m: usize, stored: &mut u64, products: &mut u64) 
     ensures results { costs_of stored.new products.new ≡ costs_left (costliest_verdict m) (costs_of stored.old products.old) }
 {
     match sizes::costliest(m) {
-        CostliestAnswer::Costs(z) => {
+        Ok(z) => {
             *stored = z.stored as u64;
             *products = z.products as u64;
             pack(0, YES, 0, 0)
         }
-        CostliestAnswer::Refused(r) => pack(0, r.question, r.place, r.lane),
+        Err(why) => pack_refusal(why),
     }
 }
 
@@ -160,7 +167,7 @@ pub extern "C" fn ipm_solve(
     index: &mut [u32],
     work: &mut [f64],
 ) -> u64
-    ensures { SolvedInOne (with_file (is_filed filed) file.now (given m n s offsets.now columns.now values.now b.now c.now tolerances.now (controls limit centring damping))) (lent output.old prices.old index.old work.old) (lent output.new prices.new index.new work.new) result }
+    ensures { SolvedInOne (with_file (lent_file filed file.now) (given m n s offsets.now columns.now values.now b.now c.now tolerances.now (controls limit centring damping))) (lent output.old prices.old index.old work.old) (lent output.new prices.new index.new work.new) result }
 {
     match ipm_simd::solve(
         m,
@@ -175,15 +182,14 @@ pub extern "C" fn ipm_solve(
         limit,
         centring,
         damping,
-        is_filed(filed),
-        file,
+        lent_file(filed, file),
         output,
         prices,
         index,
         work,
     ) {
-        SolveAnswer::Accepted(k, length) => pack(length, YES, k, 0),
-        SolveAnswer::Refused(r) => pack(0, r.question, r.place, r.lane),
+        Ok(solution) => pack(solution.prices, YES, solution.test, 0),
+        Err(why) => pack_refusal(why),
     }
 }
 

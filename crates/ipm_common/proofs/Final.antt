@@ -49,3 +49,10 @@ module _ (m n : ℕ) (off cols index : List ℕ) where
 -- a memory that is long enough begins with the plan
 pub answered_yes : {m n : ℕ} {off cols old new : List ℕ} {v : Verdict} → Answered m n off cols old new v → size_w off cols m n ≤ length old → new ≡ plan_words off cols m n ++ drop (size_w off cols m n) old
 answered_yes {m} {n} {off} {cols} {old} a h = a.words ∙ ap (λ (v : Verdict). left v (plan_words off cols m n ++ drop (size_w off cols m n) old) old) (a.says ∙ sym (room_yes m n off cols old h))
+
+-- and gets no no
+pub answered_no : {m n : ℕ} {off cols old new : List ℕ} {q p l : ℕ} → Answered m n off cols old new (refused q p l) → size_w off cols m n ≤ length old → ⊥
+answered_no {m} {n} {off} {cols} {old} a h =
+    let e = a.says ∙ sym (room_yes m n off cols old h) in
+    let z : ◌≡◌ {A = ℕ} 0 1 = cc in
+    omega arith

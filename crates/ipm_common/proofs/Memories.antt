@@ -1,22 +1,20 @@
 -- The memories that a plan is made in. Assumes nothing.
-use mathlib.Core.Path.{◌≡◌}
-use mathlib.Core.List.{List}
-use Prim.Native.Nat.{ℕ, suc, ◌+◌, ◌≤◌}
+use Prim.Native.Nat.{ℕ, suc, ◌≤◌}
 use native.Mathlib.Omega.{arith}
-use lib.ListN.{length}
-use Rattle.base.specs.Sums.{sum}
+use lib.ListN.{replicate, length-replicate}
 use Rattle.base.proofs.Sums.{sum_more}
-use Rattle.ipm_common.specs.Plan.{Memories}
+use Rattle.lists.proofs.Few.{pairs_16, pairs_256}
+use Rattle.transpose.specs.Bins.{Room}
+use Rattle.ipm_common.specs.Plan.{Enough}
 
--- memories for so many rows and columns do for fewer
-pub memories_for : (rows columns entries : ℕ) → sum rows suc ≡ entries → entries ≤ 65536 → rows ≤ columns → (m n : ℕ) → m ≤ rows → n ≤ columns
-    → (lindptr lindices mark next again : List ℕ) → length lindptr ≡ rows + 1 → length lindices ≡ entries → length mark ≡ columns + 1 → length next ≡ columns + 1 → length again ≡ columns + 1
-    → Memories m n lindptr lindices mark next again
-memories_for rows columns entries e f g m n hm hn lindptr lindices mark next again a b c d h = record {
-  starts = omega arith;
-  columns = omega (arith, sum_more m rows suc hm);
-  short = omega arith;
-  marks = record { rows = omega arith; columns = omega arith };
-  counts = record { rows = omega arith; columns = omega arith };
-  firsts = record { rows = omega arith; columns = omega arith };
-}
+-- memories for 16 rows and 32 columns
+pub enough_few : (m n : ℕ) → m ≤ 16 → n ≤ 32 → Enough m n 17 136 33
+enough_few m n hm hn = record { rows = (omega arith, omega arith); entries = (omega (arith, pairs_16, sum_more m 16 suc hm), omega arith); columns = (omega arith, omega arith, omega arith) }
+
+-- and for 256 rows and 1024 columns
+pub enough_max : (m n : ℕ) → m ≤ 256 → n ≤ 1024 → Enough m n 257 32896 1025
+enough_max m n hm hn = record { rows = (omega arith, omega arith); entries = (omega (arith, pairs_256, sum_more m 256 suc hm), omega arith); columns = (omega arith, omega arith, omega arith) }
+
+-- a memory over the columns, as it is made
+pub cleared : {m n starts pairs bins : ℕ} → Enough m n starts pairs bins → Room m n (replicate bins 0)
+cleared {m} {n} {starts} {pairs} {bins} e = record { rows = omega (arith, length-replicate {A = ℕ} bins 0, e.columns.0); columns = omega (arith, length-replicate {A = ℕ} bins 0, e.columns.1) }

@@ -1,19 +1,16 @@
 -- The six questions of plan, its answer and what it leaves in the index memory. Definitions only.
-use Rattle.std.specs.Prelude.{◌≡◌, List, ◌++◌, ℕ, suc, ◌<◌, ◌≤◌, ◌*◌, leb, length, drop}
+use Rattle.std.specs.Prelude.{◌≡◌, List, ◌++◌, ℕ, suc, ◌<◌, ◌≤◌, ◌*◌, leb, length, drop, Result}
 use Rattle.base.specs.Sums.{sum}
-use Rattle.csr.specs.Verdict.{Verdict, passed, told, planned, refused, ask, and_then, refusal}
+use Rattle.csr.specs.Verdict.{Verdict, passed, told, planned, refused, ask, and_then, told_by}
 use Rattle.csr.specs.Questions.{first_no, max_rows}
 use Rattle.csr.specs.Counts.{size_w, Counted}
 use Rattle.lists.specs.Lists.{plan_words}
-use Rattle.transpose.specs.Bins.{Room}
-use Rattle.ipm_common.specs.declared.PlanAnswer.{PlanAnswer}
-use Rattle.ipm_common.specs.declared.PlanAnswer.TheVariants.{Planned, Refused}
+use Rattle.csr.specs.declared.Refusal.{Refusal}
 use Rattle.csr.specs.Csr.{max_places}
 
--- each case of the answer, by document 01's number and values
-abbrev pub told_plan : PlanAnswer → Verdict
-told_plan (Planned w) = told (planned w)
-told_plan (Refused r) = refusal r
+-- the answer, by document 01's number and values
+abbrev pub told_plan : Result ℕ Refusal → Verdict
+told_plan r = told_by (λ w. told (planned w)) r
 
 -- question 6: has the index memory at least W words?
 unfoldable pub room_verdict : ℕ → ℕ → List ℕ → List ℕ → ℕ → Verdict
@@ -39,14 +36,12 @@ plan_index m n offsets columns index =
     (plan_words offsets columns m n ++ drop (size_w offsets columns m n) index)
     index
 
--- what a plan of m rows and n columns is made in: the factor's rows as lists, and three memories over the columns
-pub record Memories (m n : ℕ) (lindptr lindices mark next again : List ℕ) : Type 0 where
-  pub starts : m < length lindptr
-  pub columns : sum m suc ≤ length lindices
-  pub short : length lindices ≤ max_places
-  pub marks : Room m n mark
-  pub counts : Room m n next
-  pub firsts : Room m n again
+-- memories of such lengths do for a plan of m rows and n columns: where each row of the factor starts and the last ends, its pairs, and a word for each column.
+-- None is longer than there are places
+pub record Enough (m n starts pairs bins : ℕ) : Type 0 where
+  pub rows : (m < starts) × (starts ≤ max_places)
+  pub entries : (sum m suc ≤ pairs) × (pairs ≤ max_places)
+  pub columns : (m < bins) × (n < bins) × (bins ≤ max_places)
 
 -- E, S and D, and S is not too large to work with
 pub record Tallied (offsets columns : List ℕ) (m e s d : ℕ) : Type 0 where

@@ -9,12 +9,25 @@ ghost use Rattle.pattern.specs.Ready.{Ready};
 ghost use Rattle.csr.specs.Csr.{Accepted, max_places};
 ghost use Rattle.transpose.specs.Bins.{Room};
 ghost use Rattle.pair_lists.specs.Kept.{Rows};
-ghost use Rattle.ipm_common.specs.Plan.{Memories, told_plan, plan_verdict, plan_index, Answered, Tallied};
+ghost use Rattle.ipm_common.specs.Plan.{Enough, told_plan, plan_verdict, plan_index, Answered, Tallied};
 ghost use Rattle.csr.specs.Questions.{max_rows, max_columns, max_entries};
 
-use csr::{Asked, Refusal};
+use csr::Refusal;
 use layout::Plan;
 use lists::Side;
+
+// How long the memories are that a plan is made in, for few rows and columns and for as many as there may be: where each row of the factor starts, the factor's pairs, and a word for each column.
+pub const FEW_STARTS: usize = Plan::FEW_ROWS + 1;
+
+pub const FEW_PAIRS: usize = Plan::FEW_ROWS * FEW_STARTS / 2;
+
+pub const FEW_BINS: usize = Plan::FEW_COLUMNS + 1;
+
+pub const MAX_STARTS: usize = Plan::MAX_ROWS + 1;
+
+pub const MAX_PAIRS: usize = Plan::MAX_ROWS * MAX_STARTS / 2;
+
+pub const MAX_BINS: usize = Plan::MAX_COLUMNS + 1;
 
 // The sixteen lists. A memory over the columns is marked, two more are counted in.
 fn put_plan(
@@ -104,89 +117,34 @@ fn words(m: usize, n: usize, t: usize, counts: Counts) -> usize
     5 * e + 3 * counts.s + 2 * d + 3 * m + n + 2 * t + 5
 }
 
-// The answer of plan: its words, or the first no.
-#[derive(Clone, Copy)]
-pub enum PlanAnswer {
-    Planned(usize),
-    Refused(Refusal),
-}
-
-// Question 6, and the plan of a matrix that is accepted; the memories are long enough.
-fn plan_in(
+// Question 6, and the plan of a matrix that is accepted, made in memories of such lengths.
+fn plan_in<const STARTS: usize, const PAIRS: usize, const BINS: usize>(
     m: usize,
     n: usize,
     offsets: &[u32],
     columns: &[u32],
-    lindptr: &mut [u32],
-    lindices: &mut [u8],
-    mark: &mut [u32],
-    next: &mut [u32],
-    again: &mut [u32],
     index: &mut [u32],
-) -> PlanAnswer
-    requires { Accepted offsets.now columns.now m n × Memories m n lindptr.old lindices.old mark.old next.old again.old }
+) -> Result<usize, Refusal>
+    requires { Accepted offsets.now columns.now m n × Enough m n STARTS PAIRS BINS }
     ensures { Answered m n offsets.now columns.now index.old index.new (told_plan result) }
 {
     let mut p = [0u64; pattern::WORDS];
+    let mut lindptr = [0u32; STARTS];
+    let mut lindices = [0u8; PAIRS];
+    let mut mark = [0u32; BINS];
+    let mut next = [0u32; BINS];
+    let mut again = [0u32; BINS];
     pattern::pattern(offsets, columns, m, &mut p);
-    pair_lists::list_rows(&p, m, lindptr, lindices);
-    let t = count_all(m, n, offsets, columns, &p, lindptr, lindices, next);
+    pair_lists::list_rows(&p, m, &mut lindptr, &mut lindices);
+    let t = count_all(m, n, offsets, columns, &p, &lindptr, &lindices, &mut next);
     let w = words(m, n, columns.len(), t);
     if index.len() < w {
-        return PlanAnswer::Refused(Refusal::new(Refusal::INDEX_MEMORY, 0, 0));
+        return Err(Refusal::IndexMemory);
     }
     put_plan(
-        offsets, columns, m, n, &p, lindptr, lindices, mark, next, again, index,
+        offsets, columns, m, n, &p, &lindptr, &lindices, &mut mark, &mut next, &mut again, index,
     );
-    PlanAnswer::Planned(w)
-}
-
-// At most 16 rows and 32 columns.
-fn plan_few(m: usize, n: usize, offsets: &[u32], columns: &[u32], index: &mut [u32]) -> PlanAnswer
-    requires { Accepted offsets.now columns.now m n × (m ≤ 16) × (n ≤ 32) }
-    ensures { Answered m n offsets.now columns.now index.old index.new (told_plan result) }
-{
-    let mut lindptr = [0u32; Plan::FEW_ROWS + 1];
-    let mut lindices = [0u8; Plan::FEW_ROWS * (Plan::FEW_ROWS + 1) / 2];
-    let mut mark = [0u32; Plan::FEW_COLUMNS + 1];
-    let mut next = [0u32; Plan::FEW_COLUMNS + 1];
-    let mut again = [0u32; Plan::FEW_COLUMNS + 1];
-    plan_in(
-        m,
-        n,
-        offsets,
-        columns,
-        &mut lindptr,
-        &mut lindices,
-        &mut mark,
-        &mut next,
-        &mut again,
-        index,
-    )
-}
-
-// As many rows as there may be.
-fn plan_many(m: usize, n: usize, offsets: &[u32], columns: &[u32], index: &mut [u32]) -> PlanAnswer
-    requires { Accepted offsets.now columns.now m n }
-    ensures { Answered m n offsets.now columns.now index.old index.new (told_plan result) }
-{
-    let mut lindptr = [0u32; Plan::MAX_ROWS + 1];
-    let mut lindices = [0u8; Plan::MAX_ROWS * (Plan::MAX_ROWS + 1) / 2];
-    let mut mark = [0u32; Plan::MAX_COLUMNS + 1];
-    let mut next = [0u32; Plan::MAX_COLUMNS + 1];
-    let mut again = [0u32; Plan::MAX_COLUMNS + 1];
-    plan_in(
-        m,
-        n,
-        offsets,
-        columns,
-        &mut lindptr,
-        &mut lindices,
-        &mut mark,
-        &mut next,
-        &mut again,
-        index,
-    )
+    Ok(w)
 }
 
 // Question 6, and the plan of a matrix that is accepted.
@@ -196,24 +154,28 @@ pub fn plan_accepted(
     offsets: &[u32],
     columns: &[u32],
     index: &mut [u32],
-) -> PlanAnswer
+) -> Result<usize, Refusal>
     requires { Accepted offsets.now columns.now m n }
     ensures { Answered m n offsets.now columns.now index.old index.new (told_plan result) }
 {
     if m <= Plan::FEW_ROWS && n <= Plan::FEW_COLUMNS {
-        plan_few(m, n, offsets, columns, index)
+        plan_in::<FEW_STARTS, FEW_PAIRS, FEW_BINS>(m, n, offsets, columns, index)
     } else {
-        plan_many(m, n, offsets, columns, index)
+        plan_in::<MAX_STARTS, MAX_PAIRS, MAX_BINS>(m, n, offsets, columns, index)
     }
 }
 
-// Questions 1 to 6, and after six yeses the plan.
-pub fn plan(m: usize, n: usize, offsets: &[u32], columns: &[u32], index: &mut [u32]) -> PlanAnswer
+// Questions 1 to 6, and after six yeses the plan; answers its words.
+pub fn plan(
+    m: usize,
+    n: usize,
+    offsets: &[u32],
+    columns: &[u32],
+    index: &mut [u32],
+) -> Result<usize, Refusal>
     ensures answer { told_plan result ≡ plan_verdict m n offsets.now columns.now (length index.old) }
     ensures words { index.new ≡ plan_index m n offsets.now columns.now index.old }
 {
-    match csr::ask(m, n, offsets, columns, columns.len()) {
-        Asked::Good => plan_accepted(m, n, offsets, columns, index),
-        Asked::Refused(r) => PlanAnswer::Refused(r),
-    }
+    csr::ask(m, n, offsets, columns, columns.len())?;
+    plan_accepted(m, n, offsets, columns, index)
 }

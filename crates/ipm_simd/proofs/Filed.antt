@@ -2,6 +2,7 @@
 use mathlib.Core.Path.{◌≡◌, refl, ap}
 use mathlib.Core.Logic.{◌⊎◌, inl, inr}
 use mathlib.Core.Bool.{Bool, true, false}
+use Rattle.std.specs.Prelude.{Option, Some, None}
 use mathlib.Core.List.{List}
 use Prim.Native.Nat.{ℕ, ◌≤◌}
 use native.Mathlib.Omega.{arith}
@@ -29,9 +30,9 @@ file_answer t lists file = rw (one_by_one t lists file) (go (whole_file t file) 
     go true false c = inr (15, omega arith, omega arith, refl)
     go false b c = inr (14, omega arith, omega arith, refl)
 
-filed_answer : (filed : Bool) (v : Verdict) → FileAnswer v → FileAnswer (if_filed filed v)
-filed_answer true v h = h
-filed_answer false v h = inl refl
+filed_answer : (file : Option (List ℕ)) (says : List ℕ → Verdict) → ((bytes : List ℕ) → FileAnswer (says bytes)) → FileAnswer (if_filed file says)
+filed_answer (Some bytes) says h = h bytes
+filed_answer None says h = inl refl
 
 module _ (a : Given) (B : Buffers) where
   -- questions 1 to 5
@@ -63,8 +64,8 @@ module _ (a : Given) (B : Buffers) where
 
   parts : (matrix_verdict a ≡ matrix_verdict (unfiled a)) ⊎ ((q : ℕ) × (14 ≤ q) × (q ≤ 16) × (matrix_verdict a ≡ refused q 0 0))
   unfolding matrix_verdict
-  parts = part first (if_filed a.filed (file_verdict wide (matrix_lists a.offsets a.columns a.m a.n) a.file))
-      (filed_answer a.filed _ (file_answer wide (matrix_lists a.offsets a.columns a.m a.n) a.file))
+  parts = part first (if_filed a.file (file_verdict wide (matrix_lists a.offsets a.columns a.m a.n)))
+      (filed_answer a.file _ (file_answer wide (matrix_lists a.offsets a.columns a.m a.n)))
 
   pub as_unfiled : AsUnfiled a B
   as_unfiled = record { same = λ none. go none parts }

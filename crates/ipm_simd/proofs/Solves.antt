@@ -1,13 +1,13 @@
 -- From the parts of a solve to its contract. Assumes nothing.
 use mathlib.Core.Path.{◌≡◌, refl, sym, ap, ap₂, ◌∙◌}
-use mathlib.Core.Bool.{Bool}
 use mathlib.Core.List.{List, ◌++◌}
 use Prim.Native.Nat.{ℕ, suc, ◌+◌, ◌-◌, ◌*◌, ◌≤◌, ◌<◌}
 use native.Mathlib.Omega.{arith}
 use lib.ListN.{length, drop, replicate, length-drop}
 use lib.Seq.{ext_get_or, get_or-drop}
 use lib.Ieee.{Float, nan}
-use Rattle.csr.specs.Verdict.{Verdict, passed, and_then, refusal}
+use Rattle.std.specs.Prelude.{Option, Result, Err}
+use Rattle.csr.specs.Verdict.{Verdict, passed, and_then, numbered, refusal}
 use Rattle.csr.specs.declared.Refusal.{Refusal}
 use Rattle.csr.specs.Questions.{first_no}
 use Rattle.csr.specs.Csr.{Accepted}
@@ -44,8 +44,7 @@ use Rattle.memory.specs.Calls.{call_in, memory_in}
 use Rattle.memory.proofs.Calls.{lanes_all}
 use Rattle.outputs.specs.Outputs.{output_of}
 use Rattle.step.specs.Steps.{Untouched}
-use Rattle.ipm_simd.specs.declared.SolveAnswer.{SolveAnswer}
-use Rattle.ipm_simd.specs.declared.SolveAnswer.TheVariants as answers
+use Rattle.ipm_simd.specs.declared.Solution.{Solution}
 use Rattle.ipm_simd.specs.Solve.{Given, lent, controls_of, call, words, room, price_count, lengths_of, planned_has, told_solve, outcome_verdict, lengths_verdict, memory_verdict, with_file, if_filed, matrix_verdict, begun, solve_verdict, if_passed, solve_buffers, Solved}
 use Rattle.ipm_simd.specs.Parts.{Asked10, Finished, Continued}
 use Rattle.ipm_simd.proofs.Questions.{lengths_passed, not_passed}
@@ -143,7 +142,7 @@ module _ (a : Given) {output prices work : List Float} {index : List ℕ} {store
       go (no_at11 k l) q = refl
       go (no_at12 k) q = refl
 
-  pub finished : {index1 : List ℕ} {work1 output1 prices1 work2 : List Float} {o : Outcome} {r : SolveAnswer}
+  pub finished : {index1 : List ℕ} {work1 output1 prices1 work2 : List Float} {o : Outcome} {r : Result Solution Refusal}
       → index1 ≡ words a ++ drop (size_w a.offsets a.columns a.m a.n) index
       → Untouched 4 (l_at a.n a.m a.s + stored) work work1
       → Ran (call a) a.limit (memory_in (plan_of a stored shared products) 4 work1) o
@@ -215,18 +214,18 @@ module _ (a : Given) (B : Buffers) where
         up_to = q.up_to;
       }
 
-  pub go_on : {B' : Buffers} {r : SolveAnswer} → passed ≡ memory_verdict a B → Finished a B B' r → Continued a B B' r
+  pub go_on : {B' : Buffers} {r : Result Solution Refusal} → passed ≡ memory_verdict a B → Finished a B B' r → Continued a B B' r
   go_on v F = record {
     answer = F.answer ∙ ap (λ (x : Verdict). and_then x (outcome_verdict (price_count a) (solved (call a) a.limit))) v;
     buffers = F.buffers ∙ ap (λ (x : Verdict). if_passed a x (leaves (call a) (words a) (room a) a.limit B) B) v;
     demand3 = λ _. F.demand3;
   }
 
-  pub refused_here : (r : Refusal) → refusal r ≡ memory_verdict a B → Continued a B B (answers.Refused r)
+  pub refused_here : (r : Refusal) → refusal r ≡ memory_verdict a B → Continued a B B (Err r)
   refused_here r v = record {
     answer = ap (λ (x : Verdict). and_then x (outcome_verdict (price_count a) (solved (call a) a.limit))) v;
     buffers = ap (λ (x : Verdict). if_passed a x (leaves (call a) (words a) (room a) a.limit B) B) v;
-    demand3 = λ p. absurd (not_passed r.question r.place r.lane (v ∙ p));
+    demand3 = λ p. absurd (not_passed (numbered r).question (numbered r).place (numbered r).lane (v ∙ p));
   }
 
   begun_is : (v : Verdict) → matrix_verdict a ≡ v → begun a B ≡ and_then v (memory_verdict a B)
@@ -241,7 +240,7 @@ module _ (a : Given) (B : Buffers) where
   unfolding solve_buffers
   buffers_are v e = ap (λ (x : Verdict). if_passed a x (leaves (call a) (words a) (room a) a.limit B) B) e
 
-  pub solved_on : {B' : Buffers} {r : SolveAnswer} → passed ≡ matrix_verdict a → Continued a B B' r → Solved a B B' r
+  pub solved_on : {B' : Buffers} {r : Result Solution Refusal} → passed ≡ matrix_verdict a → Continued a B B' r → Solved a B B' r
   solved_on {B'} {r} v K =
       let z : begun a B ≡ memory_verdict a B = begun_is passed (sym v) in
       record {
@@ -252,24 +251,24 @@ module _ (a : Given) (B : Buffers) where
             (solved (call a) a.limit, K.answer ∙ ap (λ (x : Verdict). and_then x (outcome_verdict (price_count a) (solved (call a) a.limit))) q, K.demand3 q);
       }
 
-  pub solved_not : (r : Refusal) → refusal r ≡ matrix_verdict a → Solved a B B (answers.Refused r)
+  pub solved_not : (r : Refusal) → refusal r ≡ matrix_verdict a → Solved a B B (Err r)
   solved_not r v =
       let z : begun a B ≡ refusal r = begun_is (refusal r) (sym v) in
       record {
         answer = sym (verdict_is (refusal r) z);
         buffers = sym (buffers_are (refusal r) z);
-        demand3 = λ p. absurd (not_passed r.question r.place r.lane (sym z ∙ p));
+        demand3 = λ p. absurd (not_passed (numbered r).question (numbered r).place (numbered r).lane (sym z ∙ p));
       }
 
 -- ---- a file that is lent or not
 
 -- what follows questions 1 to 5 and 14 to 16 does not look at it
-pub with_file_lem : (filed : Bool) (file : List ℕ) (a : Given) {B B' : Buffers} {r : SolveAnswer} → Continued a B B' r → Continued (with_file filed file a) B B' r
+pub with_file_lem : (file : Option (List ℕ)) (a : Given) {B B' : Buffers} {r : Result Solution Refusal} → Continued a B B' r → Continued (with_file file a) B B' r
 unfolding memory_verdict
-with_file_lem filed file a K = record { answer = K.answer; buffers = K.buffers; demand3 = K.demand3 }
+with_file_lem file a K = record { answer = K.answer; buffers = K.buffers; demand3 = K.demand3 }
 
 pub matrix_is : (a : Given) {v : Verdict}
-    → v ≡ and_then (first_no a.m a.n a.offsets a.columns (length a.values)) (if_filed a.filed (file_verdict wide (matrix_lists a.offsets a.columns a.m a.n) a.file))
+    → v ≡ and_then (first_no a.m a.n a.offsets a.columns (length a.values)) (if_filed a.file (file_verdict wide (matrix_lists a.offsets a.columns a.m a.n)))
     → v ≡ matrix_verdict a
 unfolding matrix_verdict
 matrix_is a e = e

@@ -1,9 +1,9 @@
 -- The public call `solve`: its questions, its answer, what it leaves in the lent lists, and demand 3. Definitions only.
-use Rattle.std.specs.Prelude.{◌≡◌, Bool, true, false, ◌&&◌, List, [], ℕ, ◌*◌, ◌≤◌, eqb, leb, length, Float}
+use Rattle.std.specs.Prelude.{◌≡◌, Bool, ◌&&◌, List, ℕ, ◌*◌, ◌≤◌, eqb, leb, length, Float, Option, Some, None, Result}
 use Rattle.layout.specs.Layout.{working_size}
 use Rattle.lanes.specs.Controls.{controls, fractions_proper}
 use Rattle.lanes.specs.declared.Controls.{Controls}
-use Rattle.csr.specs.Verdict.{Verdict, passed, told, refused, accepted as accepted_at, ask, and_then, refusal}
+use Rattle.csr.specs.Verdict.{Verdict, passed, told, refused, accepted as accepted_at, ask, and_then, told_by}
 use Rattle.csr.specs.Questions.{first_no}
 use Rattle.csr.specs.Counts.{count_e, size_w, size_f}
 use Rattle.csr.specs.Pattern.{has, row}
@@ -19,8 +19,8 @@ use Rattle.machine.specs.Outcome.{largest_limit, Call, solved}
 use Rattle.machine.specs.Demand3.{Buffers, leaves, Demand3}
 use Rattle.machine.specs.Work.{problem_of}
 use Rattle.ipm_simd.specs.declared.Lengths.{Lengths}
-use Rattle.ipm_simd.specs.declared.SolveAnswer.{SolveAnswer}
-use Rattle.ipm_simd.specs.declared.SolveAnswer.TheVariants.{Accepted, Refused}
+use Rattle.csr.specs.declared.Refusal.{Refusal}
+use Rattle.ipm_simd.specs.declared.Solution.{Solution}
 
 -- what a caller lends and states, but for the lists that may change
 pub record Given : Type 0 where
@@ -36,9 +36,8 @@ pub record Given : Type 0 where
   pub limit : ℕ
   pub centring : Float
   pub damping : Float
-  -- whether a plan's file is lent, and its bytes
-  pub filed : Bool
-  pub file : List ℕ
+  -- the bytes of a plan's file, where one is lent
+  pub file : Option (List ℕ)
 
 -- with no file
 abbrev pub given : ℕ → ℕ → ℕ → List ℕ → List ℕ → List Float → List Float → List Float → List Float → Controls → Given
@@ -56,13 +55,12 @@ given m n s offsets columns values b c tolerances k =
       limit = k.limit;
       centring = k.centring;
       damping = k.damping;
-      filed = false;
-      file = [];
+      file = None;
     }
 
 -- the same, where a file is lent or not
-abbrev pub with_file : Bool → List ℕ → Given → Given
-with_file filed file a =
+abbrev pub with_file : Option (List ℕ) → Given → Given
+with_file file a =
     record {
       m = a.m;
       n = a.n;
@@ -76,20 +74,18 @@ with_file filed file a =
       limit = a.limit;
       centring = a.centring;
       damping = a.damping;
-      filed = filed;
       file = file;
     }
 
 abbrev pub unfiled : Given → Given
-unfiled a = with_file false [] a
+unfiled a = with_file None a
 
 abbrev pub lent : List Float → List Float → List ℕ → List Float → Buffers
 lent output prices index work = record { output = output; prices = prices; index = index; work = work }
 
--- each case of the answer, by document 01's number and values
-abbrev pub told_solve : SolveAnswer → Verdict
-told_solve (Accepted k count) = told (accepted_at k count)
-told_solve (Refused r) = refusal r
+-- the answer, by document 01's number and values
+abbrev pub told_solve : Result Solution Refusal → Verdict
+told_solve r = told_by (λ a. told (accepted_at a.test a.prices)) r
 
 -- how the tests end, as an answer, where y has so many numbers: 'accepted and the test', with 'its length beside the test'; 11 with its test and its lane; 12 with N
 abbrev pub outcome_verdict : ℕ → Outcome → Verdict
@@ -119,9 +115,9 @@ lengths_verdict W E m n s L k =
     (refused 6 0 0)
 
 -- 'A solve may take such a file': 14 to 16 are asked where one is lent
-abbrev pub if_filed : Bool → Verdict → Verdict
-if_filed true asked = asked
-if_filed false asked = passed
+abbrev pub if_filed : Option (List ℕ) → (List ℕ → Verdict) → Verdict
+if_filed (Some file) asked = asked file
+if_filed None asked = passed
 
 module _ (a : Given) where
   -- what the caller set
@@ -179,7 +175,7 @@ module _ (a : Given) where
   unfolding first_no file_verdict
   matrix_verdict =
       and_then (first_no a.m a.n a.offsets a.columns (length a.values))
-      (if_filed a.filed (file_verdict wide (matrix_lists a.offsets a.columns a.m a.n) a.file))
+      (if_filed a.file (file_verdict wide (matrix_lists a.offsets a.columns a.m a.n)))
 
   -- questions 1 to 5, 14 to 16, 6 to 10 and 13
   unfoldable pub begun : Buffers → Verdict
@@ -202,7 +198,7 @@ module _ (a : Given) where
   solve_buffers B = if_passed (begun B) (leaves call words room a.limit B) B
 
   -- the answer, the lent lists, and demand 3 whole once questions 1 to 10, 13 and, of a file that is lent, 14 to 16 got a yes
-  pub record Solved (B B' : Buffers) (r : SolveAnswer) : Type 0 where
+  pub record Solved (B B' : Buffers) (r : Result Solution Refusal) : Type 0 where
     pub answer : told_solve r ≡ solve_verdict B
     pub buffers : B' ≡ solve_buffers B
     pub demand3 : begun B ≡ passed → (o : Outcome) × (told_solve r ≡ outcome_verdict price_count o) × Demand3 call words room planned_has a.limit B B' o

@@ -1,17 +1,16 @@
 -- The calls of a test give in each lane what the machine's test yields. Assumes nothing.
 use mathlib.Core.Path.{◌≡◌, refl, sym, ap, ◌∙◌}
-use mathlib.Core.Bool.{true, false}
 use mathlib.Core.List.{List}
-use Prim.Native.Nat.{ℕ, ◌+◌, ◌*◌, ◌≤◌, ◌<◌}
+use Prim.Native.Nat.{ℕ, ◌+◌, ◌≤◌, ◌<◌}
 use native.Mathlib.Omega.{arith}
-use borrow.Author.Tests.{eq-eqb}
-use lib.Ieee.{Float, nan, inf, fin, ne, is_nan, up, down}
+use lib.Ieee.{Float}
 use Rattle.lanes.specs.Lists.{at, vec}
 use Rattle.machine.specs.Machine.{Problem, LaneData, Settings, State, primal_residual, dual_residual, R, Q, G, g, mu, status}
 use Rattle.lanes.specs.Arithmetic.{◌⊕◌, ◌⊗◌, ◌⊘◌, √, Σ, norm, null, one, whole}
 use Rattle.machine.specs.declared.Status.{Status}
 use Rattle.lanes.proofs.Lists.{vec_at, fold_same}
-use Rattle.lanes.specs.Lanes.{On}
+use Rattle.lanes.specs.Lanes.{lanes, On, Width}
+use Rattle.lanes.proofs.Quads.{on, ◌▹◌}
 use Rattle.lanes.specs.Region.{reg}
 use Rattle.lanes.proofs.Regions.{reg_at}
 use Rattle.residuals.specs.Residuals.{q_at, r_at}
@@ -25,14 +24,6 @@ use Rattle.lane_test.proofs.ToMachine.{row_less, col_less}
 pub reg_front : (width : ℕ) (ws : List Float) (o k n t e : ℕ) → e < k → k ≤ n → at (reg width ws o k t) e ≡ at (reg width ws o n t) e
 reg_front width ws o k n t e h l = reg_at width ws o k t e h ∙ sym (reg_at width ws o n t e (omega arith))
 
-pub nan_test : (g : Float) → ne g g ≡ is_nan g
-unfolding ne is_nan
-nan_test nan = refl
-nan_test (inf true) = refl
-nan_test (inf false) = refl
-nan_test (fin true m e) = rw (eq-eqb (m * up e * down e) (m * up e * down e) refl)
-nan_test (fin false m e) = rw (eq-eqb (m * up e * down e) (m * up e * down e) refl)
-
 Σ-same : (n : ℕ) (f h : ℕ → Float) → ((k : ℕ) → k < n → f k ≡ h k) → Σ n f ≡ Σ n h
 unfolding Σ
 Σ-same n f h e = fold_same n (λ k v. v ⊕ f k) (λ k v. v ⊕ h k) null (λ k b r. ap (λ (x : Float). r ⊕ x) (e k b))
@@ -40,6 +31,10 @@ unfolding Σ
 squares : (n : ℕ) (f h : ℕ → Float) → ((k : ℕ) → k < n → f k ≡ h k) → √ (Σ n (λ k. f k ⊗ f k)) ≡ norm n (vec n h)
 unfolding norm
 squares n f h e = ap √ (Σ-same n (λ k. f k ⊗ f k) (λ k. at (vec n h) k ⊗ at (vec n h) k) (λ k b. rw (vec_at n h k b, e k b)))
+
+-- the roots of the lanes' sums over their divisors
+pub roots_on : {w : ℕ} → Width w → (sums by : List Float) {r : List Float} {f : ℕ → Float} → r ≡ lanes (λ l. √ (at sums l) ⊘ at by l) → On w sums f → On w r (λ l. √ (f l) ⊘ at by l)
+roots_on W sums by e s = on W {f = λ l. √ (at sums l) ⊘ at by l} e ▹ (λ l b. ap (λ (v : Float). √ v ⊘ at by l) (s.lane l b))
 
 module _ (A : Problem) (H : Settings) (d : LaneData) (q : State) where
   r_machine : RowsOf A → √ (Σ A.m (λ i. r_at A.off A.cols A.vals A.s d.b q.x q.w i ⊗ r_at A.off A.cols A.vals A.s d.b q.x q.w i)) ⊘ H.divisor_r A d q ≡ R A H d q

@@ -38,49 +38,6 @@ fn root_over(squares: [f64; 4], by: [f64; 4]) -> [f64; 4]
     div4(a, by)
 }
 
-// R, given its divisors.
-fn primal_feasibility(
-    off: &[u32],
-    cols: &[u32],
-    vals: &[f64],
-    b: &[f64],
-    block: Block,
-    work: &[f64],
-    width: usize,
-    mem: Regions,
-    by: [f64; 4],
-) -> [f64; 4]
-    requires { Rows mem.m mem.n off.now cols.now vals.now × Laid width mem work.now × Within block width mem.m b.now }
-    ensures { On width result (λ l. √ (primal_sum width mem off.now cols.now vals.now block b.now work.now l) ⊘ at by l) }
-{
-    root_over(
-        primal_squares(off, cols, vals, b, block, work, width, mem),
-        by,
-    )
-}
-
-// Q, given its divisors.
-fn dual_feasibility(
-    atindptr: &[u32],
-    atindices: &[u32],
-    atmap: &[u32],
-    vals: &[f64],
-    c: &[f64],
-    block: Block,
-    work: &[f64],
-    width: usize,
-    mem: Regions,
-    by: [f64; 4],
-) -> [f64; 4]
-    requires { Cols mem.n mem.m atindptr.now atindices.now atmap.now vals.now × Laid width mem work.now × Within block width mem.n c.now }
-    ensures { On width result (λ l. √ (dual_sum width mem atindptr.now atindices.now atmap.now vals.now block c.now work.now l) ⊘ at by l) }
-{
-    root_over(
-        dual_squares(atindptr, atindices, atmap, vals, c, block, work, width, mem),
-        by,
-    )
-}
-
 // g: Σ z·x, given, + Σ w·y over the slack rows.
 fn gamma(work: &[f64], width: usize, mem: Regions, zx: [f64; 4]) -> [f64; 4]
     requires { Laid width mem work.now }
@@ -142,19 +99,14 @@ struct Tolerances {
 }
 
 // What one lane's test yields, of R, Q, G, mu and its tolerances.
-#[tactic(auto, using(crate::proofs::Tests::nan_test))]
 fn judge(r: f64, q: f64, g: f64, mu: f64, tol: Tolerances) -> Status
     ensures { result ≡ judged r q g mu tol.primal tol.dual tol.gap }
 {
-    if g != g {
+    if g.is_nan() {
         return Status::Spoilt;
     }
-    if r < tol.primal {
-        if q < tol.dual {
-            if g < tol.gap {
-                return Status::Done;
-            }
-        }
+    if r < tol.primal && q < tol.dual && g < tol.gap {
+        return Status::Done;
     }
     Status::Step(mu)
 }
@@ -173,22 +125,7 @@ fn tolerances_of(tol: &[f64], block: Block, l: usize) -> Tolerances
     }
 }
 
-fn judge_lane(
-    r: [f64; 4],
-    q: [f64; 4],
-    g: [f64; 4],
-    mu: [f64; 4],
-    tol: &[f64],
-    block: Block,
-    l: usize,
-) -> Status
-    requires { (l < 4) × (block.total ≤ 16) × (block.first + l < block.total) × (3 * block.total ≤ length tol.now) }
-    ensures { result ≡ judged_lane block r q g mu tol.now l }
-{
-    let given = tolerances_of(tol, block, l);
-    judge(r[l], q[l], g[l], mu[l], given)
-}
-
+// Each of the block's lanes, judged by its own numbers and tolerances.
 fn judge4(
     r: [f64; 4],
     q: [f64; 4],
@@ -201,20 +138,12 @@ fn judge4(
     requires { (block.total ≤ 16) × (block.first + width ≤ block.total) × (3 * block.total ≤ length tol.now) × Width width }
     ensures { (l : ℕ) → l < width → get_or result l Spoilt ≡ judged_lane block r q g mu tol.now l }
 {
-    let a = judge_lane(r, q, g, mu, tol, block, 0);
-    if width == 1 {
-        return [a, a, a, a];
+    let mut statuses = [Status::Spoilt; 4];
+    for l in 0..width {
+        let given = tolerances_of(tol, block, l);
+        statuses[l] = judge(r[l], q[l], g[l], mu[l], given);
     }
-    let b = judge_lane(r, q, g, mu, tol, block, 1);
-    if width == 2 {
-        return [a, b, b, b];
-    }
-    let c = judge_lane(r, q, g, mu, tol, block, 2);
-    if width == 3 {
-        return [a, b, c, c];
-    }
-    let d = judge_lane(r, q, g, mu, tol, block, 3);
-    [a, b, c, d]
+    statuses
 }
 
 // The test: of each lane, what its numbers yield, given what `measure` says of them and the divisors of R and of Q.
@@ -237,17 +166,14 @@ pub fn test(
     requires { Planned off.now cols.now vals.now plan index.now × Lent block width plan.m plan.n plan.s b.now c.now tol.now × (l_in plan ≤ room width work.now) }
     ensures { (H : Settings) → Judges width (problem_in plan off.now cols.now vals.now) H (data_in plan block b.now c.now tol.now) work.now sums.nx sums.ny sums.g sums.mu rdiv qdiv result }
 {
-    let nx = sums.nx;
-    let ny = sums.ny;
-    let g = sums.g;
-    let mu = sums.mu;
+    let Measures { nx, ny, g, mu } = sums;
     let mem = plan.regions();
     let atindptr = plan.atindptr(index);
     let atindices = plan.atindices(index);
     let atmap = plan.atmap(index);
-    let r = primal_feasibility(off, cols, vals, b, block, work, width, mem, rdiv);
-    let q = dual_feasibility(
-        atindptr, atindices, atmap, vals, c, block, work, width, mem, qdiv,
-    );
+    let primal = primal_squares(off, cols, vals, b, block, work, width, mem);
+    let dual = dual_squares(atindptr, atindices, atmap, vals, c, block, work, width, mem);
+    let r = root_over(primal, rdiv);
+    let q = root_over(dual, qdiv);
     judge4(r, q, gap_in(g, nx, ny), mu, tol, block, width)
 }

@@ -41,18 +41,10 @@ pub enum Take {
 pub fn has_head(which: Which) -> bool
     ensures { result ≡ begins which }
 {
-    match which {
-        Which::AnormIndptr => true,
-        Which::AnormIndptrI => false,
-        Which::AnormIndptrJ => false,
-        Which::AnormIndices => false,
-        Which::LdecompIndptr => true,
-        Which::LdecompIndptrI => false,
-        Which::LdecompIndptrJ => false,
-        Which::Lindptr => true,
-        Which::LdiagIndptr => false,
-        Which::Lindices => false,
-    }
+    matches!(
+        which,
+        Which::AnormIndptr | Which::LdecompIndptr | Which::Lindptr
+    )
 }
 
 // The factor's columns (ltindptr, ltindices, ltmap), or the matrix's (atindptr, atindices, atmap).
@@ -70,19 +62,22 @@ pub enum What {
 }
 
 // The lists of pairs in their order.
+const IN_ORDER: [Which; 10] = [
+    Which::AnormIndptr,
+    Which::AnormIndptrI,
+    Which::AnormIndptrJ,
+    Which::AnormIndices,
+    Which::LdecompIndptr,
+    Which::LdecompIndptrI,
+    Which::LdecompIndptrJ,
+    Which::Lindptr,
+    Which::LdiagIndptr,
+    Which::Lindices,
+];
+
+// The list of pairs at a place in their order.
 pub fn which_field(k: usize) -> Which
     ensures { result ≡ field k }
 {
-    match k {
-        0 => Which::AnormIndptr,
-        1 => Which::AnormIndptrI,
-        2 => Which::AnormIndptrJ,
-        3 => Which::AnormIndices,
-        4 => Which::LdecompIndptr,
-        5 => Which::LdecompIndptrI,
-        6 => Which::LdecompIndptrJ,
-        7 => Which::Lindptr,
-        8 => Which::LdiagIndptr,
-        _ => Which::Lindices,
-    }
+    *IN_ORDER.get(k).unwrap_or(&Which::Lindices)
 }

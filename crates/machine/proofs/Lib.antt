@@ -1,3 +1,4 @@
+pub mod Lowest
 pub mod Lanes
 pub mod Held
 pub mod Floats

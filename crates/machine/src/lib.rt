@@ -1,6 +1,7 @@
 #![tactic(auto)]
 
 ghost use Rattle.std.specs.Prelude.{◌≡◌, not, ◌≤◌, get_or};
+ghost use Rattle.base.specs.Numbers.{below};
 ghost use Rattle.lanes.specs.Lists.{first};
 ghost use Rattle.machine.specs.Machine.{spoilt};
 ghost use Rattle.machine.specs.Outcome.{is_spoilt, is_done};
@@ -21,54 +22,32 @@ pub enum Outcome {
     NoAt12(usize),
 }
 
-pub fn is_spoilt(t: Status) -> bool
-    ensures { result ≡ is_spoilt t }
-{
-    match t {
-        Status::Spoilt => true,
-        Status::Done => false,
-        Status::Step(_) => false,
+impl Status {
+    pub fn is_spoilt(self) -> bool
+        ensures { result ≡ is_spoilt self }
+    {
+        matches!(self, Status::Spoilt)
+    }
+
+    pub fn is_done(self) -> bool
+        ensures { result ≡ is_done self }
+    {
+        matches!(self, Status::Done)
     }
 }
 
-pub fn is_done(t: Status) -> bool
-    ensures { result ≡ is_done t }
-{
-    match t {
-        Status::Spoilt => false,
-        Status::Done => true,
-        Status::Step(_) => false,
-    }
-}
-
-// The lowest spoilt lane of the first `width`, or `width`.
-pub fn lowest_spoilt(statuses: [Status; 4], width: usize) -> usize
+// The lowest spoilt lane of the first `width`.
+pub fn lowest_spoilt(statuses: [Status; 4], width: usize) -> Option<usize>
     requires { width ≤ 4 }
-    ensures { result ≡ first width (λ l. is_spoilt (get_or statuses l spoilt)) }
+    ensures { result ≡ below width (first width (λ l. is_spoilt (get_or statuses l spoilt))) }
 {
-    let mut l: usize = 0;
-    while l < width {
-        let t = statuses[l];
-        if is_spoilt(t) {
-            return l;
-        }
-        l += 1;
-    }
-    width
+    statuses[..width].iter().position(|t| t.is_spoilt())
 }
 
-// The lowest lane that is not done of the first `width`, or `width`.
-pub fn lowest_undone(statuses: [Status; 4], width: usize) -> usize
+// The lowest lane that is not done of the first `width`.
+pub fn lowest_undone(statuses: [Status; 4], width: usize) -> Option<usize>
     requires { width ≤ 4 }
-    ensures { result ≡ first width (λ l. not (is_done (get_or statuses l spoilt))) }
+    ensures { result ≡ below width (first width (λ l. not (is_done (get_or statuses l spoilt)))) }
 {
-    let mut l: usize = 0;
-    while l < width {
-        let t = statuses[l];
-        if !is_done(t) {
-            return l;
-        }
-        l += 1;
-    }
-    width
+    statuses[..width].iter().position(|t| !t.is_done())
 }

@@ -10,29 +10,14 @@ ghost use Rattle.outputs.specs.Outputs.{written, output_of, Lent};
 use layout::Plan;
 use machine::Outcome;
 
-// One list takes another's numbers.
-fn copy(output: &mut [f64], numbers: &[f64])
-    requires { length output.old ≡ length numbers.now }
-    ensures { output.new ≡ numbers.now }
-{
-    let mut i = 0;
-    while i < output.len() {
-        output[i] = numbers[i];
-        i += 1;
-    }
-}
-
 // On acceptance the output takes the memory from entry `from` on, as much as it is long.
 fn write_output(outcome: Outcome, lanes: usize, output: &mut [f64], work: &[f64], from: usize)
     requires { lanes * from + length output.old ≤ length work.now }
     ensures { output.new ≡ written outcome (cut (lanes * from) (lanes * from + length output.old) work.now) output.old }
 {
-    let start = lanes * from;
-    let end = start + output.len();
-    match outcome {
-        Outcome::Accepted(_) => copy(output, &work[start..end]),
-        Outcome::NoAt11(_, _) => {}
-        Outcome::NoAt12(_) => {}
+    if let Outcome::Accepted(_) = outcome {
+        let start = lanes * from;
+        output.copy_from_slice(&work[start..start + output.len()]);
     }
 }
 

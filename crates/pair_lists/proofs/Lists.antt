@@ -11,14 +11,25 @@ use Rattle.csr.specs.Pattern.{has, row}
 use Rattle.base.specs.Numbers.{Below, Rising, cut, find}
 use Rattle.base.specs.Sums.{sum, one}
 use Rattle.base.proofs.Sums.{sum_ext, sum_more, sum_room}
+use Rattle.base.specs.Cat as cats
 use Rattle.base.specs.Cat.{cat, pick, Wrote}
-use Rattle.base.proofs.Write.{length_cat, cat_next, length_pick, wrote_join, wrote_as, cat_split}
+use Rattle.std.specs.Prelude.{Option}
+use Rattle.std.specs.Bool.{then_some}
+use Rattle.base.proofs.Write.{length_cat, cat_next, length_pick, wrote_join, wrote_as, then_written, same_text, cat_split}
 use Rattle.transpose.specs.Bins.{Grid}
 use Rattle.pair_lists.specs.Kept.{kept, kept_rows, row_ends, Rows}
 use Rattle.base.proofs.Bools.{or_nil}
 use Rattle.base.proofs.Numbers.{below_more, below_join, below_pick, rising_snoc, cut_part}
 use Rattle.csr.proofs.Has.{has_append, has_self, has_other, find_in, find_out, find_one}
 use Rattle.lists.proofs.Few.{pairs_256}
+
+-- what there is of an optional x, if the test that made it says t
+pub kept_when : {o : Option ℕ} (b t : Bool) (x : ℕ) → o ≡ then_some b x → b ≡ t → cats.kept o ≡ pick t x
+kept_when b t x e f = ap cats.kept e ∙ ap (λ (s : Bool). pick s x) f
+
+pub pick_short : (t : Bool) (x : ℕ) → length (pick t x) ≤ 1
+pick_short true x = omega arith
+pick_short false x = omega arith
 
 -- ---- one row
 module _ (h : ℕ → Bool) where
@@ -33,11 +44,7 @@ module _ (h : ℕ → Bool) where
   pub kept_short : (n : ℕ) → length (kept h n) ≤ n
   unfolding kept cat
   kept_short zero = omega arith
-  kept_short (suc n) = omega (arith, kept_short n, length-append (kept h n) (pick (h n) n), go (h n))
-    where
-      go : (t : Bool) → length (pick t n) ≤ 1
-      go true = omega arith
-      go false = omega arith
+  kept_short (suc n) = omega (arith, kept_short n, length-append (kept h n) (pick (h n) n), pick_short (h n) n)
 
   pub kept_none : (n e : ℕ) → n ≤ e → has (kept h n) e ≡ false
   unfolding kept cat has
@@ -81,21 +88,12 @@ module _ (h : ℕ → Bool) where
       go false ih = subst Rising (sym (append-nil (kept h n))) ih
 
 -- ---- writing a row
-module _ (h : ℕ → Bool) where
-  pub row_start : (a : List ℕ) (start : ℕ) → Wrote a a start (kept h 0) start
-  unfolding kept cat
-  row_start a start = record { is = refl; next = omega arith }
+pub row_start : (h : ℕ → Bool) (a : List ℕ) (start : ℕ) → Wrote a a start (kept h 0) start
+unfolding kept cat
+row_start h a start = record { is = refl; next = omega arith }
 
-  pub row_next : (a b c : List ℕ) (start at r k : ℕ) (t : Bool) → Wrote a b start (kept h k) at → t ≡ h k → Wrote b c at (pick t k) r → Wrote a c start (kept h (k + 1)) r
-  row_next a b c start at r k t p e q =
-      wrote_as a c start r _ _ (ap (λ (s : Bool). kept h k ++ pick s k) e ∙ sym (kept_next h k)) (wrote_join a b c start at r _ _ p q)
-
-  pub row_room : (start l at k n x : ℕ) (t : Bool) → at ≡ start + length (kept h k) → k < n → start + n ≤ l → at + length (pick t x) ≤ l
-  row_room start l at k n x t e b r = omega (arith, kept_short h k, go t)
-    where
-      go : (s : Bool) → length (pick s x) ≤ 1
-      go true = omega arith
-      go false = omega arith
+pub row_next : (h : ℕ → Bool) {a b c : List ℕ} {start at r : ℕ} {x : List ℕ} (k n : ℕ) → n ≡ k + 1 → x ≡ pick (h k) k → Wrote a b start (kept h k) at → Wrote b c at x r → Wrote a c start (kept h n) r
+row_next h k n z e p q = rw z (same_text (ap (λ (y : List ℕ). kept h k ++ y) e ∙ sym (kept_next h k)) (then_written p q))
 
 -- ---- all rows
 module _ (h : ℕ → ℕ → Bool) where
@@ -126,18 +124,18 @@ module _ (h : ℕ → ℕ → Bool) where
     starts = λ k b. let z : k ≡ 0 = omega arith in ap₂ (λ (x : List ℕ) (y : ℕ). get_or x y 0) e z ∙ get_or-set_same lindptr 0 0 0 l ∙ ap (λ (y : ℕ). length (kept_rows h y)) (sym z);
   }
 
-  module _ (lp₀ li₀ lindices lindptr : List ℕ) (at i : ℕ) (v : Listing lp₀ li₀ lindices lindptr at i) where
+  module _ {lp₀ li₀ lindices lindptr : List ℕ} {at i : ℕ} (v : Listing lp₀ li₀ lindices lindptr at i) where
     pub listing_room : (l m : ℕ) → i < m → sum m suc ≤ l → at + i + 1 ≤ l
     listing_room l m b r = omega (arith, v.wrote.next, all_short i, sum_room m i suc b)
 
     pub listing_small : i ≤ 256 → at ≤ 32896
     listing_small b = omega (arith, v.wrote.next, all_short i, sum_more i 256 suc b, pairs_256)
 
-    pub listing_next : (li' lp' : List ℕ) (r x : ℕ) → i + 1 < length lindptr → Wrote lindices li' at (kept (h i) (i + 1)) r → x ≡ r → lp' ≡ set lindptr (i + 1) x → Listing lp₀ li₀ li' lp' r (i + 1)
-    listing_next li' lp' r x l w q e = record {
+    pub listing_next : {li' lp' : List ℕ} {r : ℕ} → i + 1 < length lindptr → Wrote lindices li' at (kept (h i) (i + 1)) r → lp' ≡ set lindptr (i + 1) r → Listing lp₀ li₀ li' lp' r (i + 1)
+    listing_next {li'} {lp'} {r} l w e = record {
       wrote = u;
       ends =
-          wrote_as lp₀ lp' 1 (i + 1 + 1) _ _ (ap (λ (y : ℕ). row_ends h i ++ (y ∷ [])) (q ∙ u.next ∙ omega arith) ∙ sym (ends_next i))
+          wrote_as lp₀ lp' 1 (i + 1 + 1) _ _ (ap (λ (y : ℕ). row_ends h i ++ (y ∷ [])) (u.next ∙ omega arith) ∙ sym (ends_next i))
           (wrote_join lp₀ lindptr lp' 1 (i + 1) (i + 1 + 1) _ _ v.ends (record { is = e; next = refl }));
       starts = λ k b. ap (λ (y : List ℕ). get_or y k 0) e ∙ go k b (ℕ_discrete k (i + 1));
     }
@@ -145,9 +143,9 @@ module _ (h : ℕ → ℕ → Bool) where
         u : Wrote li₀ li' 0 (kept_rows h (i + 1)) r
         u = wrote_as li₀ li' 0 r _ _ (sym (all_next i)) (wrote_join li₀ lindices li' 0 at r _ _ v.wrote w)
 
-        go : (k : ℕ) → k ≤ i + 1 → Dec (k ≡ i + 1) → get_or (set lindptr (i + 1) x) k 0 ≡ length (kept_rows h k)
-        go k b (yes z) = ap (λ (y : ℕ). get_or (set lindptr (i + 1) x) y 0) z ∙ get_or-set_same lindptr (i + 1) x 0 l ∙ omega (arith, q, u.next) ∙ ap (λ (y : ℕ). length (kept_rows h y)) (sym z)
-        go k b (no z) = get_or-set_other lindptr (i + 1) k x 0 z ∙ v.starts k (omega arith)
+        go : (k : ℕ) → k ≤ i + 1 → Dec (k ≡ i + 1) → get_or (set lindptr (i + 1) r) k 0 ≡ length (kept_rows h k)
+        go k b (yes z) = ap (λ (y : ℕ). get_or (set lindptr (i + 1) r) y 0) z ∙ get_or-set_same lindptr (i + 1) r 0 l ∙ omega (arith, u.next) ∙ ap (λ (y : ℕ). length (kept_rows h y)) (sym z)
+        go k b (no z) = get_or-set_other lindptr (i + 1) k r 0 z ∙ v.starts k (omega arith)
 
     pub listing_end : (m : ℕ) → i ≡ m → m ≤ 256 → m < length lindptr → sum m suc ≤ length li₀ → length lindices ≡ length li₀ → length lindices ≤ 65536 → Rows h lindptr lindices m
     unfolding row kept_rows
@@ -173,9 +171,6 @@ module _ (h : ℕ → ℕ → Bool) where
             ∙ ap (cut (length (kept_rows h k)) (length (kept_rows h (k + 1))))
             (whole ∙ ap (λ (x : List ℕ). x ++ tail) (cat_split m k (λ a. kept (h a) (a + 1)) q) ∙ append_assoc (kept_rows h k) (kept (h k) (k + 1) ++ after) tail ∙ ap (λ (x : List ℕ). kept_rows h k ++ x) (append_assoc (kept (h k) (k + 1)) after tail))
             ∙ cut_part (kept_rows h k) (kept (h k) (k + 1)) (after ++ tail) (length (kept_rows h k)) (length (kept_rows h (k + 1))) refl (ap length (all_next k) ∙ length-append (kept_rows h k) (kept (h k) (k + 1)))
-
-    pub listing_whole : (m : ℕ) (lp : List ℕ) → i ≡ m → lp₀ ≡ set lp 0 0 → (lindptr ≡ sets lp 0 (0 ∷ row_ends h m)) × (lindices ≡ sets li₀ 0 (kept_rows h m))
-    listing_whole m lp e f = (v.ends.is ∙ ap₂ (λ (x : List ℕ) (k : ℕ). sets x 1 (row_ends h k)) f e, v.wrote.is ∙ ap (λ (k : ℕ). sets li₀ 0 (kept_rows h k)) e)
 
 -- ---- the lists are a grid
 module _ (h : ℕ → ℕ → Bool) (lindptr lindices : List ℕ) (m : ℕ) (v : Rows h lindptr lindices m) where

@@ -6,26 +6,25 @@ use mathlib.Core.List.{List, [], ◌∷◌, ◌++◌, append_assoc, append-nil, 
 use Prim.Native.Nat.{ℕ, zero, suc, ◌+◌, ◌-◌, ◌<◌, ◌≤◌}
 use native.Mathlib.Omega.{arith}
 use native.Mathlib.Decide.{dec_lt}
-use native.Mathlib.Numerals.{add-one}
 use lib.Dec.{eqb}
 use borrow.Author.Tests.{ne_eqb}
-use lib.ListN.{length, get_or, take, drop, length-append, length-take, get_or-append, take-append-drop}
-use lib.Seq.{take-append-le, take_at, take-suc, get_or-append_seam, get_or-take, get_or-drop}
+use lib.ListN.{length, get_or, take, drop, length-append, length-take, get_or-append}
+use lib.Seq.{take-append-le, take_at, get_or-append_seam, get_or-take, get_or-drop}
 use Rattle.csr.specs.Pattern.{has, row, shares, stored, neighbours}
 use Rattle.csr.proofs.Rule.{stored_rule, stored_diag}
 use Rattle.base.specs.Sums.{sum, one}
-use Rattle.pattern.specs.Word.{bit}
-use Rattle.base.specs.Cat.{cat, pick, Wrote}
+use Rattle.base.specs.Cat.{cat, pick}
 use Rattle.lists.specs.Lists.{shape, both, shared, products, weight, piece, before, place, lplace, walk_of}
 use Rattle.lists.specs.declared.Which.{Which}
 use Rattle.lists.specs.declared.Which.TheVariants.{AnormIndptr, AnormIndptrI, AnormIndptrJ, AnormIndices, LdecompIndptr, LdecompIndptrI, LdecompIndptrJ, Lindptr, LdiagIndptr, Lindices}
 use Rattle.lists.proofs.Merge.{length_both}
 use Rattle.lists.proofs.Counts.{held_stored}
 use Rattle.pair_lists.specs.Kept.{kept, Rows, places_of}
+use Rattle.pair_lists.specs.Listing.{InRow}
 use Rattle.base.specs.Numbers.{Below}
+use Rattle.shared_columns.proofs.Marks.{along_join}
 use Rattle.pair_lists.proofs.Lists.{kept_long, kept_in, rows_up, rows_fit}
 use Rattle.base.proofs.Sums.{sum_zero}
-use Rattle.base.proofs.Numbers.{length_takes}
 
 -- ---- over a list
 unfoldable pub over : List ℕ → (ℕ → List ℕ) → List ℕ
@@ -144,42 +143,12 @@ module _ (h : ℕ → ℕ → Bool) (lindptr lindices : List ℕ) (m : ℕ) (v :
       sym (take-take (t - get_or lindptr i 0) (get_or lindptr (i + 1) 0 - get_or lindptr i 0) (drop (get_or lindptr i 0) lindices) (omega arith))
       ∙ ap (take (t - get_or lindptr i 0)) (v.rows i hi) ∙ part_kept
 
--- ---- places in a list
-module _ (h : ℕ → Bool) where
-  pub places_join : (xs ys : List ℕ) (base : ℕ) → places_of h base (xs ++ ys) ≡ places_of h base xs ++ places_of h (base + length xs) ys
-  unfolding places_of
-  places_join [] ys base = let z : base ≡ base + 0 = omega arith in ap (λ (b : ℕ). places_of h b ys) z
-  places_join (x ∷ xs) ys base =
-      let z : suc base + length xs ≡ base + suc (length xs) = omega arith in
-      ap (λ (l : List ℕ). pick (h x) base ++ l) (places_join xs ys (suc base) ∙ ap (λ (b : ℕ). places_of h (suc base) xs ++ places_of h b ys) z)
-      ∙ sym (append_assoc (pick (h x) base) (places_of h (suc base) xs) (places_of h (base + suc (length xs)) ys))
-
-  places_one : (x base : ℕ) → places_of h base (x ∷ []) ≡ pick (h x) base
-  unfolding places_of
-  places_one x base = append-nil (pick (h x) base)
-
-  pub places_next : (l : List ℕ) (q base : ℕ) → q < length l → places_of h base (take (q + 1) l) ≡ places_of h base (take q l) ++ pick (h (get_or l q 0)) (base + q)
-  places_next l q base b =
-      ap (λ (k : ℕ). places_of h base (take k l)) (add-one q) ∙ ap (places_of h base) (take-suc l q 0 b)
-      ∙ places_join (take q l) (get_or l q 0 ∷ []) base
-      ∙ ap (λ (x : List ℕ). places_of h base (take q l) ++ x) (places_one (get_or l q 0) (base + length (take q l)) ∙ ap (λ (k : ℕ). pick (h (get_or l q 0)) (base + k)) (length_takes q l (omega arith)))
-
-  pub places_room : (l : List ℕ) (base q : ℕ) → q ≤ length l → length (places_of h base (take q l)) ≤ length (places_of h base l)
-  places_room l base q b = go (take q l) (drop q l) (sym (take-append-drop q l))
-    where
-      go : (xs ys : List ℕ) → l ≡ xs ++ ys → length (places_of h base xs) ≤ length (places_of h base l)
-      go xs ys e = omega (arith, ap (λ (k : List ℕ). length (places_of h base k)) e, ap length (places_join xs ys base), length-append (places_of h base xs) (places_of h (base + length xs) ys))
-
-  pub places_start : (a l : List ℕ) (start base : ℕ) → Wrote a a start (places_of h base (take 0 l)) start
-  unfolding places_of
-  places_start a l start base = record { is = refl; next = omega arith }
-
 -- the places of what two rows hold
 pub places_walk : (g : ℕ → ℕ → Bool) (r q bound base : ℕ) → places_of (g q) base (kept (g r) bound) ≡ walk_of g r q bound base
-unfolding kept cat walk_of places_of
+unfolding kept cat walk_of
 places_walk g r q zero base = refl
 places_walk g r q (suc bound) base =
-    places_join (g q) (kept (g r) bound) (pick (g r bound) bound) base
+    along_join (λ x k. pick (g q k) x) (kept (g r) bound) (pick (g r bound) bound) base
     ∙ ap₂ ◌++◌ (places_walk g r q bound base) (go (g r bound) ∙ ap (λ (k : ℕ). pick (g r bound && g q bound) (base + k)) (kept_long (g r) bound))
   where
     go : (t : Bool) → places_of (g q) (base + length (kept (g r) bound)) (pick t bound) ≡ pick (t && g q bound) (base + length (kept (g r) bound))
@@ -259,18 +228,21 @@ module _ (off cols : List ℕ) (i j : ℕ) (hj : j ≤ i) (no : (shape off cols)
   weightless Lindices = refl
 
 -- ---- the part of row r before its entry at t
-module _ (p lindptr lindices : List ℕ) (m r q t a : ℕ) (v : Rows (bit p) lindptr lindices m) (hr : r < m) (lo : get_or lindptr r 0 ≤ t) (hi : t < get_or lindptr (r + 1) 0) (e : a ≡ get_or lindptr r 0) where
-  pub cut_is : take (t - a) (drop a lindices) ≡ kept (bit p r) (get_or lindices t 0)
-  cut_is = ap (λ (x : ℕ). take (t - x) (drop x lindices)) e ∙ slice_kept (bit p) lindptr lindices m v r t hr lo hi
+module _ {h : ℕ → ℕ → Bool} {lindptr lindices : List ℕ} {r t : ℕ} (w : InRow h lindptr lindices r t) where
+  abbrev front : List ℕ
+  front = take (t - get_or lindptr r 0) (drop (get_or lindptr r 0) lindices)
 
-  pub cut_below : Below 256 (take (t - a) (drop a lindices))
-  cut_below = subst (Below 256) (sym cut_is) (kept_in (bit p r) (get_or lindices t 0) 256 (omega (arith, entry_below (bit p) lindptr lindices m v r t hr lo hi, v.few)))
+  front_is : front ≡ kept (h r) (get_or lindices t 0)
+  front_is = slice_kept h lindptr lindices w.m w.rows r t w.inside w.first w.last
 
-  pub cut_short : a + length (take (t - a) (drop a lindices)) ≤ 65536
-  cut_short = omega (arith, length-take (t - a) (drop a lindices), t_in (bit p) lindptr lindices m v r t hr lo hi, v.short)
+  pub front_in : t < length lindices
+  front_in = t_in h lindptr lindices w.m w.rows r t w.inside w.first w.last
 
-  pub cut_fits : a ≤ t × (t < length lindices) × (t ≤ 65536)
-  cut_fits = (omega arith, t_in (bit p) lindptr lindices m v r t hr lo hi, omega (arith, t_in (bit p) lindptr lindices m v r t hr lo hi, v.short))
+  pub front_below : Below 256 front
+  front_below = rw front_is (kept_in (h r) (get_or lindices t 0) 256 (omega (arith, entry_below h lindptr lindices w.m w.rows r t w.inside w.first w.last, w.rows.few)))
 
-  pub cut_walk : places_of (bit p q) a (take (t - a) (drop a lindices)) ≡ walk_of (bit p) r q (get_or lindices t 0) (get_or lindptr r 0)
-  cut_walk = ap₂ (λ (x : ℕ) (l : List ℕ). places_of (bit p q) x l) e cut_is ∙ places_walk (bit p) r q (get_or lindices t 0) (get_or lindptr r 0)
+  pub front_short : get_or lindptr r 0 + length front ≤ 65536
+  front_short = omega (arith, length-take (t - get_or lindptr r 0) (drop (get_or lindptr r 0) lindices), front_in, w.first, w.rows.short)
+
+  pub front_walk : (q : ℕ) → places_of (h q) (get_or lindptr r 0) front ≡ walk_of h r q (get_or lindices t 0) (get_or lindptr r 0)
+  front_walk q = ap (places_of (h q) (get_or lindptr r 0)) front_is ∙ places_walk h r q (get_or lindices t 0) (get_or lindptr r 0)

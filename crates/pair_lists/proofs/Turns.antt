@@ -1,5 +1,5 @@
 -- The turns of a row's loop over its stored pairs. Assumes nothing.
-use mathlib.Core.Path.{◌≡◌, refl, sym, ap, ap₂, ◌∙◌, subst}
+use mathlib.Core.Path.{◌≡◌, refl, sym, ap, ◌∙◌, subst}
 use mathlib.Core.Bool.{Bool, true, false}
 use mathlib.Core.List.{List, [], ◌∷◌, ◌++◌}
 use Prim.Native.Nat.{ℕ, suc, ◌+◌, ◌-◌, ◌*◌, ◌<◌, ◌≤◌}
@@ -20,15 +20,16 @@ use Rattle.shared_columns.proofs.Marks.{over_next}
 use Rattle.base.proofs.Numbers.{below_more}
 use Rattle.pattern.specs.Ready.{Ready}
 use Rattle.lists.specs.declared.Which.{Which}
-use Rattle.base.proofs.Write.{cat_room, wrote_join, wrote_as, pairs_next}
+use Rattle.base.proofs.Write.{cat_room, wrote_join, wrote_as, then_written, same_text, pairs_next}
 use Rattle.pair_lists.proofs.Bits.{bit_held}
 use Rattle.lists.proofs.Counts.{before_next, before_row}
 use Rattle.base.proofs.Sums.{sum_zero}
 use Rattle.pair_lists.specs.Kept.{kept, Rows, diagonal_only, marks_read}
+use Rattle.pair_lists.specs.Listing.{RowListing, Counting, AtPair}
 use Rattle.pair_lists.proofs.Stored.{last_of}
 use Rattle.pair_lists.proofs.Diagonal.{cat_none, left_silent, left_weightless}
 use Rattle.pair_lists.proofs.Lists.{rows_up, kept_short}
-use Rattle.pair_lists.proofs.Through.{over, total, over_snoc, total_snoc, over_kept, total_kept, q_in, entry_is, entry_below, part_kept, silent, weightless}
+use Rattle.pair_lists.proofs.Through.{over, total, over_snoc, total_snoc, over_kept, total_kept, q_in, t_in, entry_is, entry_below, part_kept, silent, weightless}
 
 -- in row i, after q of its stored pairs
 pub record Turned (off cols p : List ℕ) (w : Which) (i : ℕ) (a b : List ℕ) (start at n₀ n q : ℕ) : Type 0 where
@@ -131,6 +132,50 @@ module _ (off cols : List ℕ) (m : ℕ) (p : List ℕ) (ready : Ready off cols 
       all : take (t - get_or lindptr i 0) l ≡ l
       all = take_all (t - get_or lindptr i 0) l (omega (arith, rows_up (bit p) lindptr lindices m v i hi))
 
+-- ---- the same, from what the writing of a row starts from
+module _ {w : Which} {off cols p lindptr lindices mark : List ℕ} {i : ℕ} (g : RowListing w off cols p lindptr lindices mark i) where
+  pub row_some : 1 ≤ get_or lindptr (i + 1) 0
+  row_some = (last_of off cols g.at.m p g.at.ready lindptr lindices g.rows i g.at.inside).some
+
+  module _ {t : ℕ} (last : diagonal_only w ≡ true → t ≡ get_or lindptr (i + 1) 0 - 1) (first : diagonal_only w ≡ false → t ≡ get_or lindptr i 0) where
+    pub row_begins : (a : List ℕ) (start n : ℕ) → (get_or lindptr i 0 ≤ t) × (t ≤ get_or lindptr (i + 1) 0) × Turned off cols p w i a a start start n n (t - get_or lindptr i 0)
+    row_begins a start n = turned_from off cols g.at.m p g.at.ready lindptr lindices g.rows w i g.at.inside a start n t last first
+
+    pub row_span : (get_or lindptr i 0 ≤ t) × (t ≤ get_or lindptr (i + 1) 0)
+    row_span = let h = row_begins [] 0 0 in (h.0, h.1)
+
+  module _ {t : ℕ} (lo : get_or lindptr i 0 ≤ t) (up : t < get_or lindptr (i + 1) 0) where
+    pub pair_in : t < length lindices
+    pair_in = t_in (bit p) lindptr lindices g.at.m g.rows i t g.at.inside lo up
+
+    pub pair_left : get_or lindices t 0 ≤ i
+    pair_left = entry_below (bit p) lindptr lindices g.at.m g.rows i t g.at.inside lo up
+
+    module _ {a b : List ℕ} {start at n₀ n : ℕ} (u : Turned off cols p w i a b start at n₀ n (t - get_or lindptr i 0)) where
+      pub pair_few : t - get_or lindptr i 0 ≤ 256
+      pair_few = turn_few off cols g.at.m p g.at.ready lindptr lindices g.rows w i g.at.inside t (get_or lindices t 0) lo up refl a b start at n₀ n u (omega (arith, g.at.inside, g.rows.few))
+
+      pub pair_at : {x : ℕ} → Counting w off cols i n₀ → x ≡ weight (shape off cols) w i (get_or lindices t 0) → AtPair w off cols lindptr lindices i (get_or lindices t 0) t (n + x)
+      pair_at {x} k e = record {
+        first = lo;
+        last = up;
+        column = refl;
+        count = turn_count off cols g.at.m p g.at.ready lindptr lindices g.rows w i g.at.inside t (get_or lindices t 0) lo up refl a b start at n₀ n u x k.count e;
+      }
+
+      pub pair_room : {l : ℕ} → start + length (cat (i + 1) (piece (shape off cols) w i)) ≤ l → at + length (piece (shape off cols) w i (get_or lindices t 0)) ≤ l
+      pair_room {l} r = turn_room off cols g.at.m p g.at.ready lindptr lindices g.rows w i g.at.inside t (get_or lindices t 0) lo up refl a b start at n₀ n u l r
+
+      pub pair_next : {d : List ℕ} {x r : ℕ} → (x ≡ weight (shape off cols) w i (get_or lindices t 0)) × (x ≤ 16384) → Wrote b d at (piece (shape off cols) w i (get_or lindices t 0)) r
+          → Turned off cols p w i a d start r n₀ (n + x) (t + 1 - get_or lindptr i 0)
+      pair_next {d} {x} {r} e v = turn_next off cols g.at.m p g.at.ready lindptr lindices g.rows w i g.at.inside t (get_or lindices t 0) lo up refl a b start at n₀ n u d x r e.0 e.1 v
+
+  pub row_over : {a b : List ℕ} {start at n₀ n : ℕ} (t : ℕ) → t ≡ get_or lindptr (i + 1) 0 → Counting w off cols i n₀ → Turned off cols p w i a b start at n₀ n (t - get_or lindptr i 0)
+      → Wrote a b start (cat (i + 1) (piece (shape off cols) w i)) at × Counting w off cols (i + 1) n
+  row_over {a} {b} {start} {at} {n₀} {n} t e k u =
+      let r = turned_end off cols g.at.m p g.at.ready lindptr lindices g.rows w i g.at.inside a b start at n₀ n t e k.count k.few u in
+      (r.0, record { count = r.1; few = r.2 })
+
 -- ---- row after row
 module _ (g : Shape) (w : Which) where
   pub row_room : (m i start l at₀ at : ℕ) → i < m → start + length (list_of g w m) ≤ l → at₀ ≡ start + length (pick (begins w) 0) → at ≡ at₀ + length (pairs i (piece g w)) → at + length (cat (i + 1) (piece g w i)) ≤ l
@@ -147,12 +192,12 @@ module _ (g : Shape) (w : Which) where
   unfolding pairs
   rows_start a start = record { is = refl; next = omega arith }
 
-  pub rows_next : (a b c : List ℕ) (start at r i : ℕ) → Wrote a b start (pairs i (piece g w)) at → Wrote b c at (cat (i + 1) (piece g w i)) r → Wrote a c start (pairs (i + 1) (piece g w)) r
-  rows_next a b c start at r i u v = wrote_as a c start r _ _ (sym (pairs_next i (piece g w))) (wrote_join a b c start at r _ _ u v)
+  pub rows_next : {a b c : List ℕ} {start at r : ℕ} (i : ℕ) → Wrote a b start (pairs i (piece g w)) at → Wrote b c at (cat (i + 1) (piece g w i)) r → Wrote a c start (pairs (i + 1) (piece g w)) r
+  rows_next i u v = same_text (sym (pairs_next i (piece g w))) (then_written u v)
 
-  pub whole : (a b c : List ℕ) (start at r m i : ℕ) (t : Bool) → i ≡ m → t ≡ begins w → Wrote a b start (pick t 0) at → Wrote b c at (pairs i (piece g w)) r → Wrote a c start (list_of g w m) r
+  pub whole : {a b c : List ℕ} {start at r : ℕ} (m i : ℕ) → i ≡ m → Wrote a b start (pick (begins w) 0) at → Wrote b c at (pairs i (piece g w)) r → Wrote a c start (list_of g w m) r
   unfolding list_of
-  whole a b c start at r m i t e q u v = wrote_as a c start r _ _ (ap₂ (λ (x : Bool) (k : ℕ). pick x 0 ++ pairs k (piece g w)) q e) (wrote_join a b c start at r _ _ u v)
+  whole m i e u v = same_text (ap (λ (k : ℕ). pick (begins w) 0 ++ pairs k (piece g w)) e) (then_written u v)
 
 -- ---- a memory over the columns, marked row by row
 pub markable : (off cols : List ℕ) (m wide i : ℕ) (mark : List ℕ) → Grid off cols m wide → i < m → wide ≤ length mark → RowOf off cols i (length mark)

@@ -1,7 +1,8 @@
 -- The rows of a grid of bits as lists, one after the other. Assumes nothing.
-use Rattle.std.specs.Prelude.{◌≡◌, Bool, true, false, List, [], ◌∷◌, ◌++◌, ℕ, suc, ◌+◌, ◌<◌, ◌≤◌, length, get_or}
+use Rattle.std.specs.Prelude.{◌≡◌, Bool, true, false, List, [], ◌∷◌, ℕ, ◌+◌, ◌<◌, ◌≤◌, length, get_or}
 use Rattle.csr.specs.Pattern.{row}
 use Rattle.base.specs.Cat.{cat, pick}
+use Rattle.shared_columns.specs.Marked.{along_of}
 use Rattle.lists.specs.declared.Which.{Which}
 use Rattle.lists.specs.declared.Which.TheVariants.{AnormIndptr, AnormIndptrI, AnormIndptrJ, AnormIndices, LdecompIndptr, LdecompIndptrI, LdecompIndptrJ, Lindptr, LdiagIndptr, Lindices}
 use Rattle.csr.specs.Questions.{max_rows}
@@ -32,9 +33,8 @@ pub record Rows (h : ℕ → ℕ → Bool) (lindptr lindices : List ℕ) (m : �
   pub short : length lindices ≤ max_places
 
 -- the places in a list, from base on, of the k that h holds
-unfoldable pub places_of : (ℕ → Bool) → ℕ → List ℕ → List ℕ
-places_of h base [] = []
-places_of h base (k ∷ ks) = pick (h k) base ++ places_of h (suc base) ks
+abbrev pub places_of : (ℕ → Bool) → ℕ → List ℕ → List ℕ
+places_of h base l = along_of (λ x k. pick (h k) x) base l
 
 -- the lists that are read off the marks of a row
 abbrev pub marks_read : Which → Bool

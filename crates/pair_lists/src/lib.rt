@@ -15,7 +15,7 @@ ghost use Rattle.csr.specs.Csr.{RowOf, max_places};
 ghost use Rattle.csr.specs.Pattern.{row};
 ghost use Rattle.csr.specs.Questions.{max_rows, max_entries};
 
-use base::{byte_at, keep, keep_byte, store, word, word_at};
+use base::{keep, put, store, word_at};
 use lists::{Take, Which};
 use shared_columns::{count_shared, mark_row, put_shared};
 
@@ -25,10 +25,8 @@ fn list_row(p: &[u64], i: usize, lindices: &mut [u8], start: usize) -> usize
     ensures { Wrote lindices.old lindices.new start (kept (bit p.now i) (i + 1)) result }
 {
     let mut at = start;
-    let mut k: usize = 0;
-    while k <= i {
-        at = keep_byte(lindices, at, pattern::test(p, i, k), k as u8);
-        k += 1;
+    for k in 0..i + 1 {
+        at = keep(lindices, at, pattern::test(p, i, k).then_some(k as u8));
     }
     at
 }
@@ -41,12 +39,10 @@ pub fn list_rows(p: &[u64], m: usize, lindptr: &mut [u32], lindices: &mut [u8])
     ensures columns { lindices.new ≡ sets lindices.old 0 (kept_rows (bit p.now) m) }
 {
     store(lindptr, 0, 0);
-    let mut at: usize = 0;
-    let mut i: usize = 0;
-    while i < m {
+    let mut at = 0;
+    for i in 0..m {
         at = list_row(p, i, lindices, at);
-        i += 1;
-        store(lindptr, i, at as u32);
+        store(lindptr, i + 1, at as u32);
     }
 }
 
@@ -56,11 +52,9 @@ fn places(p: &[u64], q: usize, l: &[u8], base: u32, index: &mut [u32], start: us
     ensures { Wrote index.old index.new start (places_of (bit p.now q) base l.now) result }
 {
     let mut at = start;
-    let mut t: usize = 0;
-    while t < l.len() {
-        let k = byte_at(l, t);
-        at = keep(index, at, pattern::test(p, q, k), base + (t as u32));
-        t += 1;
+    for (t, k) in l.iter().enumerate() {
+        let here = pattern::test(p, q, *k as usize);
+        at = keep(index, at, here.then_some(base + (t as u32)));
     }
     at
 }
@@ -79,26 +73,18 @@ pub fn products(
     requires { (length p.now ≡ pattern_words) × InRow (bit p.now) lindptr.now lindices.now r t × (q < max_rows) × (start + length (walk_of (bit p.now) r q (get_or lindices.now t 0) (get_or lindptr.now r 0)) ≤ length index.old) }
     ensures { Wrote index.old index.new start (walk_of (bit p.now) r q (get_or lindices.now t 0) (get_or lindptr.now r 0)) result }
 {
-    let a = word_at(lindptr, r);
-    places(p, q, &lindices[a..t], a as u32, index, start)
+    let a = lindptr[r];
+    places(p, q, &lindices[a as usize..t], a, index, start)
 }
 
 // Does a list read the marks of a row?
 fn reads_marks(which: Which) -> bool
     ensures { result ≡ marks_read which }
 {
-    match which {
-        Which::AnormIndptr => true,
-        Which::AnormIndptrI => true,
-        Which::AnormIndptrJ => true,
-        Which::AnormIndices => true,
-        Which::LdecompIndptr => false,
-        Which::LdecompIndptrI => false,
-        Which::LdecompIndptrJ => false,
-        Which::Lindptr => false,
-        Which::LdiagIndptr => false,
-        Which::Lindices => false,
-    }
+    matches!(
+        which,
+        Which::AnormIndptr | Which::AnormIndptrI | Which::AnormIndptrJ | Which::AnormIndices
+    )
 }
 
 // Row i marked for a list that reads the marks.
@@ -131,50 +117,7 @@ pub fn weigh(
             let t = pattern::both_ones(p, i, j);
             if pattern::test(p, i, j) { t - 1 } else { t }
         }
-        Which::AnormIndptrI => 0,
-        Which::AnormIndptrJ => 0,
-        Which::AnormIndices => 0,
-        Which::LdecompIndptrI => 0,
-        Which::LdecompIndptrJ => 0,
-        Which::Lindptr => 0,
-        Which::LdiagIndptr => 0,
-        Which::Lindices => 0,
-    }
-}
-
-// What the stored pair (i, j) adds to a list. t is its place among the stored, n what the list has counted.
-fn put_piece(
-    which: Which,
-    off: &[u32],
-    cols: &[u32],
-    p: &[u64],
-    lindptr: &[u32],
-    lindices: &[u8],
-    mark: &[u32],
-    i: usize,
-    j: usize,
-    t: usize,
-    n: u32,
-    index: &mut [u32],
-    at: usize,
-) -> usize
-    requires { RowListing which off.now cols.now p.now lindptr.now lindices.now mark.now i × AtPair which off.now cols.now lindptr.now lindices.now i j t n × (at + length (piece (shape off.now cols.now) which i j) ≤ length index.old) }
-    ensures { Wrote index.old index.new at (piece (shape off.now cols.now) which i j) result }
-{
-    match which {
-        Which::AnormIndptr => word(index, at, n),
-        Which::AnormIndptrI => put_shared(Take::Left, off, cols, mark, i, j, index, at),
-        Which::AnormIndptrJ => put_shared(Take::Right, off, cols, mark, i, j, index, at),
-        Which::AnormIndices => put_shared(Take::Column, off, cols, mark, i, j, index, at),
-        Which::LdecompIndptr => word(index, at, n),
-        Which::LdecompIndptrI => products(p, lindptr, lindices, i, j, t, index, at),
-        Which::LdecompIndptrJ => {
-            let last = word_at(lindptr, j + 1) - 1;
-            products(p, lindptr, lindices, j, i, last, index, at)
-        }
-        Which::Lindptr => keep(index, at, j == i, (t as u32) + 1),
-        Which::LdiagIndptr => keep(index, at, j == i, t as u32),
-        Which::Lindices => word(index, at, j as u32),
+        _ => 0,
     }
 }
 
@@ -182,18 +125,7 @@ fn put_piece(
 fn on_diagonal(which: Which) -> bool
     ensures { result ≡ diagonal_only which }
 {
-    match which {
-        Which::AnormIndptr => false,
-        Which::AnormIndptrI => false,
-        Which::AnormIndptrJ => false,
-        Which::AnormIndices => false,
-        Which::LdecompIndptr => false,
-        Which::LdecompIndptrI => false,
-        Which::LdecompIndptrJ => false,
-        Which::Lindptr => true,
-        Which::LdiagIndptr => true,
-        Which::Lindices => false,
-    }
+    matches!(which, Which::Lindptr | Which::LdiagIndptr)
 }
 
 // The first stored pair of row i that a list looks at. The diagonal is the row's last.
@@ -216,67 +148,100 @@ struct Spot {
     n: u32,
 }
 
-// What row i adds to a list: one stored pair after the other.
-fn fill_row(
-    which: Which,
-    off: &[u32],
-    cols: &[u32],
-    p: &[u64],
-    lindptr: &[u32],
-    lindices: &[u8],
-    mark: &[u32],
-    i: usize,
-    count: u32,
-    index: &mut [u32],
-    start: usize,
-) -> Spot
-    requires { RowListing which off.now cols.now p.now lindptr.now lindices.now mark.now i × Counting which off.now cols.now i count × (start + length (cat (i + 1) (piece (shape off.now cols.now) which i)) ≤ length index.old) }
-    ensures { Wrote index.old index.new start (cat (i + 1) (piece (shape off.now cols.now) which i)) result.at × Counting which off.now cols.now (i + 1) result.n }
-{
-    let b = word_at(lindptr, i + 1);
-    let mut at = start;
-    let mut n = count;
-    let mut t = row_first(which, lindptr, i);
-    while t < b {
-        let j = byte_at(lindices, t);
-        n += weigh(which, off, cols, p, mark, i, j);
-        at = put_piece(
-            which, off, cols, p, lindptr, lindices, mark, i, j, t, n, index, at,
-        );
-        t += 1;
-    }
-    Spot { at, n }
+// What the lists are written from: the matrix's rows, the pattern of its factor, and the factor's rows.
+#[derive(Clone, Copy)]
+struct Source<'a> {
+    off: &'a [u32],
+    cols: &'a [u32],
+    p: &'a [u64],
+    lindptr: &'a [u32],
+    lindices: &'a [u8],
 }
 
-// One of the ten lists that are written pair by pair.
-fn fill(
-    which: Which,
-    off: &[u32],
-    cols: &[u32],
-    m: usize,
-    p: &[u64],
-    lindptr: &[u32],
-    lindices: &[u8],
-    mark: &mut [u32],
-    index: &mut [u32],
-    start: usize,
-) -> usize
-    requires { Unmarked off.now cols.now m p.now lindptr.now lindices.now mark.old × (start + length (list_of (shape off.now cols.now) which m) ≤ length index.old) }
-    ensures { Wrote index.old index.new start (list_of (shape off.now cols.now) which m) result }
-{
-    let mut at = keep(index, start, lists::has_head(which), 0);
-    let mut n: u32 = 0;
-    let mut i: usize = 0;
-    while i < m {
-        mark_for(which, off, cols, i, mark);
-        let s = fill_row(
-            which, off, cols, p, lindptr, lindices, mark, i, n, index, at,
-        );
-        at = s.at;
-        n = s.n;
-        i += 1;
+impl Source<'_> {
+    // What the stored pair (i, j) adds to a list. t is its place among the stored, n what the list has counted.
+    fn put_piece(
+        &self,
+        which: Which,
+        mark: &[u32],
+        i: usize,
+        j: usize,
+        t: usize,
+        n: u32,
+        index: &mut [u32],
+        at: usize,
+    ) -> usize
+        requires { RowListing which self.now.off.now self.now.cols.now self.now.p.now self.now.lindptr.now self.now.lindices.now mark.now i × AtPair which self.now.off.now self.now.cols.now self.now.lindptr.now self.now.lindices.now i j t n × (at + length (piece (shape self.now.off.now self.now.cols.now) which i j) ≤ length index.old) }
+        ensures { Wrote index.old index.new at (piece (shape self.now.off.now self.now.cols.now) which i j) result }
+    {
+        let Self {
+            off,
+            cols,
+            p,
+            lindptr,
+            lindices,
+        } = *self;
+        match which {
+            Which::AnormIndptr => put(index, at, n),
+            Which::AnormIndptrI => put_shared(Take::Left, off, cols, mark, i, j, index, at),
+            Which::AnormIndptrJ => put_shared(Take::Right, off, cols, mark, i, j, index, at),
+            Which::AnormIndices => put_shared(Take::Column, off, cols, mark, i, j, index, at),
+            Which::LdecompIndptr => put(index, at, n),
+            Which::LdecompIndptrI => products(p, lindptr, lindices, i, j, t, index, at),
+            Which::LdecompIndptrJ => {
+                let last = word_at(lindptr, j + 1) - 1;
+                products(p, lindptr, lindices, j, i, last, index, at)
+            }
+            Which::Lindptr => keep(index, at, (j == i).then_some(t as u32 + 1)),
+            Which::LdiagIndptr => keep(index, at, (j == i).then_some(t as u32)),
+            Which::Lindices => put(index, at, j as u32),
+        }
     }
-    at
+
+    // What row i adds to a list: one stored pair after the other.
+    fn fill_row(
+        &self,
+        which: Which,
+        mark: &[u32],
+        i: usize,
+        count: u32,
+        index: &mut [u32],
+        start: usize,
+    ) -> Spot
+        requires { RowListing which self.now.off.now self.now.cols.now self.now.p.now self.now.lindptr.now self.now.lindices.now mark.now i × Counting which self.now.off.now self.now.cols.now i count × (start + length (cat (i + 1) (piece (shape self.now.off.now self.now.cols.now) which i)) ≤ length index.old) }
+        ensures { Wrote index.old index.new start (cat (i + 1) (piece (shape self.now.off.now self.now.cols.now) which i)) result.at × Counting which self.now.off.now self.now.cols.now (i + 1) result.n }
+    {
+        let mut at = start;
+        let mut n = count;
+        let end = self.lindptr[i + 1] as usize;
+        for t in row_first(which, self.lindptr, i)..end {
+            let j = self.lindices[t] as usize;
+            n += weigh(which, self.off, self.cols, self.p, mark, i, j);
+            at = self.put_piece(which, mark, i, j, t, n, index, at);
+        }
+        Spot { at, n }
+    }
+
+    // One of the ten lists that are written pair by pair, for m rows.
+    fn fill(
+        &self,
+        which: Which,
+        m: usize,
+        mark: &mut [u32],
+        index: &mut [u32],
+        start: usize,
+    ) -> usize
+        requires { Unmarked self.now.off.now self.now.cols.now m self.now.p.now self.now.lindptr.now self.now.lindices.now mark.old × (start + length (list_of (shape self.now.off.now self.now.cols.now) which m) ≤ length index.old) }
+        ensures { Wrote index.old index.new start (list_of (shape self.now.off.now self.now.cols.now) which m) result }
+    {
+        let mut at = keep(index, start, lists::has_head(which).then_some(0));
+        let mut n = 0;
+        for i in 0..m {
+            mark_for(which, self.off, self.cols, i, mark);
+            Spot { at, n } = self.fill_row(which, mark, i, n, index, at);
+        }
+        at
+    }
 }
 
 // How many lists are written pair by pair.
@@ -299,23 +264,17 @@ pub fn put_ten(
     requires { Listing off.now cols.now m p.now lindptr.now lindices.now wide × (start + length (ten_of (shape off.now cols.now) m 10) ≤ length index.old) × (wide ≤ length mark.old) }
     ensures { Wrote index.old index.new start (ten_of (shape off.now cols.now) m 10) result }
 {
+    let source = Source {
+        off,
+        cols,
+        p,
+        lindptr,
+        lindices,
+    };
     let mut at = start;
-    let mut k: usize = 0;
-    while k < LISTS {
+    for k in 0..LISTS {
         base::clear(mark, wide);
-        at = fill(
-            lists::which_field(k),
-            off,
-            cols,
-            m,
-            p,
-            lindptr,
-            lindices,
-            mark,
-            index,
-            at,
-        );
-        k += 1;
+        at = source.fill(lists::which_field(k), m, mark, index, at);
     }
     at
 }

@@ -1,26 +1,33 @@
 -- Laws of a pattern's rows: a bit set, two rows that meet, a row filled, a row counted. Assumes nothing.
 use mathlib.Core.Path.{◌≡◌, refl, sym, ap, ap₂, ◌∙◌, subst}
 use mathlib.Core.Logic.{◌⊎◌, inl, inr, ◌≢◌}
-use mathlib.Core.Bool.{Bool, true, false, ◌&&◌, ◌||◌, not, true≢false, false≢true}
-use mathlib.Core.List.{List}
-use Prim.Native.Nat.{ℕ, ◌+◌, ◌*◌, ◌/◌, ◌%◌, ◌^◌, ◌<◌, ◌≤◌}
+use mathlib.Core.Bool.{Bool, true, false, ◌&&◌, ◌||◌, not, false≢true}
+use mathlib.Core.List.{List, [], ◌∷◌, map}
+use Prim.Native.Nat.{ℕ, zero, suc, ◌+◌, ◌*◌, ◌/◌, ◌%◌, ◌^◌, ◌<◌, ◌≤◌}
 use native.Mathlib.Omega.{arith}
 use native.Mathlib.Decide.{ℕ_discrete, dec_lt}
+use native.Mathlib.Numerals.{add-one}
 use lib.Dec.{eqb, ltb, leb}
-use lib.Bits.{bit_and, bit_or, or_lt}
+use lib.Bits.{bit_or}
+use Rattle.std.specs.Int.Bits.{and_lt}
+use Rattle.std.specs.List.{fold, list_any, range_with_len, sum as sum_list}
+use Rattle.std.proofs.Math.Bool.{and_self}
+use Rattle.std.proofs.lemmas.Bool.{false_from_ne_true}
+use Rattle.std.proofs.lemmas.List.Folds.{list_any_at}
+use Rattle.std.proofs.lemmas.List.FromFn.{get_or-range_with_len, sum_by-map-range_with_len_more}
 use lib.Count.{ones}
 use lib.ListN.{length, get_or, set}
 use lib.Seq.{get_or-set_same, get_or-set_other}
 use borrow.Author.Tests.{ne_eqb, eq-eqb, eqb-true, eqb-false, not-true, not-false, le-leb, lt-leb, lt-ltb, le-ltb, leb-true}
-use Rattle.base.proofs.Bools.{and_out, or_comm, same_if}
+use Rattle.base.proofs.Bools.{and_out, or_assoc, or_comm, or_nil, or_out, same_if}
 use Rattle.csr.specs.Pattern.{stored, fill}
 use Rattle.csr.specs.Chain.{Meets}
 use Rattle.csr.proofs.Rule.{stored_diag, fill_out, fill_in, off_diag}
 use Rattle.csr.specs.Walks.{fill_nb}
 use Rattle.base.specs.Sums.{sum, one}
-use Rattle.pattern.specs.Word.{digit, bit, Put, Done, Seeded, OtherRows, row_ones, CommonWord}
+use Rattle.pattern.specs.Word.{digit, bit, Put, Done, OtherRows, row_ones, common_word, CommonWord}
 use Rattle.pattern.proofs.Digits.{digit_and, digit_or, digit_zero, digit_pow, shl_one, set_digit, ones_sum}
-use Rattle.base.proofs.Sums.{sum_ext, sum_add}
+use Rattle.base.proofs.Sums.{sum_ext, sum_add, sum_times, count_le}
 
 -- ---- a bit set
 
@@ -75,116 +82,116 @@ put_law p i j hp hi hj a b ha hb = go (ℕ_discrete (a * 4 + b / 64) at)
 at_word : (p : List ℕ) (i w d : ℕ) → d < 64 → bit p i (w * 64 + d) ≡ digit (get_or p (i * 4 + w) 0) d
 at_word p i w d h = bit_is p i (w * 64 + d) ∙ ap₂ (λ (y z : ℕ). digit (get_or p y 0) z) (omega arith) (omega arith)
 
--- the word of `common_word`
-pub common_law : (p : List ℕ) (i j w : ℕ) → CommonWord p i j w (bit_and (get_or p (i * 4 + w) 0) (get_or p (j * 4 + w) 0))
+pub common_law : (p : List ℕ) (i j w : ℕ) → CommonWord p i j w (common_word p i j w)
 common_law p i j w d h = ap₂ ◌&&◌ (at_word p i w d h) (at_word p j w d h) ∙ sym (digit_and (get_or p (i * 4 + w) 0) (get_or p (j * 4 + w) 0) d)
 
 -- rows i and j have bit k in common
 abbrev pub Common : List ℕ → ℕ → ℕ → Type 0
 Common p i j = (k : ℕ) × (k < 256) × (bit p i k ≡ true) × (bit p j k ≡ true)
 
-four_out : (a b c d : Bool) → a || b || c || d ≡ true → (a ≡ true) ⊎ ((b ≡ true) ⊎ ((c ≡ true) ⊎ (d ≡ true)))
-four_out true b c d e = inl refl
-four_out false true c d e = inr (inl refl)
-four_out false false true d e = inr (inr (inl refl))
-four_out false false false d e = inr (inr (inr e))
+-- a digit of numbers joined by `|` is a digit of one of them
+or_digit : (f : ℕ → ℕ) (d a : ℕ) (ws : List ℕ) → digit (fold (λ x w. bit_or x (f w)) a ws) d ≡ digit a d || list_any (λ w. digit (f w) d) ws
+or_digit f d a [] = sym (or_nil (digit a d))
+or_digit f d a (w ∷ ws) =
+    or_digit f d (bit_or a (f w)) ws
+    ∙ ap (λ (t : Bool). t || list_any (λ w. digit (f w) d) ws) (digit_or a (f w) d)
+    ∙ or_assoc (digit a d) (digit (f w) d) (list_any (λ w. digit (f w) d) ws)
 
-four_false : (a b c d : Bool) → a || b || c || d ≡ false → (a ≡ false) × (b ≡ false) × (c ≡ false) × (d ≡ false)
-four_false true b c d e = absurd (true≢false e)
-four_false false true c d e = absurd (true≢false e)
-four_false false false true d e = absurd (true≢false e)
-four_false false false false d e = (refl, refl, refl, e)
+any_found : (f : ℕ → Bool) (a n : ℕ) → list_any f (range_with_len a n) ≡ true → (w : ℕ) × (w < a + n) × (f w ≡ true)
+any_found f a zero e = absurd (false≢true e)
+any_found f a (suc n) e =
+    elim (or_out (f a) (list_any f (range_with_len (a + 1) n)) e) [
+      | inl q ↦ (a, omega arith, q)
+      | inr q ↦ let s = any_found f (a + 1) n q in (s.0, omega (arith, s.1), s.2)
+    ]
 
--- what `meets` works out of the four words that rows i and j have in common
-abbrev meet_word : ℕ → ℕ → ℕ → ℕ → ℕ
-meet_word x y z w = bit_or (bit_or (bit_or x y) z) w
+module _ (p : List ℕ) (i j : ℕ) where
+  -- what `meets` works out of the four words that rows i and j have in common
+  abbrev pub meet_word : ℕ
+  meet_word = fold (λ a w. bit_or a (common_word p i j w)) 0 (range_with_len 0 4)
 
-module _ (p : List ℕ) (i j x y z w : ℕ) (hx : CommonWord p i j 0 x) (hy : CommonWord p i j 1 y) (hz : CommonWord p i j 2 z) (hw : CommonWord p i j 3 w) where
-  B : ℕ → Bool
-  B k = bit p i k && bit p j k
+  meet_digit : (d : ℕ) → digit meet_word d ≡ list_any (λ w. digit (common_word p i j w) d) (range_with_len 0 4)
+  meet_digit d =
+      or_digit (common_word p i j) d 0 (range_with_len 0 4)
+      ∙ ap (λ (t : Bool). t || list_any (λ w. digit (common_word p i j w) d) (range_with_len 0 4)) (digit_zero d)
 
-  meet_digit : (d : ℕ) → d < 64 → digit (meet_word x y z w) d ≡ B (0 + d) || B (64 + d) || B (128 + d) || B (192 + d)
-  unfolding B
-  meet_digit d h =
-      digit_or (bit_or (bit_or x y) z) w d
-      ∙ ap₂ ◌||◌ (digit_or (bit_or x y) z d ∙ ap₂ ◌||◌ (digit_or x y d ∙ ap₂ ◌||◌ (sym (hx d h)) (sym (hy d h))) (sym (hz d h))) (sym (hw d h))
-
-  pub meet_yes : x < 2 ^ 64 → y < 2 ^ 64 → z < 2 ^ 64 → w < 2 ^ 64 → not (eqb (meet_word x y z w) 0) ≡ true → Common p i j
-  unfolding B
-  meet_yes lx ly lz lw e = go (set_digit 64 (meet_word x y z w) (or_lt 64 _ _ (or_lt 64 _ _ (or_lt 64 _ _ lx ly) lz) lw))
+  pub meet_yes : meet_word < 2 ^ 64 → not (eqb meet_word 0) ≡ true → Common p i j
+  meet_yes l e = go (set_digit 64 meet_word l)
     where
-      found : (k : ℕ) → k < 256 → B k ≡ true → Common p i j
-      found k h q = let s = and_out (bit p i k) (bit p j k) q in (k, h, s.0, s.1)
+      go : (meet_word ≡ 0) ⊎ ((d : ℕ) × (d < 64) × (digit meet_word d ≡ true)) → Common p i j
+      go (inl o) = absurd (eqb-false meet_word 0 (not-true (eqb meet_word 0) e) o)
+      go (inr f) =
+          let s = any_found (λ w. digit (common_word p i j w) f.0) 0 4 (sym (meet_digit f.0) ∙ f.2) in
+          let k : ℕ = s.0 * 64 + f.0 in
+          let b = and_out (bit p i k) (bit p j k) (common_law p i j s.0 f.0 f.1 ∙ s.2) in
+          (k, omega (arith, s.1, f.1), b.0, b.1)
 
-      pick : (d : ℕ) → d < 64 → (B (0 + d) ≡ true) ⊎ ((B (64 + d) ≡ true) ⊎ ((B (128 + d) ≡ true) ⊎ (B (192 + d) ≡ true))) → Common p i j
-      pick d h (inl q) = found (0 + d) (omega arith) q
-      pick d h (inr (inl q)) = found (64 + d) (omega arith) q
-      pick d h (inr (inr (inl q))) = found (128 + d) (omega arith) q
-      pick d h (inr (inr (inr q))) = found (192 + d) (omega arith) q
-
-      go : (meet_word x y z w ≡ 0) ⊎ ((d : ℕ) × (d < 64) × (digit (meet_word x y z w) d ≡ true)) → Common p i j
-      go (inl o) = absurd (eqb-false (meet_word x y z w) 0 (not-true (eqb (meet_word x y z w) 0) e) o)
-      go (inr f) = pick f.0 f.1 (four_out (B (0 + f.0)) (B (64 + f.0)) (B (128 + f.0)) (B (192 + f.0)) (sym (meet_digit f.0 f.1) ∙ f.2))
-
-  pub meet_no : not (eqb (meet_word x y z w) 0) ≡ false → (k : ℕ) → k < 256 → bit p i k && bit p j k ≡ false
-  unfolding B
-  meet_no e k h = go (dec_lt k 64) (dec_lt k 128) (dec_lt k 192)
+  pub meet_no : not (eqb meet_word 0) ≡ false → (k : ℕ) → k < 256 → bit p i k && bit p j k ≡ false
+  meet_no e k h =
+      let at : get_or (range_with_len 0 4) (k / 64) 0 ≡ k / 64 = omega (arith, get_or-range_with_len 0 4 (k / 64) 0 (omega arith)) in
+      ap (λ (b : ℕ). bit p i b && bit p j b) (omega arith)
+      ∙ common_law p i j (k / 64) (k % 64) (omega arith)
+      ∙ false_from_ne_true (D (k / 64)) (λ q. false≢true (sym none ∙ list_any_at D (range_with_len 0 4) (k / 64) 0 (omega arith) (ap D at ∙ q)))
     where
-      d : ℕ
-      d = k % 64
+      D : ℕ → Bool
+      D w = digit (common_word p i j w) (k % 64)
 
-      none : digit (meet_word x y z w) d ≡ false
-      none = ap (λ (v : ℕ). digit v d) (eqb-true (meet_word x y z w) 0 (not-false (eqb (meet_word x y z w) 0) e)) ∙ digit_zero d
-
-      f : (B (0 + d) ≡ false) × (B (64 + d) ≡ false) × (B (128 + d) ≡ false) × (B (192 + d) ≡ false)
-      f = four_false (B (0 + d)) (B (64 + d)) (B (128 + d)) (B (192 + d)) (sym (meet_digit d (omega arith)) ∙ none)
-
-      go : Dec (k < 64) → Dec (k < 128) → Dec (k < 192) → B k ≡ false
-      go (yes l) q r = ap B (omega arith) ∙ f.0
-      go (no l) (yes q) r = ap B (omega arith) ∙ f.1
-      go (no l) (no q) (yes r) = ap B (omega arith) ∙ f.2
-      go (no l) (no q) (no r) = ap B (omega arith) ∙ f.3
+      none : list_any D (range_with_len 0 4) ≡ false
+      none =
+          sym (meet_digit (k % 64))
+          ∙ ap (λ (v : ℕ). digit v (k % 64)) (eqb-true meet_word 0 (not-false (eqb meet_word 0) e))
+          ∙ digit_zero (k % 64)
 
 -- ---- a row counted
 
--- the ones of four words are the bits of a row of which they are the words
-four_words : (x y z w : ℕ) (f : ℕ → Bool) → x < 2 ^ 64 → y < 2 ^ 64 → z < 2 ^ 64 → w < 2 ^ 64
-    → ((d : ℕ) → d < 64 → f (0 + d) ≡ digit x d) → ((d : ℕ) → d < 64 → f (64 + d) ≡ digit y d)
-    → ((d : ℕ) → d < 64 → f (128 + d) ≡ digit z d) → ((d : ℕ) → d < 64 → f (192 + d) ≡ digit w d)
-    → ones x + ones y + ones z + ones w ≡ sum 256 (λ k. one (f k))
-four_words x y z w f hx hy hz hw ex ey ez ew =
-    ap₂ ◌+◌ (ap₂ ◌+◌ (ap₂ ◌+◌ (word 0 x hx ex) (word 64 y hy ey)) (word 128 z hz ez)) (word 192 w hw ew)
-    ∙ sym (sum_add 192 64 g ∙ ap (λ (n : ℕ). n + sum 64 (λ k. g (192 + k)))
-    (sum_add 128 64 g ∙ ap (λ (n : ℕ). n + sum 64 (λ k. g (128 + k)))
-    (sum_add 64 64 g ∙ ap (λ (n : ℕ). n + sum 64 (λ k. g (64 + k))) (sum_ext 64 g (λ k. g (0 + k)) (λ k l. ap g (omega arith))))))
-  where
-    g : ℕ → ℕ
-    g k = one (f k)
+-- a sum over a range
+pub sum_range : (n : ℕ) (f : ℕ → ℕ) → sum_list (map f (range_with_len 0 n)) ≡ sum n f
+unfolding sum
+sum_range zero f = refl
+sum_range (suc n) f =
+    ap (λ (k : ℕ). sum_list (map f (range_with_len 0 k))) (sym (add-one n))
+    ∙ sum_by-map-range_with_len_more (λ x. x) f 0 n n (omega arith)
+    ∙ ap (λ (s : ℕ). s + f n) (sum_range n f)
 
-    word : (base v : ℕ) → v < 2 ^ 64 → ((d : ℕ) → d < 64 → f (base + d) ≡ digit v d) → ones v ≡ sum 64 (λ k. g (base + k))
-    word base v h e = ones_sum 64 v h ∙ sum_ext 64 (λ d. one (digit v d)) (λ k. g (base + k)) (λ d l. ap one (sym (e d l)))
+module _ (p : List ℕ) (i j : ℕ) where
+  abbrev common : ℕ → ℕ
+  common k = one (bit p i k && bit p j k)
 
-pub both_ones_law : (p : List ℕ) (i j x y z w : ℕ) → CommonWord p i j 0 x → CommonWord p i j 1 y → CommonWord p i j 2 z → CommonWord p i j 3 w → x < 2 ^ 64 → y < 2 ^ 64 → z < 2 ^ 64 → w < 2 ^ 64
-    → ones x + ones y + ones z + ones w ≡ sum 256 (λ k. one (bit p i k && bit p j k))
-both_ones_law p i j x y z w hx hy hz hw lx ly lz lw = four_words x y z w (λ k. bit p i k && bit p j k) lx ly lz lw hx hy hz hw
-
-and_same : (t : Bool) → t && t ≡ t
-and_same true = refl
-and_same false = refl
+  -- the ones of the four words are the bits in common
+  pub both_ones_law : ((k : ℕ) → get_or p k 0 < 2 ^ 64) → sum_list (map (λ w. ones (common_word p i j w)) (range_with_len 0 4)) ≡ sum 256 common
+  both_ones_law h =
+      omega (
+        arith,
+        word 0,
+        word 1,
+        word 2,
+        word 3,
+        sum_add 192 64 common,
+        sum_add 128 64 common,
+        sum_add 64 64 common,
+        sum_ext 64 common (λ k. common (0 + k)) (λ k l. ap common (omega arith)),
+      )
+    where
+      word : (w : ℕ) → ones (common_word p i j w) ≡ sum 64 (λ k. common (w * 64 + k))
+      word w =
+          ones_sum 64 (common_word p i j w) (and_lt 64 _ _ (h (i * 4 + w)) (h (j * 4 + w)))
+          ∙ sum_ext 64 (λ d. one (digit (common_word p i j w) d)) (λ k. common (w * 64 + k)) (λ d l. ap one (sym (common_law p i j w d l)))
 
 -- a row has in common with itself what it holds
 pub row_ones_law : (p : List ℕ) (i : ℕ) → sum 256 (λ k. one (bit p i k && bit p i k)) ≡ row_ones p i
 unfolding row_ones
-row_ones_law p i = sum_ext 256 (λ k. one (bit p i k && bit p i k)) (λ k. one (bit p i k)) (λ k l. ap one (and_same (bit p i k)))
+row_ones_law p i = sum_ext 256 (λ k. one (bit p i k && bit p i k)) (λ k. one (bit p i k)) (λ k l. ap one (and_self (bit p i k)))
+
+-- rows have at most 256 bits each
+pub rows_most : (p : List ℕ) (m : ℕ) → sum m (row_ones p) ≤ 256 * m
+unfolding row_ones
+rows_most p m = omega (arith, sum_times m 256 (row_ones p) (λ i _. count_le 256 (bit p i)))
 
 -- ---- a row filled
 
 -- row i is filled up to j: below j it holds what is stored, from j on what it was seeded with
 abbrev pub Part : (ℕ → ℕ → Bool) → List ℕ → ℕ → ℕ → Type 0
 Part nb p i j = (b : ℕ) → b < 256 → (b < j → bit p i b ≡ stored nb i b) × (j ≤ b → bit p i b ≡ eqb i b || (ltb b i && nb i b))
-
-pub part_start : (nb : ℕ → ℕ → Bool) (p : List ℕ) (i : ℕ) → Seeded nb p i → Part nb p i 0
-part_start nb p i s b h = (λ l. absurd (omega arith), λ l. s b h)
 
 module _ (nb : ℕ → ℕ → Bool) (p : List ℕ) (i j : ℕ) (hi : i < 256) (hj : j < i)
     (rows : (a : ℕ) → a < i → Done nb p a) (part : Part nb p i j) where

@@ -1,6 +1,6 @@
 -- Bits of words, and a pattern of 256 rows of 256 bits, four words to a row.
 -- Assumes nothing.
-use Rattle.std.specs.Prelude.{◌≡◌, Bool, false, ◌&&◌, ◌||◌, List, ℕ, suc, ◌+◌, ◌*◌, ◌/◌, ◌%◌, ◌^◌, ◌<◌, eqb, leb, ltb, get_or}
+use Rattle.std.specs.Prelude.{◌≡◌, Bool, false, ◌&&◌, ◌||◌, List, ℕ, suc, ◌+◌, ◌*◌, ◌/◌, ◌%◌, ◌^◌, ◌<◌, eqb, leb, ltb, get_or, bit_and}
 use Rattle.csr.specs.Pattern.{stored}
 use Rattle.base.specs.Sums.{sum, one}
 use Rattle.csr.specs.Questions.{max_rows}
@@ -42,6 +42,10 @@ OtherRows q p i = (a b : ℕ) → a < max_rows → b < max_rows → (a ≡ i →
 unfoldable pub row_ones : List ℕ → ℕ → ℕ
 unfolding bit sum
 row_ones p i = sum max_rows (λ j. one (bit p i j))
+
+-- word w of what rows i and j have in common
+abbrev pub common_word : List ℕ → ℕ → ℕ → ℕ → ℕ
+common_word p i j w = bit_and (get_or p (i * 4 + w) 0) (get_or p (j * 4 + w) 0)
 
 -- r is word w of what rows i and j have in common
 abbrev pub CommonWord : List ℕ → ℕ → ℕ → ℕ → ℕ → Type 0

@@ -2,8 +2,7 @@
 #![tactic(auto)]
 
 ghost use Rattle.std.specs.Prelude.{◌≡◌, Bool, true, false, ◌&&◌, ℕ, ◌+◌, ◌<◌, ◌≤◌, length, get_or, cond, eqb};
-ghost use Rattle.std.specs.Int.Count.{ones};
-ghost use Rattle.pattern.specs.Word.{bit, Put, Done, Whole, Seeded, OtherRows, row_ones, CommonWord, Clear, Linked, pattern_words};
+ghost use Rattle.pattern.specs.Word.{bit, Put, Done, Whole, Seeded, OtherRows, row_ones, common_word, Clear, Linked, pattern_words};
 ghost use Rattle.base.specs.Sums.{sum, one};
 ghost use Rattle.csr.specs.Pattern.{neighbours};
 ghost use Rattle.csr.specs.Csr.{Csr, RowOf};
@@ -34,13 +33,13 @@ fn put(p: &mut [u64], i: usize, j: usize)
     ensures { Put p.old p.new i j }
 {
     let at = i * ROW_WORDS + j / WORD_BITS;
-    p[at] = p[at] | (1u64 << (j % WORD_BITS));
+    p[at] |= 1u64 << (j % WORD_BITS);
 }
 
 // Word w of what rows i and j have in common.
 fn common_word(p: &[u64], i: usize, j: usize, w: usize) -> u64
     requires { (length p.now ≡ pattern_words) × (i < max_rows) × (j < max_rows) × (w < 4) }
-    ensures { CommonWord p.now i j w result }
+    ensures { result ≡ common_word p.now i j w }
 {
     p[i * ROW_WORDS + w] & p[j * ROW_WORDS + w]
 }
@@ -51,11 +50,7 @@ fn meets(p: &[u64], i: usize, j: usize) -> bool
     ensures yes { result ≡ true → (k : ℕ) × (k < max_rows) × (bit p.now i k ≡ true) × (bit p.now j k ≡ true) }
     ensures no { result ≡ false → (k : ℕ) → k < max_rows → bit p.now i k && bit p.now j k ≡ false }
 {
-    common_word(p, i, j, 0)
-        | common_word(p, i, j, 1)
-        | common_word(p, i, j, 2)
-        | common_word(p, i, j, 3)
-        != 0
+    (0..ROW_WORDS).fold(0, |all, w| all | common_word(p, i, j, w)) != 0
 }
 
 // Fill row i: the rows below it are done, and it holds its diagonal and its neighbours.
@@ -64,20 +59,11 @@ fn fill_row(p: &mut [u64], i: usize)
     ensures other { OtherRows p.old p.new i }
     ensures row { (nb : ℕ → ℕ → Bool) → ((a : ℕ) → a < i → Done nb p.old a) → Seeded nb p.old i → Done nb p.new i }
 {
-    let mut j: usize = 0;
-    while j < i {
+    for j in 0..i {
         if meets(p, i, j) {
             put(p, i, j);
         }
-        j += 1;
     }
-}
-
-// How many bits are set in four words.
-fn four_ones(a: u64, b: u64, c: u64, d: u64) -> u32
-    ensures { (result ≡ ones a + ones b + ones c + ones d) × (result ≤ max_rows) }
-{
-    u64::count_ones(a) + u64::count_ones(b) + u64::count_ones(c) + u64::count_ones(d)
 }
 
 // How many bits rows i and j have in common.
@@ -85,12 +71,9 @@ pub fn both_ones(p: &[u64], i: usize, j: usize) -> u32
     requires { (length p.now ≡ pattern_words) × (i < max_rows) × (j < max_rows) }
     ensures { (result ≡ sum max_rows (λ k. one (bit p.now i k && bit p.now j k))) × (result ≤ max_rows) }
 {
-    four_ones(
-        common_word(p, i, j, 0),
-        common_word(p, i, j, 1),
-        common_word(p, i, j, 2),
-        common_word(p, i, j, 3),
-    )
+    (0..ROW_WORDS)
+        .map(|w| common_word(p, i, j, w).count_ones())
+        .sum()
 }
 
 // How many bits are set in row i.
@@ -106,13 +89,7 @@ pub fn count(p: &[u64], m: usize) -> u32
     requires { (length p.now ≡ pattern_words) × (m ≤ max_rows) }
     ensures { result ≡ sum m (λ i. row_ones p.now i) }
 {
-    let mut e: u32 = 0;
-    let mut i: usize = 0;
-    while i < m {
-        e += row_ones(p, i);
-        i += 1;
-    }
-    e
+    (0..m).map(|i| row_ones(p, i)).sum()
 }
 
 // Row i is linked to the first row of column e, or is that row itself.
@@ -136,11 +113,8 @@ fn seed_row(off: &[u32], cols: &[u32], p: &mut [u64], first: &mut [u32], i: usiz
     ensures row { Seeded (links off.now cols.now) p.new i }
     ensures first { Firsts first.new (first_of off.now cols.now (i + 1)) }
 {
-    let r = csr::get_row(off, cols, i);
-    let mut q: usize = 0;
-    while q < r.len() {
-        link(p, first, base::word_at(r, q), i);
-        q += 1;
+    for e in csr::get_row(off, cols, i) {
+        link(p, first, *e as usize, i);
     }
     put(p, i, i);
 }
@@ -151,10 +125,8 @@ pub fn pattern(off: &[u32], cols: &[u32], m: usize, p: &mut [u64])
     ensures { Whole (neighbours off.now cols.now) p.new m }
 {
     let mut first = [0u32; Plan::MAX_COLUMNS];
-    let mut i: usize = 0;
-    while i < m {
+    for i in 0..m {
         seed_row(off, cols, p, &mut first, i);
         fill_row(p, i);
-        i += 1;
     }
 }

@@ -2,8 +2,9 @@
 // number of bytes, its answer. Writes how many records gave their answer and how many did not.
 #![tactic(auto)]
 
-ghost use Rattle.std.specs.Prelude.{◌+◌, ◌≤◌, length, IfSome};
+ghost use Rattle.std.specs.Prelude.{◌≤◌, length, IfOk};
 
+use cases::{Broken, Ran, run_all};
 use std::{fs, io};
 
 // The bytes of a record or an answer are no more.
@@ -13,106 +14,43 @@ const BUFFER: usize = 4096;
 const COUNT_BYTES: usize = 4;
 
 // More cases than the file has.
-const MOST_CASES: u64 = 100_000;
+const MOST_CASES: u32 = 100_000;
 
-// Where the next case starts, or that there is none, and whether this one gave its answer.
-#[derive(Clone, Copy)]
-enum Case {
-    End,
-    Broken,
-    Right(usize),
-    Wrong(usize),
-}
-
-#[derive(Clone, Copy)]
-struct Tally {
-    right: u64,
-    wrong: u64,
-    broken: bool,
-}
-
-// Where the bytes end whose number stands at a place, where there are so many.
-fn read_part(s: &[u8], at: usize) -> Option<usize>
-    requires { at ≤ length s.now }
-    ensures { IfSome result (λ end. (at + 4 ≤ end) × (end ≤ length s.now)) }
+// The bytes whose number comes first, and those behind them.
+fn cut_part(s: &[u8]) -> Result<(&[u8], &[u8]), Broken>
+    ensures { IfOk result (λ parts. (length parts.0.now ≤ 4096) × (length parts.1.now ≤ length s.now)) }
 {
-    let left = s.len() - at;
-    if left < COUNT_BYTES {
-        return None;
+    if s.len() < COUNT_BYTES {
+        return Err(Broken);
     }
-    let k = record::le32(s, at);
-    if k > BUFFER {
-        return None;
+    let count = record::le32(s, 0);
+    if count > BUFFER {
+        return Err(Broken);
     }
-    if left - COUNT_BYTES < k {
-        return None;
-    }
-    Some(at + COUNT_BYTES + k)
+    s[COUNT_BYTES..].split_at_checked(count).ok_or(Broken)
 }
 
-fn run_case(s: &[u8], at: usize) -> Case {
+// The case at a place, where there is one.
+fn run_case(s: &[u8], at: usize) -> Result<Option<Ran>, Broken> {
     if s.len() <= at {
-        return Case::End;
+        return Ok(None);
     }
-    let Some(middle) = read_part(s, at) else {
-        return Case::Broken;
-    };
-    let Some(end) = read_part(s, middle) else {
-        return Case::Broken;
-    };
-    let given = at + COUNT_BYTES;
-    let wanted = middle + COUNT_BYTES;
+    let (given, rest) = cut_part(&s[at..])?;
+    let (wanted, rest) = cut_part(rest)?;
     let mut out = [0u8; BUFFER];
-    let k = reading::respond(&s[given..middle], &mut out);
-    if check::same(&out[..k], &s[wanted..end]) {
-        Case::Right(end)
-    } else {
-        Case::Wrong(end)
-    }
-}
-
-// A turn for each case.
-fn run_all(s: &[u8]) -> Tally {
-    let mut right: u64 = 0;
-    let mut wrong: u64 = 0;
-    let mut at: usize = 0;
-    let mut turns = MOST_CASES;
-    while turns > 0 {
-        let case = run_case(s, at);
-        match case {
-            Case::End => return Tally {
-                right,
-                wrong,
-                broken: false,
-            },
-            Case::Broken => return Tally {
-                right,
-                wrong,
-                broken: true,
-            },
-            Case::Right(next) => {
-                right += 1;
-                at = next;
-            }
-            Case::Wrong(next) => {
-                wrong += 1;
-                at = next;
-            }
-        }
-        turns -= 1;
-    }
-    Tally {
-        right,
-        wrong,
-        broken: true,
-    }
+    let count = reading::respond(given, &mut out);
+    Ok(Some(Ran {
+        right: &out[..count] == wanted,
+        next: s.len() - rest.len(),
+    }))
 }
 
 fn main(rt: HostRuntime) -> io::Result<()> {
     let bytes = fs::read(&rt, "solve.bin")?;
-    let tally = run_all(bytes.as_slice());
-    println!(rt; "{} right, {} wrong", tally.right, tally.wrong)?;
-    if tally.broken {
+    let s = bytes.as_slice();
+    let (tally, whole) = run_all(|at| run_case(s, at), MOST_CASES);
+    println!(rt; "{tally}")?;
+    if whole.is_err() {
         println!(rt; "the file is broken")?;
     }
     Ok(())

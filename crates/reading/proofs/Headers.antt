@@ -8,7 +8,8 @@ use borrow.Author.Tests.{eqb-true, leb-true}
 use lib.Dec.{eqb, leb}
 use lib.ListN.{length}
 use Rattle.record.specs.declared.RecordSizes.{RecordSizes}
-use Rattle.record.specs.declared.Header.TheVariants.{Mismatch, Matches}
+use Rattle.std.specs.Prelude.{Some, None}
+use Rattle.std.specs.Bool.{then_some}
 use Rattle.record.specs.Record.{most_rows, most_columns, most_entries, length_of, kind_of, m_of, n_of, t_of, within, well_formed, sizes_of, header_of}
 use Rattle.answer_text.specs.Text.{input_text}
 use Rattle.reading.specs.Parts.{Whole}
@@ -30,27 +31,27 @@ module _ (s : List ℕ) where
         ends = eqb-true (length s) _ (and_right (within (m_of s) (n_of s) (t_of s)) _ rest);
       }
 
-  matched : (z : RecordSizes) → header_of s ≡ Matches z → (well_formed s ≡ true) × (z ≡ sizes_of s)
+  matched : (z : RecordSizes) → header_of s ≡ Some z → (well_formed s ≡ true) × (z ≡ sizes_of s)
   matched z h = go (well_formed s) refl h
     where
-      go : (t : Bool) → well_formed s ≡ t → cond t (Matches (sizes_of s)) Mismatch ≡ Matches z → (well_formed s ≡ true) × (z ≡ sizes_of s)
+      go : (t : Bool) → well_formed s ≡ t → then_some t (sizes_of s) ≡ Some z → (well_formed s ≡ true) × (z ≡ sizes_of s)
       go true e k = (e, cc)
       go false e k = let q : ◌≡◌ {A = ℕ} 0 1 = cc in absurd (omega arith)
 
-  pub whole : (z : RecordSizes) → header_of s ≡ Matches z → Whole s z
+  pub whole : (z : RecordSizes) → header_of s ≡ Some z → Whole s z
   whole z h = let k = matched z h in subst (λ (y : RecordSizes). Whole s y) (sym k.1) (own_whole k.0)
 
-  pub narrow : (z : RecordSizes) → header_of s ≡ Matches z → n_of s ≤ most_columns
+  pub narrow : (z : RecordSizes) → header_of s ≡ Some z → n_of s ≤ most_columns
   narrow z h = (own_whole (matched z h).0).columns
 
-  pub matched_text : (z : RecordSizes) → header_of s ≡ Matches z → solve_text (given_of s) (lent_for (m_of s) (n_of s)) ≡ answer_text s
+  pub matched_text : (z : RecordSizes) → header_of s ≡ Some z → solve_text (given_of s) (lent_for (m_of s) (n_of s)) ≡ answer_text s
   unfolding answer_text
   matched_text z h = rw (matched z h).0
 
-  pub mismatch_text : header_of s ≡ Mismatch → input_text ≡ answer_text s
+  pub mismatch_text : header_of s ≡ None → input_text ≡ answer_text s
   unfolding answer_text
   mismatch_text h = go (well_formed s) refl h
     where
-      go : (t : Bool) → well_formed s ≡ t → cond t (Matches (sizes_of s)) Mismatch ≡ Mismatch → input_text ≡ cond (well_formed s) (solve_text (given_of s) (lent_for (m_of s) (n_of s))) input_text
+      go : (t : Bool) → well_formed s ≡ t → then_some t (sizes_of s) ≡ None → input_text ≡ cond (well_formed s) (solve_text (given_of s) (lent_for (m_of s) (n_of s))) input_text
       go true e k = let q : ◌≡◌ {A = ℕ} 0 1 = cc in absurd (omega arith)
       go false e k = rw e

@@ -102,6 +102,15 @@ pub blank_long : (k : ℕ) → length (blank k) ≡ k
 unfolding blank
 blank_long k = lib.ListN.length-replicate k (of_bits binary64 0)
 
+-- numbers that are all the same, by name
+pub zeros_lem : (k : ℕ) {arr : List ℕ} → arr ≡ replicate k 0 → arr ≡ zeros k
+unfolding zeros
+zeros_lem k e = e
+
+pub blank_lem : (k : ℕ) {arr : List Float} → arr ≡ replicate k (of_bits binary64 0) → arr ≡ blank k
+unfolding blank
+blank_lem k e = e
+
 -- the front of a memory of +0.0
 pub blank_front : (k n : ℕ) (arr : List Float) → arr ≡ blank n → k ≤ n → take k arr ≡ blank k
 unfolding blank

@@ -12,9 +12,12 @@ ghost use Rattle.record.specs.Record.{m_of, n_of, most_rows, most_columns};
 ghost use Rattle.reading.specs.Parts.{Whole, Parts, parts_of};
 ghost use Rattle.reading.specs.Answer.{answer_bytes, solve_text, blank, given_of, lent_for, answer_text};
 
-use ipm_simd::SolveAnswer;
+use csr::Numbered;
 use lanes::Controls;
-use record::{Header, LANES, OFFSETS_AT, RecordSizes, SHORT_BYTES, TOLERANCES};
+use record::{LANES, OFFSETS_AT, RecordSizes, SHORT_BYTES, TOLERANCES};
+use record_memory::{
+    INDEX_WORDS, MOST_FLOATS, MOST_OUTPUT, MOST_PRICES, MOST_SHORTS, WORK_FLOATS, filled,
+};
 
 // Solves with the centring and the damping of the Rust, and puts the text of the answer at the start of out. The text has no y, so its memory is made here.
 fn solve_text(
@@ -36,11 +39,10 @@ fn solve_text(
     requires { (m ≤ most_rows) × (n ≤ most_columns) × (length output.old ≡ 4 * n) × (answer_bytes ≤ length out.old) }
     ensures { Wrote out.old out.new 0 (solve_text (given m n s offsets.now columns.now values.now b.now c.now tolerances.now (standard_controls limit)) (lent output.old (blank (4 * m)) index.old work.old)) result }
 {
-    let mut prices = record_memory::prices();
+    let mut prices = filled::<f64, MOST_PRICES>(0.0);
     let price_count = LANES * m;
     let centring = Controls::CENTRING;
     let damping = Controls::DAMPING;
-    let no_file = [0u8; 0];
     let answer = ipm_simd::solve(
         m,
         n,
@@ -54,16 +56,18 @@ fn solve_text(
         limit,
         centring,
         damping,
-        false,
-        &no_file,
+        None,
         output,
         &mut prices[..price_count],
         index,
         work,
     );
     match answer {
-        SolveAnswer::Accepted(test, _) => answer_text::put_accepted(out, test, output, n),
-        SolveAnswer::Refused(r) => answer_text::put_refused(out, r.question, r.place, r.lane),
+        Ok(solution) => answer_text::put_accepted(out, solution.test, output, n),
+        Err(refusal) => {
+            let no = Numbered::from(refusal);
+            answer_text::put_refused(out, no.question, no.place, no.lane)
+        }
     }
 }
 
@@ -117,11 +121,11 @@ fn answer(bytes: &[u8], sizes: RecordSizes, out: &mut [u8]) -> usize
     let short_count = m + 1 + t;
     let float_count = t + TOLERANCES + LANES * m + LANES * n;
     let output_count = LANES * n;
-    let mut shorts = record_memory::shorts();
-    let mut floats = record_memory::floats();
-    let mut output = record_memory::output();
-    let mut index = record_memory::index();
-    let mut work = record_memory::work();
+    let mut shorts = filled::<u32, MOST_SHORTS>(0);
+    let mut floats = filled::<f64, MOST_FLOATS>(0.0);
+    let mut output = filled::<f64, MOST_OUTPUT>(0.0);
+    let mut index = filled::<u32, INDEX_WORDS>(0);
+    let mut work = filled::<f64, WORK_FLOATS>(0.0);
     record::read_shorts(bytes, OFFSETS_AT, &mut shorts[..short_count]);
     record::read_floats(
         bytes,
@@ -145,9 +149,8 @@ pub fn respond(bytes: &[u8], out: &mut [u8]) -> usize
     ensures wrote { Wrote out.old out.new 0 (answer_text bytes.now) result }
     ensures prefix_len { IsPrefixLen result out.new }
 {
-    let header = record::read_header(bytes);
-    match header {
-        Header::Mismatch => answer_text::put_input(out),
-        Header::Matches(sizes) => answer(bytes, sizes, out),
+    match record::read_header(bytes) {
+        Some(sizes) => answer(bytes, sizes, out),
+        None => answer_text::put_input(out),
     }
 }

@@ -1,8 +1,7 @@
 -- What the bytes of a record mean. Definitions only.
-use Rattle.std.specs.Prelude.{Bool, cond, ◌&&◌, List, ℕ, ◌+◌, ◌*◌, eqb, leb, length, Float}
+use Rattle.std.specs.Prelude.{Bool, ◌&&◌, List, ℕ, ◌+◌, ◌*◌, eqb, leb, length, Float, Option}
+use Rattle.std.specs.Bool.{then_some}
 use Rattle.record.specs.declared.RecordSizes.{RecordSizes}
-use Rattle.record.specs.declared.Header.{Header}
-use Rattle.record.specs.declared.Header.TheVariants.{Mismatch, Matches}
 use Rattle.record.specs.Little.{le2, le4, shorts, floats}
 
 -- `length u32 (bytes after it), kind u16 = 1, then m, n, s, N, t as u16`
@@ -89,5 +88,5 @@ well_formed s =
 abbrev pub sizes_of : List ℕ → RecordSizes
 sizes_of s = record { m = m_of s; n = n_of s; s = s_of s; limit = limit_of s; t = t_of s }
 
-abbrev pub header_of : List ℕ → Header
-header_of s = cond (well_formed s) (Matches (sizes_of s)) Mismatch
+abbrev pub header_of : List ℕ → Option RecordSizes
+header_of s = then_some (well_formed s) (sizes_of s)

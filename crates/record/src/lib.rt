@@ -11,18 +11,11 @@ pub use fields::{
 pub use little::{le16, le32};
 
 // The sizes that a record starts with: rows, columns, slack rows, the limit of tests and the stored entries.
-#[derive(Clone, Copy)]
+#[derive(Clone, Copy, Debug, PartialEq, Eq)]
 pub struct RecordSizes {
     pub m: usize,
     pub n: usize,
     pub s: usize,
     pub limit: usize,
     pub t: usize,
-}
-
-// Whether a record's bytes match, and its sizes where they do.
-#[derive(Clone, Copy)]
-pub enum Header {
-    Mismatch,
-    Matches(RecordSizes),
 }

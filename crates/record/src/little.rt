@@ -4,37 +4,34 @@ ghost use Rattle.std.specs.Float.{binary64};
 ghost use Rattle.std.specs.Float.Ieee.{of_bits};
 ghost use Rattle.record.specs.Little.{le2, le4, le8};
 
-const BYTE: usize = 256;
-
-const SHORT: usize = 65_536;
-
-const WORD: u64 = 4_294_967_296;
-
-fn wide(b: u8) -> usize
-    ensures { (result ≡ b) × (result < 256) }
-{
-    b as usize
-}
-
 pub fn le16(s: &[u8], at: usize) -> usize
     requires { at + 2 ≤ length s.now }
     ensures { (result ≡ le2 s.now at) × (result < 65536) }
 {
-    wide(s[at]) + wide(s[at + 1]) * BYTE
+    usize::from(u16::from_le_bytes([s[at], s[at + 1]]))
 }
 
 pub fn le32(s: &[u8], at: usize) -> usize
     requires { at + 4 ≤ length s.now }
     ensures { (result ≡ le4 s.now at) × (result < 4294967296) }
 {
-    le16(s, at) + le16(s, at + 2) * SHORT
+    u32::from_le_bytes([s[at], s[at + 1], s[at + 2], s[at + 3]]) as usize
 }
 
 pub fn le64(s: &[u8], at: usize) -> u64
     requires { at + 8 ≤ length s.now }
     ensures { result ≡ le8 s.now at }
 {
-    le32(s, at) as u64 + le32(s, at + 4) as u64 * WORD
+    u64::from_le_bytes([
+        s[at],
+        s[at + 1],
+        s[at + 2],
+        s[at + 3],
+        s[at + 4],
+        s[at + 5],
+        s[at + 6],
+        s[at + 7],
+    ])
 }
 
 // The float at a place, by its pattern.

@@ -12,6 +12,7 @@ use lanes::{add4, sub4, zero4};
 use layout::{Block, Regions};
 use sparse::{col_less, plus_in, row_less};
 
+#[tactic(auto, using(lanes::proofs::Regions::room_le))]
 fn r_start(b: &[f64], block: Block, work: &[f64], width: usize, mem: Regions, i: usize) -> [f64; 4]
     requires { (i < mem.m) × Laid width mem work.now × Within block width mem.m b.now }
     ensures { On width result (λ l. r_start mem.s (lane_in block mem.m b.now l) (w_in width mem work.now l) i) }
@@ -40,18 +41,17 @@ pub fn primal_squares(
     ensures { On width result (primal_sum width mem off.now cols.now vals.now block b.now work.now) }
 {
     let mut acc = zero4();
-    let mut i = 0;
-    while i < mem.m {
+    for i in 0..mem.m {
         let v = r_start(b, block, work, width, mem, i);
         let r = row_less(off, cols, vals, work, width, mem.x, i, v);
         let t = plus_in(acc, r, r);
         acc = t;
-        i += 1;
     }
     acc
 }
 
 // The sums of squares of the dual residuals.
+#[tactic(auto, using(lanes::proofs::Regions::room_le))]
 pub fn dual_squares(
     atindptr: &[u32],
     atindices: &[u32],
@@ -67,15 +67,13 @@ pub fn dual_squares(
     ensures { On width result (dual_sum width mem atindptr.now atindices.now atmap.now vals.now block c.now work.now) }
 {
     let mut acc = zero4();
-    let mut e = 0;
-    while e < mem.n {
+    for e in 0..mem.n {
         let a = get(work, mem.z + e, width);
         let g = get_lanes(c, block.total, e, block.first, width);
         let v = add4(a, g);
         let q = col_less(atindptr, atindices, atmap, vals, work, width, mem.y, e, v);
         let t = plus_in(acc, q, q);
         acc = t;
-        e += 1;
     }
     acc
 }

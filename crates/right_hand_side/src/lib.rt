@@ -29,6 +29,7 @@ fn f_in(b: [f64; 4], v: [f64; 4], au: [f64; 4]) -> [f64; 4]
 }
 
 // The start of v_i, and of r_i: a slack row's differs.
+#[tactic(auto, using(lanes::proofs::Regions::room_le))]
 fn v_start(work: &[f64], width: usize, mem: Regions, i: usize, mu: [f64; 4]) -> [f64; 4]
     requires { (i < mem.m) × Laid width mem work.now }
     ensures { On width result (λ l. v_start mem.s (at mu l) (y_in width mem work.now l) i) }
@@ -42,6 +43,7 @@ fn v_start(work: &[f64], width: usize, mem: Regions, i: usize, mu: [f64; 4]) -> 
 }
 
 // The reduced costs c − Aᵀy, mu/x and, of both, u.
+#[tactic(auto, using(lanes::proofs::Regions::room_le))]
 pub fn rhs_u(
     atindptr: &[u32],
     atindices: &[u32],
@@ -58,8 +60,7 @@ pub fn rhs_u(
     ensures { RightU width mem atindptr.now atindices.now atmap.now vals.now block c.now mu work.old work.new }
 {
     let zero = zero4();
-    let mut e = 0;
-    while e < mem.n {
+    for e in 0..mem.n {
         let a = col_plus(
             atindptr, atindices, atmap, vals, work, width, mem.y, e, zero,
         );
@@ -72,10 +73,10 @@ pub fn rhs_u(
         put(work, mem.dx + e, width, d);
         put(work, mem.dz + e, width, q);
         put(work, mem.tmp + e, width, v);
-        e += 1;
     }
 }
 
+#[tactic(auto, using(lanes::proofs::Regions::room_le))]
 pub fn rhs_f(
     off: &[u32],
     cols: &[u32],
@@ -91,8 +92,7 @@ pub fn rhs_f(
     ensures { RightF width mem off.now cols.now vals.now block b.now mu work.old work.new }
 {
     let zero = zero4();
-    let mut i = 0;
-    while i < mem.m {
+    for i in 0..mem.m {
         let q = v_start(work, width, mem, i, mu);
         let sums = row_plus_two(off, cols, vals, work, width, mem.x, mem.tmp, i, q, zero);
         let p = sums.first;
@@ -100,6 +100,5 @@ pub fn rhs_f(
         let be = get_lanes(b, block.total, i, block.first, width);
         let v = f_in(be, p, a);
         put(work, mem.rhs + i, width, v);
-        i += 1;
     }
 }

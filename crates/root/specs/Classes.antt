@@ -1,7 +1,5 @@
 -- IEEE 754-2019's classes of operands, by a pattern's fields, and the table of what squareRoot answers at each. Definitions only.
-use Rattle.std.specs.Prelude.{Bool, cond, ℕ, zero, suc, ◌/◌, ◌%◌, ◌^◌, leb, ltb}
-use Rattle.root.specs.declared.Operand.{Operand}
-use Rattle.root.specs.declared.Operand.TheVariants.{Answered, Positive}
+use Rattle.std.specs.Prelude.{Option, Some, None, Bool, cond, ℕ, zero, suc, ◌/◌, ◌%◌, ◌^◌, leb, ltb}
 
 -- the ten classes of clause 5.7.2
 pub data Class : Type 0 where
@@ -43,20 +41,20 @@ abbrev pub minus_zero_bits : ℕ
 minus_zero_bits = 0x8000_0000_0000_0000
 
 -- The table: what is answered at once, with the clause that says so. What is left is a finite number above zero.
-abbrev pub at_once : Class → Operand
+abbrev pub at_once : Class → Option ℕ
 -- 6.2 and 7.2 a: an invalid operation, and its answer is a quiet NaN
-at_once signaling_nan = Answered nan_answer
+at_once signaling_nan = Some nan_answer
 -- 6.2: a quiet NaN
-at_once quiet_nan = Answered nan_answer
+at_once quiet_nan = Some nan_answer
 -- 7.2 g: an operand below zero is invalid
-at_once negative_infinity = Answered nan_answer
-at_once negative_normal = Answered nan_answer
-at_once negative_subnormal = Answered nan_answer
+at_once negative_infinity = Some nan_answer
+at_once negative_normal = Some nan_answer
+at_once negative_subnormal = Some nan_answer
 -- 5.4.1 and 6.3: the root of -0 is -0
-at_once negative_zero = Answered minus_zero_bits
+at_once negative_zero = Some minus_zero_bits
 -- 5.4.1 and 6.3: the root of any other number has its sign clear
-at_once positive_zero = Answered 0
-at_once positive_subnormal = Positive
-at_once positive_normal = Positive
+at_once positive_zero = Some 0
+at_once positive_subnormal = None
+at_once positive_normal = None
 -- 6.1: exact, as the limit of large operands
-at_once positive_infinity = Answered infinity_bits
+at_once positive_infinity = Some infinity_bits

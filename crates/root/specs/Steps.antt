@@ -1,13 +1,11 @@
 -- What each step of the root promises, in the steps' order: special operands, exponent halved, root digits, rounding. Definitions only.
-use Rattle.std.specs.Prelude.{◌≡◌, ◌⊎◌, false}
+use Rattle.std.specs.Prelude.{◌≡◌, ◌⊎◌, false, Option, Some, None}
 use Prim.Native.Nat.{ℕ, ◌+◌, ◌*◌, ◌^◌, ◌≤◌, ◌<◌, compare}
 use Rattle.std.specs.Float.{binary64}
 use Rattle.std.specs.Float.Ieee.{of_bits, nearest}
 use Rattle.std.specs.Float.Ieee.Exact.{HasValue}
 use Rattle.root.specs.Root.{root_bits}
 use Rattle.root.specs.Classes.{class_of, at_once}
-use Rattle.root.specs.declared.Operand.{Operand}
-use Rattle.root.specs.declared.Operand.TheVariants.{Answered, Positive}
 
 -- ---- 1. special operands
 
@@ -16,12 +14,12 @@ abbrev pub FinitePositive : ℕ → Type 0
 FinitePositive b = (0 < b) × (b < 0x7FF0_0000_0000_0000)
 
 -- Any other pattern is answered at once. These are +0, and all from +infinity's up: +infinity, the NaNs, and all with a sign.
-abbrev pub Answer : ℕ → Operand → Type 0
-Answer b (Answered a) = ((b ≡ 0) ⊎ (0x7FF0_0000_0000_0000 ≤ b)) × (a ≡ root_bits b)
-Answer b Positive = FinitePositive b
+abbrev pub Answer : ℕ → Option ℕ → Type 0
+Answer b (Some a) = ((b ≡ 0) ⊎ (0x7FF0_0000_0000_0000 ≤ b)) × (a ≡ root_bits b)
+Answer b None = FinitePositive b
 
 -- r is the table's answer at b's class, and that is the root's pattern
-pub record Special (b : ℕ) (r : Operand) : Type 0 where
+pub record Special (b : ℕ) (r : Option ℕ) : Type 0 where
   pub row : r ≡ at_once (class_of b)
   pub is : Answer b r
 

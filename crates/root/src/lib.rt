@@ -30,43 +30,24 @@ const NAN: u64 = 0x7FF8_0000_0000_0000;
 
 // ---- 1. special operands
 
-// What the first step makes of an operand: the pattern to answer, or a finite number above zero to go on with.
-#[derive(Clone, Copy)]
-pub enum Operand {
-    Answered(u64),
-    Positive,
-}
-
-// Special operands are answered at once, each class as the table `at_once` says (5.4.1, 6.1, 6.2, 6.3, 7.2). What is left is a finite number above zero.
+// The pattern that a special operand is answered with, each class as the table `at_once` says (5.4.1, 6.1, 6.2, 6.3, 7.2). What has none is a finite number above zero.
 // The arms are the exponent's field: zeros and subnormal numbers, normal numbers, infinities and NaNs.
-pub fn special(b: u64) -> Operand
+pub fn special(b: u64) -> Option<u64>
     ensures { Special b result }
 {
     let field = b % SIGN / LEAD;
     match field {
         0 => {
             if b % LEAD == 0 {
-                Operand::Answered(b)
+                Some(b)
             } else if b < SIGN {
-                Operand::Positive
+                None
             } else {
-                Operand::Answered(NAN)
+                Some(NAN)
             }
         }
-        1..=2046 => {
-            if b < SIGN {
-                Operand::Positive
-            } else {
-                Operand::Answered(NAN)
-            }
-        }
-        2047.. => {
-            if b == INFINITY {
-                Operand::Answered(b)
-            } else {
-                Operand::Answered(NAN)
-            }
-        }
+        1..=2046 => { if b < SIGN { None } else { Some(NAN) } }
+        2047.. => { if b == INFINITY { Some(b) } else { Some(NAN) } }
     }
 }
 
@@ -87,7 +68,7 @@ fn unpack(b: u64) -> Unpacked
     let field = b / LEAD;
     match field {
         0 => {
-            let up = u64::leading_zeros(b) as u64 - ABOVE_LEAD;
+            let up = u64::from(b.leading_zeros()) - ABOVE_LEAD;
             Unpacked {
                 digits: b << up,
                 exponent: LOWEST - up,
@@ -110,6 +91,7 @@ pub struct Scaled {
 }
 
 // An exact scaling by a power of four, so that the root's exponent is half of it. An odd exponent gives one factor of two to the digits. No digit is lost.
+#[tactic(auto, using(crate::proofs::Patterns::even_place, crate::proofs::Patterns::odd_place))]
 pub fn halved(b: u64) -> Scaled
     requires { FinitePositive b }
     ensures { Halved b result.digits result.half }
@@ -119,12 +101,12 @@ pub fn halved(b: u64) -> Scaled
     if u.exponent % 2 == 0 {
         Scaled {
             digits: u.digits,
-            half: half,
+            half,
         }
     } else {
         Scaled {
             digits: u.digits * 2,
-            half: half,
+            half,
         }
     }
 }
@@ -142,6 +124,7 @@ pub struct RootDigits {
 const TURNS: u64 = 27;
 
 // The whole root of digits, one digit a turn, with no branch.
+#[tactic(auto, using(crate::proofs::Turns::small, crate::proofs::Turns::first, crate::proofs::Turns::byte_le))]
 fn first_digits(digits: u64) -> RootDigits
     requires { digits < 2 ^ 54 }
     ensures { Digits digits result.whole result.rest }
@@ -149,26 +132,22 @@ fn first_digits(digits: u64) -> RootDigits
     let mut feed = digits;
     let mut whole: u64 = 0;
     let mut rest: u64 = 0;
-    let mut turn: u64 = 0;
-    while turn < TURNS {
+    for _turn in 0..TURNS {
         let now = rest * 4 + feed / LEAD;
         let trial = whole * 4 + 1;
-        let digit = (trial <= now) as u64;
+        let digit = u64::from(trial <= now);
         feed = feed % LEAD * 4;
         rest = now - trial * digit;
         whole = whole * 2 + digit;
-        turn += 1;
     }
-    RootDigits {
-        whole: whole,
-        rest: rest,
-    }
+    RootDigits { whole, rest }
 }
 
 // 2 ^ 26: the root of 2 ^ 52.
 const HALF: u64 = 0x0400_0000;
 
 // The whole root of digits * 2 ^ 52, and what is left. The first 27 digits come one by one, the other 26 by one division.
+#[tactic(auto, using(crate::proofs::Divided::divided, crate::proofs::Divided::room))]
 pub fn digits(digits: u64) -> RootDigits
     requires { (2 ^ 52 ≤ digits) × (digits < 2 ^ 54) }
     ensures { Digits (digits * 2 ^ 52) result.whole result.rest }
@@ -181,7 +160,7 @@ pub fn digits(digits: u64) -> RootDigits
     let whole = first.whole * HALF + next;
     if next * next <= left {
         RootDigits {
-            whole: whole,
+            whole,
             rest: left - next * next,
         }
     } else {
@@ -206,12 +185,13 @@ pub fn rounded(whole: u64, rest: u64) -> u64
 // ---- the four together
 
 // The root's pattern. The leading digit of the rounded root counts one in the exponent's field, and half is added there.
+#[tactic(auto, using(crate::proofs::Core::whole_lt, crate::proofs::Core::rounded_le, crate::proofs::Core::rounded_bits))]
 pub fn root_bits(b: u64) -> u64
     ensures { result ≡ root_bits b }
 {
     match special(b) {
-        Operand::Answered(a) => a,
-        Operand::Positive => {
+        Some(a) => a,
+        None => {
             let s = halved(b);
             let r = digits(s.digits);
             rounded(r.whole, r.rest) + s.half * LEAD
@@ -225,7 +205,7 @@ pub fn root_bits(b: u64) -> u64
 pub fn bits_of(x: f64) -> u64
     ensures { result ≡ to_bits binary64 x }
 {
-    if x != x { NAN } else { f64::to_bits(x) }
+    if x.is_nan() { NAN } else { x.to_bits() }
 }
 
 // The value of any pattern; from_bits takes no NaN's.
@@ -233,7 +213,7 @@ pub fn value_of(b: u64) -> f64
     ensures { result ≡ of_bits binary64 b }
 {
     if b % SIGN > INFINITY {
-        0.0 / 0.0
+        f64::NAN
     } else {
         f64::from_bits(b)
     }

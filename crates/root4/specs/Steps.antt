@@ -138,11 +138,3 @@ passes_at x s =
 
 abbrev pub passes : (x near : Float) → Bool
 passes x near = passes_at x (raised near)
-
--- ---- four lanes
-
-pub record All (a b c d : Bool) : Type 0 where
-  pub one : a ≡ true
-  pub two : b ≡ true
-  pub three : c ≡ true
-  pub four : d ≡ true

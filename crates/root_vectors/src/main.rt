@@ -2,7 +2,7 @@
 // A line of the file is the operand's pattern, a space, the root's pattern and a new line; a pattern is 16 hexadecimal digits.
 #![tactic(auto)]
 
-ghost use Rattle.std.specs.Prelude.{◌+◌, ◌<◌, ◌≤◌, length};
+ghost use Rattle.std.specs.Prelude.{◌<◌, ◌≤◌};
 
 use std::{fs, io};
 
@@ -17,73 +17,51 @@ fn digit(b: u8) -> u64
     ensures { result < 16 }
 {
     match b {
-        b'0'..=b'9' => (b - b'0') as u64,
-        b'a'..=b'f' => (b - b'a') as u64 + 10,
+        b'0'..=b'9' => u64::from(b - b'0'),
+        b'a'..=b'f' => u64::from(b - b'a') + 10,
         _ => 0,
     }
 }
 
-fn pattern(s: &[u8], at: usize) -> u64
-    requires { at + 16 ≤ length s.now }
-{
-    let mut bits: u64 = 0;
-    let mut i: usize = 0;
-    while i < DIGITS {
-        bits = (bits << 4) + digit(s[at + i]);
-        i += 1;
-    }
-    bits
-}
-
-fn one_if(yes: bool) -> u64
-    ensures { result ≤ 1 }
-{
-    if yes { 1 } else { 0 }
+fn pattern(digits: &[u8]) -> u64 {
+    digits.iter().fold(0, |bits, b| (bits << 4) + digit(*b))
 }
 
 fn four_right(x: [f64; 4], wanted: [u64; 4]) -> bool {
-    let r = root4::root4(x);
-    root::bits_of(r[0]) == wanted[0]
-        && root::bits_of(r[1]) == wanted[1]
-        && root::bits_of(r[2]) == wanted[2]
-        && root::bits_of(r[3]) == wanted[3]
+    root4::root4(x).map(root::bits_of) == wanted
 }
 
 #[derive(Clone, Copy)]
 struct Tally {
-    lines: u64,
-    right: u64,
-    right4: u64,
+    lines: usize,
+    right: usize,
+    right4: usize,
 }
 
 fn run_all(s: &[u8]) -> Tally
     ensures { (result.right ≤ result.lines) × (result.right4 ≤ result.lines) }
 {
+    let (lines, _) = s.as_chunks::<LINE>();
     let mut x = [0.0; 4];
-    let mut wanted = [0u64; 4];
-    let mut lines: u64 = 0;
-    let mut right: u64 = 0;
-    let mut right4: u64 = 0;
-    let mut at: usize = 0;
-    while s.len() - at >= LINE {
-        let operand = pattern(s, at);
-        let result = pattern(s, at + ROOT_AT);
-        let lane = (lines % 4) as usize;
-        x[lane] = root::value_of(operand);
-        wanted[lane] = result;
-        right += one_if(root::root_bits(operand) == result);
-        right4 += one_if(four_right(x, wanted));
-        lines += 1;
-        at += LINE;
+    let mut wanted = [0; 4];
+    let mut right = 0;
+    let mut right4 = 0;
+    for (i, line) in lines.iter().enumerate() {
+        let operand = pattern(&line[..DIGITS]);
+        let result = pattern(&line[ROOT_AT..ROOT_AT + DIGITS]);
+        x[i % 4] = root::value_of(operand);
+        wanted[i % 4] = result;
+        right += usize::from(root::root_bits(operand) == result);
+        right4 += usize::from(four_right(x, wanted));
     }
     Tally {
-        lines,
+        lines: lines.len(),
         right,
         right4,
     }
 }
 
-fn print_tally(rt: &impl Print, right: u64, lines: u64) -> io::Result<()>
+fn print_tally(rt: &impl Print, right: usize, lines: usize) -> io::Result<()>
     requires { right ≤ lines }
 {
     let wrong = lines - right;

@@ -9,6 +9,8 @@ use borrow.Author.Tests.{ltb-true, ltb-false, eqb-true, eqb-false}
 use lib.Dec.{eqb, ltb}
 use lib.ListN.{get_or}
 use lib.Ieee.{Float}
+use Rattle.std.specs.Prelude.{Option, Some, None}
+use Rattle.std.specs.Bool.{then_some}
 use Rattle.lanes.specs.Lists.{at, first}
 use Rattle.lanes.specs.Arithmetic.{◌⊕◌, one}
 use Rattle.lanes.specs.Lanes.{lanes, Width}
@@ -34,8 +36,6 @@ use Rattle.memory.proofs.Calls.{data_in_lem}
 use Rattle.lane_test.specs.Measures.{Measured, Divided}
 use Rattle.lane_test.proofs.Tests.{mu_lane}
 use Rattle.step.specs.Steps.{With, Told, LanesStep}
-use Rattle.run.specs.declared.Turn.{Turn}
-use Rattle.run.specs.declared.Turn.TheVariants.{Ends as ends, Steps as steps}
 use Rattle.run.specs.Tests.{ByNorms, Bears, Tested, AtEveryTest, turn_after}
 
 -- document 01's settings with the two as given are such
@@ -58,9 +58,6 @@ divided {w} W {A} {H} {d} {centring} {ws} {nx} {ny} R M er eq = record {
 
 -- ---- what follows a test
 
-steps_not : (o : Outcome) → steps ≡ ends o → ⊥
-steps_not o e = let z : ◌≡◌ {A = ℕ} 0 1 = cc in omega arith
-
 -- the lowest spoilt lane, and the lowest that is not done; w where there is none
 unfoldable pub spoilt_in : ℕ → List Status → ℕ
 spoilt_in w said = first w (λ l. is_spoilt (get_or said l spoilt))
@@ -74,21 +71,21 @@ pub record Goes (w : ℕ) (said : List Status) (N k : ℕ) : Type 0 where
   pub behind : undone_in w said ≡ w → ⊥
   pub under : k ≡ N → ⊥
 
-turn_by : ℕ → ℕ → ℕ → Bool → Bool → Bool → Turn
-turn_by r k N t s q = cond t (ends (no_at11 k r)) (cond s (ends (accepted k)) (cond q (ends (no_at12 k)) steps))
+turn_by : ℕ → ℕ → ℕ → Bool → Bool → Bool → Option Outcome
+turn_by r k N t s q = cond t (Some (no_at11 k r)) (cond s (Some (accepted k)) (then_some q (no_at12 k)))
 
 turn_by_lem : (w : ℕ) (said : List Status) (N k : ℕ) → turn_after w said N k ≡ turn_by (spoilt_in w said) k N (ltb (spoilt_in w said) w) (eqb (undone_in w said) w) (eqb k N)
 unfolding turn_after turn_by spoilt_in undone_in
 turn_by_lem w said N k = refl
 
-pub goes : (w : ℕ) (said : List Status) (N k : ℕ) → turn_after w said N k ≡ steps → Goes w said N k
+pub goes : (w : ℕ) (said : List Status) (N k : ℕ) → turn_after w said N k ≡ None → Goes w said N k
 unfolding turn_by
 goes w said N k e = go (ltb (spoilt_in w said) w) refl (eqb (undone_in w said) w) refl (eqb k N) refl (sym (turn_by_lem w said N k) ∙ e)
   where
-    go : (t : Bool) → ltb (spoilt_in w said) w ≡ t → (s : Bool) → eqb (undone_in w said) w ≡ s → (q : Bool) → eqb k N ≡ q → turn_by (spoilt_in w said) k N t s q ≡ steps → Goes w said N k
-    go true a s b q c z = absurd (steps_not _ (sym z))
-    go false a true b q c z = absurd (steps_not _ (sym z))
-    go false a false b true c z = absurd (steps_not _ (sym z))
+    go : (t : Bool) → ltb (spoilt_in w said) w ≡ t → (s : Bool) → eqb (undone_in w said) w ≡ s → (q : Bool) → eqb k N ≡ q → turn_by (spoilt_in w said) k N t s q ≡ None → Goes w said N k
+    go true a s b q c z = absurd (cc)
+    go false a true b q c z = absurd (cc)
+    go false a false b true c z = absurd (cc)
     go false a false b false c z = record { sound = λ h. omega (arith, ltb-false (spoilt_in w said) w a); behind = eqb-false (undone_in w said) w b; under = eqb-false k N c }
 
 -- no lane is spoilt
@@ -97,7 +94,7 @@ unfolding spoilt_in
 not_spoilt {w} {said} g l a z = g.sound (omega (arith, first_under (λ i. is_spoilt (get_or said i spoilt)) w l a (ap is_spoilt z)))
 
 module _ (C : Call) (N k : ℕ) (M : Memory) (said : List Status) (g : Going C N k M) (h : Says C M said) where
-  pub ends_ran : (o : Outcome) → turn_after C.K said N (k + 1) ≡ ends o → Ran C N M o
+  pub ends_ran : (o : Outcome) → turn_after C.K said N (k + 1) ≡ Some o → Ran C N M o
   unfolding turn_by spoilt_in undone_in
   ends_ran o e = go (ltb r C.K) refl (eqb u C.K) refl (eqb (k + 1) N) refl (sym (turn_by_lem C.K said N (k + 1)) ∙ e)
     where
@@ -107,11 +104,11 @@ module _ (C : Call) (N k : ℕ) (M : Memory) (said : List Status) (g : Going C N
       u : ℕ
       u = undone_in C.K said
 
-      go : (t : Bool) → ltb r C.K ≡ t → (s : Bool) → eqb u C.K ≡ s → (q : Bool) → eqb (k + 1) N ≡ q → turn_by r (k + 1) N t s q ≡ ends o → Ran C N M o
+      go : (t : Bool) → ltb r C.K ≡ t → (s : Bool) → eqb u C.K ≡ s → (q : Bool) → eqb (k + 1) N ≡ q → turn_by r (k + 1) N t s q ≡ Some o → Ran C N M o
       go true a s b q c z = let e : no_at11 (k + 1) r ≡ o = cc in subst (Ran C N M) e (ran_spoilt C N k M said g h r refl (ltb-true r C.K a))
       go false a true b q c z = let e : accepted (k + 1) ≡ o = cc in subst (Ran C N M) e (ran_done C N k M said g h r u refl refl (λ l. omega (arith, ltb-false r C.K a)) (eqb-true u C.K b))
       go false a false b true c z = let e : no_at12 (k + 1) ≡ o = cc in subst (Ran C N M) e (ran_spent C N k M said g h r u refl refl (λ l. omega (arith, ltb-false r C.K a)) (eqb-false u C.K b) (eqb-true (k + 1) N c))
-      go false a false b false c z = absurd (steps_not o z)
+      go false a false b false c z = absurd (cc)
 
   pub goes_on : (M' : Memory) → Goes C.K said N (k + 1) → Stepped C M M' → Going C N (k + 1) M'
   unfolding spoilt_in undone_in

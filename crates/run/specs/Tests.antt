@@ -1,5 +1,6 @@
 -- The tests of a block of lanes, over its real working memory. Definitions only.
-use Rattle.std.specs.Prelude.{◌≡◌, cond, not, List, ℕ, ◌≤◌, ◌<◌, eqb, ltb, get_or, Float}
+use Rattle.std.specs.Prelude.{◌≡◌, cond, not, List, ℕ, ◌≤◌, ◌<◌, eqb, ltb, get_or, Float, Option, Some}
+use Rattle.std.specs.Bool.{then_some}
 use Rattle.lanes.specs.Lists.{first}
 use Rattle.lanes.specs.Lanes.{room as room_for}
 use Rattle.lanes.specs.Arithmetic.{◌⊕◌, norm, one}
@@ -20,8 +21,7 @@ use Rattle.memory.specs.Calls.{call_in}
 use Rattle.lane_test.specs.declared.Measures.{Measures}
 use Rattle.lane_test.specs.Measures.{Measured}
 use Rattle.step.specs.Steps.{With}
-use Rattle.run.specs.declared.Turn.{Turn}
-use Rattle.run.specs.declared.Turn.TheVariants.{Ends as ends, Steps as steps}
+use Rattle.machine.specs.declared.Outcome.{Outcome}
 
 -- what a run is lent: an index memory that begins with the plan, lists that have the block's lanes, and a working memory with room
 pub record Provided (plan : Plan) (block : Block) (width : ℕ) (off cols : List ℕ) (vals : List Float) (index : List ℕ) (b c tol work : List Float) : Type 0 where
@@ -59,8 +59,8 @@ module _ (C : Call) where
   AtEveryTest j M = (N : ℕ) → j ≤ tests_made C.K (lane_status C) N → (said : List Status) × Tested j M said
 
 -- what follows test k, of what it said of K lanes: an end at the lowest spoilt lane, with all lanes done or at the limit N, else a step
-unfoldable pub turn_after : ℕ → List Status → ℕ → ℕ → Turn
+unfoldable pub turn_after : ℕ → List Status → ℕ → ℕ → Option Outcome
 turn_after K said N k =
     let r = first K (λ l. is_spoilt (get_or said l spoilt)) in
     let u = first K (λ l. not (is_done (get_or said l spoilt))) in
-    cond (ltb r K) (ends (no_at11 k r)) (cond (eqb u K) (ends (accepted k)) (cond (eqb k N) (ends (no_at12 k)) steps))
+    cond (ltb r K) (Some (no_at11 k r)) (cond (eqb u K) (Some (accepted k)) (then_some (eqb k N) (no_at12 k)))

@@ -17,13 +17,6 @@ use layout::{Block, Plan};
 use machine::{Outcome, Status};
 use step::{normal_eqn_init, step_lanes};
 
-// What follows a test: the end, or a step.
-#[derive(Clone, Copy)]
-enum Turn {
-    Ends(Outcome),
-    Steps,
-}
-
 fn one_more(size: [f64; 4]) -> [f64; 4]
     ensures { result ≡ lanes (λ l. one ⊕ at size l) }
 {
@@ -50,33 +43,26 @@ fn test_at(
     requires { Provided plan block width off.now cols.now vals.now index.now b.now c.now tol.now work.now × MeasuredIn controls plan width work.now sums × ForLanes (λ C. Bears C k (memory_in plan width work.now)) controls plan block width off.now cols.now vals.now b.now c.now tol.now }
     ensures { ForLanes (λ C. Tested C k (memory_in plan width work.now) result) controls plan block width off.now cols.now vals.now b.now c.now tol.now }
 {
-    let nx = sums.nx;
-    let ny = sums.ny;
-    let rdiv = one_more(nx);
-    let qdiv = one_more(ny);
+    let rdiv = one_more(sums.nx);
+    let qdiv = one_more(sums.ny);
     lane_test::test(
         off, cols, vals, index, plan, b, c, tol, block, work, width, sums, rdiv, qdiv,
     )
 }
 
-// What follows test k. A no at 11 names the lane by its place in the block.
-#[tactic(auto, unfolding(crate::specs::Tests::turn_after))]
-fn turn_after(statuses: [Status; 4], width: usize, limit: usize, k: usize) -> Turn
+// How the tests end, where test k ends them; a step follows it otherwise. A no at 11 names the lane by its place in the block.
+#[tactic(auto, using(lanes::proofs::Lists::first_le), unfolding(crate::specs::Tests::turn_after))]
+fn turn_after(statuses: [Status; 4], width: usize, limit: usize, k: usize) -> Option<Outcome>
     requires { width ≤ 4 }
     ensures { result ≡ turn_after width statuses limit k }
 {
-    let spoilt = machine::lowest_spoilt(statuses, width);
-    if spoilt < width {
-        return Turn::Ends(Outcome::NoAt11(k, spoilt));
+    if let Some(spoilt) = machine::lowest_spoilt(statuses, width) {
+        return Some(Outcome::NoAt11(k, spoilt));
     }
-    let behind = machine::lowest_undone(statuses, width);
-    if behind == width {
-        return Turn::Ends(Outcome::Accepted(k));
+    if machine::lowest_undone(statuses, width).is_none() {
+        return Some(Outcome::Accepted(k));
     }
-    if k == limit {
-        return Turn::Ends(Outcome::NoAt12(k));
-    }
-    Turn::Steps
+    (k == limit).then_some(Outcome::NoAt12(k))
 }
 
 // The tests up to the limit, with a step between one and the next. At every test made each lane has its machine's numbers: under the limit j, for each j up to the number of tests made under any limit, they are in the memory at the end. What dx, dz, tmp, dy, rhs, dw and the factor hold there is open: a step writes them before it reads them.
@@ -106,11 +92,11 @@ pub fn run(
             off, cols, vals, index, plan, b, c, tol, block, work, width, sums, controls, k,
         );
         let mu = sums.mu;
-        match turn_after(statuses, width, controls.limit, k) {
-            Turn::Ends(outcome) => return outcome,
-            Turn::Steps => step_lanes(
-                off, cols, vals, index, plan, b, c, block, work, width, statuses, mu, controls,
-            ),
+        if let Some(outcome) = turn_after(statuses, width, controls.limit, k) {
+            return outcome;
         }
+        step_lanes(
+            off, cols, vals, index, plan, b, c, block, work, width, statuses, mu, controls,
+        );
     }
 }

@@ -8,26 +8,24 @@ use native.Mathlib.Decide.{ℕ_discrete, dec_lt}
 use native.Mathlib.Numerals.{add-one}
 use lib.Dec.{eqb, ltb}
 use borrow.Author.Tests.{eq-eqb, ne_eqb, lt-ltb, le-ltb}
-use lib.ListN.{length, get_or, set, take, drop, length-append, length-take, take-append-drop}
+use lib.ListN.{length, get_or, set, take, drop, length-append, take-append-drop}
 use lib.Seq.{take-suc, take_all, get_or-set_same, get_or-set_other}
 use Rattle.csr.specs.Pattern.{has, row}
-use Rattle.base.specs.Numbers.{Under, Rising, Below, find}
-use Rattle.base.specs.Cat.{pick, Wrote}
+use Rattle.base.specs.Numbers.{Under, Rising, Below, Part, find}
+use Rattle.base.specs.Cat.{pick}
 use Rattle.lists.specs.Lists.{both, chosen, shared_as, shared_of, shared, place, shape}
-use Rattle.transpose.specs.Bins.{Grid}
 use Rattle.lists.specs.declared.Take.{Take}
 use Rattle.lists.proofs.Merge.{both_eq, both_lt, both_gt, both_nil}
 use Rattle.base.proofs.Numbers.{find_at, below_at, length_takes, below_more}
 use Rattle.base.proofs.Maps.{map_join, map_pick}
 use Rattle.csr.proofs.Has.{has_last, find_lt}
-use Rattle.shared_columns.specs.Marked.{along_of, Marked, MarkedOver, hit}
+use Rattle.shared_columns.specs.Marked.{along_of, Marked, MarkedOver, RowMarked, hit}
 use Rattle.base.proofs.Bools.{or_nil, or_true}
-use Rattle.csr.proofs.Rows.{row_is}
+use Rattle.csr.proofs.Rows.{row_length}
 
 -- ---- along a list
 module _ (f : ℕ → ℕ → List ℕ) where
-  along_join : (xs ys : List ℕ) (base : ℕ) → along_of f base (xs ++ ys) ≡ along_of f base xs ++ along_of f (base + length xs) ys
-  unfolding along_of
+  pub along_join : (xs ys : List ℕ) (base : ℕ) → along_of f base (xs ++ ys) ≡ along_of f base xs ++ along_of f (base + length xs) ys
   along_join [] ys base = let z : base ≡ base + 0 = omega arith in ap (λ (b : ℕ). along_of f b ys) z
   along_join (x ∷ xs) ys base =
       let z : suc base + length xs ≡ base + suc (length xs) = omega arith in
@@ -35,7 +33,6 @@ module _ (f : ℕ → ℕ → List ℕ) where
       ∙ sym (append_assoc (f base x) (along_of f (suc base) xs) (along_of f (base + suc (length xs)) ys))
 
   along_one : (x base : ℕ) → along_of f base (x ∷ []) ≡ f base x
-  unfolding along_of
   along_one x base = append-nil (f base x)
 
   pub along_next : (l : List ℕ) (q base : ℕ) → q < length l → along_of f base (take (q + 1) l) ≡ along_of f base (take q l) ++ f (base + q) (get_or l q 0)
@@ -44,18 +41,17 @@ module _ (f : ℕ → ℕ → List ℕ) where
       ∙ along_join (take q l) (get_or l q 0 ∷ []) base
       ∙ ap (λ (x : List ℕ). along_of f base (take q l) ++ x) (along_one (get_or l q 0) (base + length (take q l)) ∙ ap (λ (k : ℕ). f (base + k) (get_or l q 0)) (length_takes q l (omega arith)))
 
-  pub along_room : (l : List ℕ) (base q : ℕ) → length (along_of f base (take q l)) ≤ length (along_of f base l)
-  along_room l base q =
+  -- what one of its numbers adds has room
+  pub along_fits : (l : List ℕ) (q base : ℕ) → q < length l → length (along_of f base (take q l)) + length (f (base + q) (get_or l q 0)) ≤ length (along_of f base l)
+  along_fits l q base b =
       omega (
         arith,
-        ap (λ (k : List ℕ). length (along_of f base k)) (sym (take-append-drop q l)),
-        ap length (along_join (take q l) (drop q l) base),
-        length-append (along_of f base (take q l)) (along_of f (base + length (take q l)) (drop q l)),
+        ap length (along_next l q base b),
+        length-append (along_of f base (take q l)) (f (base + q) (get_or l q 0)),
+        ap (λ (k : List ℕ). length (along_of f base k)) (take-append-drop (q + 1) l),
+        ap length (along_join (take (q + 1) l) (drop (q + 1) l) base),
+        length-append (along_of f base (take (q + 1) l)) (along_of f (base + length (take (q + 1) l)) (drop (q + 1) l)),
       )
-
-  pub along_start : (a l : List ℕ) (start base : ℕ) → Wrote a a start (along_of f base (take 0 l)) start
-  unfolding along_of
-  along_start a l start base = record { is = refl; next = omega arith }
 
 -- ---- what two rows share is the same either way
 pub both_sym : (xs ys : List ℕ) → Rising xs → Rising ys → both xs ys ≡ both ys xs
@@ -83,7 +79,6 @@ both_snoc (x ∷ l) xs v = ap (λ (z : List ℕ). pick (has xs x) x ++ z) (both_
 
 module _ (t : Take) (mark : List ℕ) (lo n : ℕ) (xs : List ℕ) (k : Marked mark lo xs n) where
   hit_is : (y v : ℕ) → v < n → hit t mark lo y v ≡ pick (has xs v) (chosen t (lo + find v xs) y v)
-  unfolding hit
   hit_is y v l = go (has xs v) refl
     where
       go : (b : Bool) → has xs v ≡ b → pick (ltb lo (get_or mark v 0)) (chosen t (get_or mark v 0 - 1) y v) ≡ pick b (chosen t (lo + find v xs) y v)
@@ -97,7 +92,7 @@ module _ (t : Take) (mark : List ℕ) (lo n : ℕ) (xs : List ℕ) (k : Marked m
     value e = chosen t (lo + find e xs) (y + find e ys) e
 
     along_both : (q : ℕ) → q ≤ length ys → along_of (hit t mark lo) y (take q ys) ≡ map value (both (take q ys) xs)
-    unfolding along_of both value
+    unfolding both value
     along_both zero l = refl
     along_both (suc q) l =
         ap (λ (i : ℕ). along_of (hit t mark lo) y (take i ys)) (sym (add-one q))
@@ -122,42 +117,42 @@ pub record Marking (old mark : List ℕ) (lo : ℕ) (xs : List ℕ) (q : ℕ) : 
   pub into : (c : ℕ) → has (take q xs) c ≡ true → get_or mark c 0 ≡ lo + find c xs + 1
   pub out : (c : ℕ) → has (take q xs) c ≡ false → get_or mark c 0 ≡ get_or old c 0
 
-pub marking_start : (mark : List ℕ) (lo : ℕ) (xs : List ℕ) (q : ℕ) → q ≡ 0 → Marking mark mark lo xs q
+pub marking_start : (mark : List ℕ) (lo : ℕ) (xs : List ℕ) → Marking mark mark lo xs 0
 unfolding has
-marking_start mark lo xs q e = subst (Marking mark mark lo xs) (sym e) (record {
+marking_start mark lo xs = record {
   into = λ c z. absurd (false≢true z);
   out = λ c z. refl;
-})
+}
 
-pub marking_next : (old mark : List ℕ) (lo : ℕ) (xs : List ℕ) (q e x : ℕ) → Rising xs → q < length xs → e ≡ get_or xs q 0 → x ≡ lo + q + 1 → e < length mark → Marking old mark lo xs q → Marking old (set mark e x) lo xs (q + 1)
-marking_next old mark lo xs q e x up l he hx long k = record {
+pub marking_next : (old mark : List ℕ) (lo : ℕ) (xs : List ℕ) (q : ℕ) → Rising xs → q < length xs → get_or xs q 0 < length mark → Marking old mark lo xs q → Marking old (set mark (get_or xs q 0) (lo + q + 1)) lo xs (q + 1)
+marking_next old mark lo xs q up l long k = record {
   into = λ c h. in_go c h (ℕ_discrete c e);
   out = λ c h. out_go c h (ℕ_discrete c e);
 }
   where
+    e : ℕ
+    e = get_or xs q 0
+
+    x : ℕ
+    x = lo + q + 1
+
     more : (c : ℕ) → has (take (q + 1) xs) c ≡ has (take q xs) c || eqb c e
     more c =
         ap (λ (i : ℕ). has (take i xs) c) (add-one q) ∙ ap (λ (i : List ℕ). has i c) (take-suc xs q 0 l)
-        ∙ has_last (take q xs) (get_or xs q 0) c ∙ ap (λ (i : ℕ). has (take q xs) c || eqb c i) (sym he)
+        ∙ has_last (take q xs) e c
 
     other : (c : ℕ) → (c ≡ e → ⊥) → has (take (q + 1) xs) c ≡ has (take q xs) c
     other c d = more c ∙ ap (λ (b : Bool). has (take q xs) c || b) (ne_eqb c e d) ∙ or_nil (has (take q xs) c)
 
     in_go : (c : ℕ) → has (take (q + 1) xs) c ≡ true → Dec (c ≡ e) → get_or (set mark e x) c 0 ≡ lo + find c xs + 1
     in_go c h (yes d) =
-        ap (λ (i : ℕ). get_or (set mark e x) i 0) d ∙ get_or-set_same mark e x 0 long ∙ hx
-        ∙ ap (λ (i : ℕ). lo + i + 1) (sym (ap (λ (i : ℕ). find i xs) (d ∙ he) ∙ find_at xs q up l))
+        ap (λ (i : ℕ). get_or (set mark e x) i 0) d ∙ get_or-set_same mark e x 0 long
+        ∙ ap (λ (i : ℕ). lo + i + 1) (sym (ap (λ (i : ℕ). find i xs) d ∙ find_at xs q up l))
     in_go c h (no d) = get_or-set_other mark e c x 0 d ∙ k.into c (sym (other c d) ∙ h)
 
     out_go : (c : ℕ) → has (take (q + 1) xs) c ≡ false → Dec (c ≡ e) → get_or (set mark e x) c 0 ≡ get_or old c 0
     out_go c h (yes d) = absurd (true≢false (sym (more c ∙ ap (λ (i : Bool). has (take q xs) c || i) (eq-eqb c e d) ∙ or_true (has (take q xs) c)) ∙ h))
     out_go c h (no d) = get_or-set_other mark e c x 0 d ∙ k.out c (sym (other c d) ∙ h)
-
-pub marking_end : (old mark : List ℕ) (lo : ℕ) (xs : List ℕ) (q : ℕ) → length xs ≤ q → Marking old mark lo xs q → MarkedOver old mark lo xs
-marking_end old mark lo xs q l k = record {
-  into = λ c h. k.into c (ap (λ (i : List ℕ). has i c) (take_all q xs l) ∙ h);
-  out = λ c h. k.out c (ap (λ (i : List ℕ). has i c) (take_all q xs l) ∙ h);
-}
 
 -- ---- what marking a row says of marks that were low
 module _ (old mark : List ℕ) (lo : ℕ) (xs : List ℕ) (k : MarkedOver old mark lo xs) where
@@ -174,29 +169,17 @@ module _ (old mark : List ℕ) (lo : ℕ) (xs : List ℕ) (k : MarkedOver old ma
       go true h = omega (arith, k.into c h, find_lt c xs h)
       go false h = omega (arith, k.out c h)
 
-pub hit_yes : (t : Take) (mark : List ℕ) (lo y v : ℕ) → lo < get_or mark v 0 → hit t mark lo y v ≡ chosen t (get_or mark v 0 - 1) y v ∷ []
-unfolding hit
-hit_yes t mark lo y v l = ap (λ (b : Bool). pick b (chosen t (get_or mark v 0 - 1) y v)) (lt-ltb lo (get_or mark v 0) l)
+-- ---- rows i and j of a grid, row i marked
+module _ {off cols mark : List ℕ} {i j : ℕ} (r : RowMarked off cols mark i j) where
+  pub other_part : Part off j (length cols)
+  other_part = record { here = omega (arith, r.grid.csr.offsets, r.other); rises = r.grid.csr.order j r.other; ends = r.grid.csr.ends (j + 1) (omega (arith, r.other)) }
 
-pub hit_no : (t : Take) (mark : List ℕ) (lo y v : ℕ) → get_or mark v 0 ≤ lo → hit t mark lo y v ≡ []
-unfolding hit
-hit_no t mark lo y v l = ap (λ (b : Bool). pick b (chosen t (get_or mark v 0 - 1) y v)) (le-ltb lo (get_or mark v 0) l)
+  pub other_below : Below (length mark) (row off cols j)
+  other_below = below_more r.wide (length mark) (row off cols j) r.long (r.grid.within j r.other)
 
--- rows i and j of a grid, row i marked
-module _ (t : Take) (off cols : List ℕ) (m n : ℕ) (g : Grid off cols m n) (mark : List ℕ) (i j : ℕ) (hi : i < m) (hj : j < m) (long : n ≤ length mark)
-    (k : Marked mark (get_or off i 0) (row off cols i) n) (a b : ℕ) (ea : a ≡ get_or off j 0) (eb : b ≡ get_or off (j + 1) 0) where
-  pub span_order : (a ≤ b) × (b ≤ length cols) × (length cols ≤ 65536)
-  span_order = (omega (arith, g.csr.order j hj), omega (arith, g.csr.ends (j + 1) (omega arith)), g.short)
+  pub other_short : get_or off j 0 + length (row off cols j) ≤ 65536
+  other_short = omega (arith, row_length off cols j other_part.ends, other_part.rises, other_part.ends, r.grid.short)
 
-  pub span_below : Below (length mark) (take (b - a) (drop a cols))
-  span_below = subst (Below (length mark)) (sym (row_is off cols j a b ea eb)) (below_more n (length mark) (row off cols j) long (g.within j hj))
-
-  pub span_short : a + length (take (b - a) (drop a cols)) ≤ 65536
-  span_short = omega (arith, length-take (b - a) (drop a cols), span_order.0, span_order.1, span_order.2)
-
-  pub span_is : (lo : ℕ) → lo ≡ get_or off i 0 → along_of (hit t mark lo) a (take (b - a) (drop a cols)) ≡ shared_of (shape off cols) t i j
+  pub other_is : (t : Take) → along_of (hit t mark (get_or off i 0)) (get_or off j 0) (row off cols j) ≡ shared_of (shape off cols) t i j
   unfolding shared_of shared_as shared place
-  span_is lo el =
-      ap (λ (x : ℕ). along_of (hit t mark x) a (take (b - a) (drop a cols))) el
-      ∙ ap₂ (λ (x : ℕ) (l : List ℕ). along_of (hit t mark (get_or off i 0)) x l) ea (row_is off cols j a b ea eb)
-      ∙ along_shared t mark (get_or off i 0) n (row off cols i) k (get_or off j 0) (row off cols j) (g.csr.rising j hj) (g.within j hj) (g.csr.rising i hi)
+  other_is t = along_shared t mark (get_or off i 0) r.wide (row off cols i) r.marks (get_or off j 0) (row off cols j) (r.grid.csr.rising j r.other) (r.grid.within j r.other) (r.grid.csr.rising i r.inside)

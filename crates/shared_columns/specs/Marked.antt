@@ -1,7 +1,6 @@
 -- A row of the matrix marked in a memory over the columns. Definitions only.
 use Rattle.std.specs.Prelude.{◌≡◌, Bool, true, false, List, [], ◌∷◌, ◌++◌, ℕ, suc, ◌+◌, ◌-◌, ◌<◌, ◌≤◌, ltb, length, get_or}
 use Rattle.csr.specs.Pattern.{has, row}
-use Rattle.base.specs.Sums.{one}
 use Rattle.base.specs.Cat.{pick}
 use Rattle.base.specs.Numbers.{find}
 use Rattle.lists.specs.Lists.{chosen}
@@ -9,7 +8,7 @@ use Rattle.lists.specs.declared.Take.{Take}
 use Rattle.transpose.specs.Bins.{Grid}
 
 -- what f makes of each number of a list and its place, from base on
-unfoldable pub along_of : (ℕ → ℕ → List ℕ) → ℕ → List ℕ → List ℕ
+abbrev pub along_of : (ℕ → ℕ → List ℕ) → ℕ → List ℕ → List ℕ
 along_of f base [] = []
 along_of f base (k ∷ ks) = f base k ++ along_of f (suc base) ks
 
@@ -34,14 +33,9 @@ pub record RowMarked (off cols mark : List ℕ) (i j : ℕ) : Type 0 where
   pub marks : Marked mark (get_or off i 0) (row off cols i) wide
 
 -- what a walk through a row writes at a column that is marked
-unfoldable pub hit : Take → List ℕ → ℕ → ℕ → ℕ → List ℕ
+abbrev pub hit : Take → List ℕ → ℕ → ℕ → ℕ → List ℕ
 hit t mark lo y v = pick (ltb lo (get_or mark v 0)) (chosen t (get_or mark v 0 - 1) y v)
 
 -- is column v marked?
 abbrev pub marked : List ℕ → ℕ → ℕ → Bool
 marked mark lo v = ltb lo (get_or mark v 0)
-
--- for how many numbers of the list does h hold?
-unfoldable pub count_of : (ℕ → Bool) → List ℕ → ℕ
-count_of h [] = 0
-count_of h (x ∷ xs) = one (h x) + count_of h xs

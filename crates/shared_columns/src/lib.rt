@@ -1,16 +1,16 @@
 // What rows of the matrix share, found by marks: mark[c] is above off[i] just where row i holds column c.
 #![tactic(auto)]
 
-ghost use Rattle.std.specs.Prelude.{◌≡◌, ◌+◌, ◌<◌, ◌≤◌, length, get_or};
+ghost use Rattle.std.specs.Prelude.{◌≡◌, ◌+◌, ◌<◌, ◌≤◌, length, get_or, All, count_by};
 ghost use Rattle.csr.specs.Csr.{RowOf, max_places};
 ghost use Rattle.csr.specs.Pattern.{row};
 ghost use Rattle.base.specs.Numbers.{Below};
 ghost use Rattle.csr.specs.Counts.{common};
 ghost use Rattle.base.specs.Cat.{Wrote};
 ghost use Rattle.lists.specs.Lists.{shape, chosen, shared_of};
-ghost use Rattle.shared_columns.specs.Marked.{MarkedOver, RowMarked, hit, along_of, marked, count_of};
+ghost use Rattle.shared_columns.specs.Marked.{MarkedOver, RowMarked, hit, along_of, marked};
 
-use base::{store, word, word_at};
+use base::{put, store, word_at};
 use lists::Take;
 
 // The columns of row i marked, each by 1 and its place, over the marks of earlier rows.
@@ -19,12 +19,8 @@ pub fn mark_row(off: &[u32], cols: &[u32], i: usize, mark: &mut [u32])
     ensures { MarkedOver mark.old mark.new (get_or off.now i 0) (row off.now cols.now i) }
 {
     let a = word_at(off, i);
-    let b = word_at(off, i + 1);
-    let mut k = a;
-    while k < b {
-        let e = word_at(cols, k);
-        store(mark, e, (k as u32) + 1);
-        k += 1;
+    for (k, e) in csr::get_row(off, cols, i).iter().enumerate() {
+        store(mark, *e as usize, (a + k) as u32 + 1);
     }
 }
 
@@ -45,7 +41,7 @@ fn hit_one(take: Take, mark: &[u32], lo: u32, y: u32, v: u32, index: &mut [u32],
 {
     let w = mark[v as usize];
     if lo < w {
-        word(index, at, choose(take, w - 1, y, v))
+        put(index, at, choose(take, w - 1, y, v))
     } else {
         at
     }
@@ -65,11 +61,8 @@ fn hits(
     ensures { Wrote index.old index.new start (along_of (hit take mark.now lo) y b.now) result }
 {
     let mut at = start;
-    let mut q: usize = 0;
-    while q < b.len() {
-        let v = b[q];
-        at = hit_one(take, mark, lo, y + (q as u32), v, index, at);
-        q += 1;
+    for (q, v) in b.iter().enumerate() {
+        at = hit_one(take, mark, lo, y + (q as u32), *v, index, at);
     }
     at
 }
@@ -88,25 +81,20 @@ pub fn put_shared(
     requires { RowMarked off.now cols.now mark.now i j × (start + length (shared_of (shape off.now cols.now) take i j) ≤ length index.old) }
     ensures { Wrote index.old index.new start (shared_of (shape off.now cols.now) take i j) result }
 {
-    let lo = word_at(off, i);
-    let a = word_at(off, j);
-    let b = word_at(off, j + 1);
-    hits(take, mark, lo as u32, a as u32, &cols[a..b], index, start)
+    let row = csr::get_row(off, cols, j);
+    hits(take, mark, off[i], off[j], row, index, start)
 }
 
 // How many columns of the list are marked.
 fn count_marked(mark: &[u32], lo: u32, b: &[u32]) -> usize
-    requires { Below (length mark.now) b.now }
-    ensures { (result ≡ count_of (marked mark.now lo) b.now) × (result ≤ length b.now) }
+    requires { All (λ v. v < length mark.now) b.now }
+    ensures { result ≡ count_by (marked mark.now lo) b.now }
 {
-    let mut n: usize = 0;
-    let mut q: usize = 0;
-    while q < b.len() {
-        let v = word_at(b, q);
-        if lo < mark[v] {
+    let mut n = 0;
+    for v in b {
+        if lo < mark[*v as usize] {
             n += 1;
         }
-        q += 1;
     }
     n
 }
@@ -116,6 +104,5 @@ pub fn count_shared(off: &[u32], cols: &[u32], mark: &[u32], i: usize, j: usize)
     requires { RowMarked off.now cols.now mark.now i j }
     ensures { (result ≡ common (row off.now cols.now i) (row off.now cols.now j)) × (result ≤ length cols.now) }
 {
-    let lo = word_at(off, i);
-    count_marked(mark, lo as u32, csr::get_row(off, cols, j))
+    count_marked(mark, off[i], csr::get_row(off, cols, j))
 }

@@ -1,22 +1,19 @@
 -- The public calls `sizes` and `costliest`: their questions and their answers. Definitions only.
-use Rattle.std.specs.Prelude.{List, ℕ, leb, length}
-use Rattle.csr.specs.Verdict.{Verdict, told, sized, costs, refused, ask, and_then, refusal}
+use Rattle.std.specs.Prelude.{List, ℕ, leb, length, Result}
+use Rattle.csr.specs.Verdict.{Verdict, told, sized, costs, refused, ask, and_then, told_by}
 use Rattle.csr.specs.Questions.{rows_right, first_no}
 use Rattle.csr.specs.Counts.{count_e, count_s, count_d, size_w, size_f}
 use Rattle.sizes.specs.Costliest.{full_e, full_d}
-use Rattle.sizes.specs.declared.SizesAnswer.{SizesAnswer}
-use Rattle.sizes.specs.declared.SizesAnswer.TheVariants as sizes_answer
-use Rattle.sizes.specs.declared.CostliestAnswer.{CostliestAnswer}
-use Rattle.sizes.specs.declared.CostliestAnswer.TheVariants as costliest_answer
+use Rattle.csr.specs.declared.Refusal.{Refusal}
+use Rattle.sizes.specs.declared.MatrixSizes.{MatrixSizes}
+use Rattle.sizes.specs.declared.MostCounts.{MostCounts}
 
--- each case of the answers, by its number and values
-abbrev pub told_sizes : SizesAnswer → Verdict
-told_sizes (sizes_answer.Sized z) = told (sized z.stored z.shared z.products z.words z.numbers)
-told_sizes (sizes_answer.Refused r) = refusal r
+-- the answers, each by its number and values
+abbrev pub told_sizes : Result MatrixSizes Refusal → Verdict
+told_sizes r = told_by (λ z. told (sized z.stored z.shared z.products z.words z.numbers)) r
 
-abbrev pub told_costliest : CostliestAnswer → Verdict
-told_costliest (costliest_answer.Costs z) = told (costs z.stored z.products)
-told_costliest (costliest_answer.Refused r) = refusal r
+abbrev pub told_costliest : Result MostCounts Refusal → Verdict
+told_costliest r = told_by (λ z. told (costs z.stored z.products)) r
 
 -- question 7, then E, S, D, W and F as plan and solve have them
 unfoldable pub slack_verdict : ℕ → ℕ → ℕ → List ℕ → List ℕ → Verdict

@@ -5,7 +5,7 @@ ghost use Rattle.std.specs.Prelude.{◌≡◌};
 ghost use Rattle.csr.specs.Csr.{Accepted};
 ghost use Rattle.sizes.specs.Sizes.{told_sizes, told_costliest, slack_verdict, sizes_verdict, costliest_verdict};
 
-use csr::{Asked, Refusal};
+use csr::Refusal;
 use layout::LANES;
 
 // E, S, D, W and F.
@@ -18,13 +18,6 @@ pub struct MatrixSizes {
     pub numbers: usize,
 }
 
-// The answer of sizes, or the first no.
-#[derive(Clone, Copy)]
-pub enum SizesAnswer {
-    Sized(MatrixSizes),
-    Refused(Refusal),
-}
-
 // E and D of the costliest pattern.
 #[derive(Clone, Copy)]
 pub struct MostCounts {
@@ -32,25 +25,24 @@ pub struct MostCounts {
     pub products: usize,
 }
 
-// The answer of costliest, or a no.
-#[derive(Clone, Copy)]
-pub enum CostliestAnswer {
-    Costs(MostCounts),
-    Refused(Refusal),
-}
-
 // Question 7, and the sizes of a matrix that is accepted.
-fn sizes_accepted(m: usize, n: usize, s: usize, offsets: &[u32], columns: &[u32]) -> SizesAnswer
+fn sizes_accepted(
+    m: usize,
+    n: usize,
+    s: usize,
+    offsets: &[u32],
+    columns: &[u32],
+) -> Result<MatrixSizes, Refusal>
     requires { Accepted offsets.now columns.now m n }
     ensures { told_sizes result ≡ slack_verdict m n s offsets.now columns.now }
 {
     if m < s {
-        return SizesAnswer::Refused(Refusal::new(Refusal::SLACK_ROWS, 0, 0));
+        return Err(Refusal::SlackRows);
     }
     let plan = counts::plan_sizes(m, n, s, offsets, columns);
     let words = plan.words();
     let numbers = plan.numbers(LANES);
-    SizesAnswer::Sized(MatrixSizes {
+    Ok(MatrixSizes {
         stored: plan.stored,
         shared: plan.shared,
         products: plan.products,
@@ -60,23 +52,27 @@ fn sizes_accepted(m: usize, n: usize, s: usize, offsets: &[u32], columns: &[u32]
 }
 
 // Questions 1 to 5 and 7, and after these E, S, D, W and F. Any numbers, any lists.
-pub fn sizes(m: usize, n: usize, s: usize, offsets: &[u32], columns: &[u32]) -> SizesAnswer
+pub fn sizes(
+    m: usize,
+    n: usize,
+    s: usize,
+    offsets: &[u32],
+    columns: &[u32],
+) -> Result<MatrixSizes, Refusal>
     ensures { told_sizes result ≡ sizes_verdict m n s offsets.now columns.now }
 {
-    match csr::ask(m, n, offsets, columns, columns.len()) {
-        Asked::Good => sizes_accepted(m, n, s, offsets, columns),
-        Asked::Refused(r) => SizesAnswer::Refused(r),
-    }
+    csr::ask(m, n, offsets, columns, columns.len())?;
+    sizes_accepted(m, n, s, offsets, columns)
 }
 
 // Question 1, and after it E and D of m rows that share one column: no m rows have more of either.
-pub fn costliest(m: usize) -> CostliestAnswer
+pub fn costliest(m: usize) -> Result<MostCounts, Refusal>
     ensures { told_costliest result ≡ costliest_verdict m }
 {
     if !csr::rows_right(m) {
-        return CostliestAnswer::Refused(Refusal::new(Refusal::ROWS, 0, 0));
+        return Err(Refusal::Rows);
     }
-    CostliestAnswer::Costs(MostCounts {
+    Ok(MostCounts {
         stored: m * (m + 1) / 2,
         products: (m * m * m - m) / 6,
     })

@@ -7,7 +7,7 @@ use lib.ListN.{length, get_or}
 use lib.Ieee.{Float, binary64, add, sub}
 use Rattle.lanes.specs.Lists.{at, fold}
 use Rattle.lanes.specs.Arithmetic.{◌⊗◌}
-use Rattle.lanes.specs.Lanes.{cell, On, Width}
+use Rattle.lanes.specs.Lanes.{cell, On}
 use Rattle.lanes.specs.Region.{reg}
 use Rattle.lanes.proofs.Lists.{fold_same}
 use Rattle.lanes.proofs.Quads.{reg_cell, ◌▹◌}
@@ -27,25 +27,12 @@ module _ {off : List ℕ} {i size : ℕ} (P : Part off i size) where
       let b' : k < get_or off (i + 1) 0 - get_or off i 0 = omega (arith, span_length xs e) in
       rw (cut_at (get_or off i 0) (get_or off (i + 1) 0) xs k 0 b') (p (get_or off i 0 + k) (omega (arith, P.ends)))
 
-  -- turn k reads an element of either list, and an entry within the memory
-  module _ (list : List ℕ) {es : List ℕ} (e : length list ≡ size) (ee : es ≡ span off list i) {k : ℕ} (h : k < length es) where
-    pub turn_beside : {A : Type 0} (beside : List A) {vs : List A} → length beside ≡ size → vs ≡ span off beside i → k < length vs
-    turn_beside beside {vs} z ev =
-        let n : length es ≡ length (span off list i) = ap length ee in
-        let q : length vs ≡ length (span off beside i) = ap length ev in
-        omega (arith, span_length list e, span_length beside z)
-
-    turn_at : get_or es k 0 ≡ get_or list (get_or off i 0 + k) 0
-    turn_at = let n : length es ≡ length (span off list i) = ap length ee in rw ee (cut_at (get_or off i 0) (get_or off (i + 1) 0) list k 0 (omega (arith, span_length list e)))
-
-    turn_within : get_or off i 0 + k < length list
-    turn_within = let n : length es ≡ length (span off list i) = ap length ee in omega (arith, span_length list e, P.ends)
-
-    pub turn_fits : {room : ℕ} (o : ℕ) → Fits room o list → o + get_or es k 0 < room
-    turn_fits o f = rw turn_at (f (get_or off i 0 + k) turn_within)
-
-    pub turn_named : {n : ℕ} → Names n list → get_or es k 0 < n
-    turn_named f = rw turn_at (f (get_or off i 0 + k) turn_within)
+  -- turn k reads an entry within the memory
+  pub turn_fits : (list : List ℕ) {es : List ℕ} → length list ≡ size → es ≡ span off list i → {k : ℕ} → k < length es → {room : ℕ} (o : ℕ) → Fits room o list → o + get_or es k 0 < room
+  turn_fits list e ee {k} h o f =
+      let n : length _ ≡ length (span off list i) = ap length ee in
+      rw (ee, cut_at (get_or off i 0) (get_or off (i + 1) 0) list k 0 (omega (arith, span_length list e)))
+      (f (get_or off i 0 + k) (omega (arith, span_length list e, P.ends)))
 
 -- ---- what the matrix's ranges give a row and a column
 
@@ -65,13 +52,6 @@ module _ {m n i : ℕ} {off cols : List ℕ} {vals : List Float} (R : Rows m n o
   part_row : Part off i (length cols)
   part_row = part_of R.csr h
 
-  -- what a sum with a region at x, and one with a second region at u, ask
-  pub row_lent : (x : ℕ) {size w : ℕ} → x + n ≤ size → Width w → Part off i (length cols) × (length vals ≡ length cols) × Fits size x cols × Width w
-  row_lent x b W = (part_row, R.sizes, fits_in x cols R.csr.below b, W)
-
-  pub row_lent_two : (x u : ℕ) {size w : ℕ} → x + n ≤ size → u + n ≤ size → Width w → Part off i (length cols) × (length vals ≡ length cols) × Fits size x cols × Fits size u cols × Width w
-  row_lent_two x u b d W = (part_row, R.sizes, fits_in x cols R.csr.below b, fits_in u cols R.csr.below d, W)
-
   module _ (w : ℕ) (ws : List Float) (x : ℕ) (v : List Float) {r : List Float} where
     pub row_plus_reg : On w r (λ l. plus_row off cols vals (λ e. cell w ws (x + e) l) i (at v l)) → On w r (λ l. plus_row off cols vals (at (reg w ws x n l)) i (at v l))
     unfolding plus_row plus_all
@@ -84,10 +64,6 @@ module _ {m n i : ℕ} {off cols : List ℕ} {vals : List Float} (R : Rows m n o
 module _ {n m e : ℕ} {atindptr atindices atmap : List ℕ} {vals : List Float} (C : Cols n m atindptr atindices atmap vals) (h : e < n) where
   part_col : Part atindptr e (length atindices)
   part_col = part_of C.csr h
-
-  -- what a sum with a region at y asks
-  pub col_lent : (y : ℕ) {size w : ℕ} → y + m ≤ size → Width w → Part atindptr e (length atindices) × (length atmap ≡ length atindices) × Names (length vals) atmap × Fits size y atindices × Width w
-  col_lent y b W = (part_col, C.sizes, C.range, fits_in y atindices C.csr.below b, W)
 
   abbrev rows : List ℕ
   rows = span atindptr atindices e

@@ -19,6 +19,7 @@ use lanes::{Controls, LaneState, div4, larger4, one4, smaller4, splat};
 use layout::{Block, Plan};
 use machine::Status;
 use right_hand_side::{rhs_f, rhs_u};
+use std::array;
 
 // The reduced costs and mu/x, in the regions of dx and dz; of them u, and of u f, the right-hand side.
 fn normal_eqn_rhs(
@@ -98,20 +99,18 @@ fn step_length4(theta: [f64; 4], damping: f64) -> [f64; 4]
     smaller4(q, one4())
 }
 
+#[tactic(auto, using(lanes::proofs::Consts::null_bits))]
 fn pick1(done: bool, p: f64) -> f64
     ensures { result ≡ cond done null p }
 {
     if done { 0.0 } else { p }
 }
 
+// The step lengths: 0 in a done lane.
 fn pick4(done: [bool; 4], p: [f64; 4]) -> [f64; 4]
     ensures { result ≡ lanes (λ l. cond (get_or done l false) null (at p l)) }
 {
-    let a = pick1(done[0], p[0]);
-    let b = pick1(done[1], p[1]);
-    let c = pick1(done[2], p[2]);
-    let d = pick1(done[3], p[3]);
-    [a, b, c, d]
+    array::from_fn(|l| pick1(done[l], p[l]))
 }
 
 // Move the numbers by what was worked out; a done lane's step length is 0.
@@ -151,16 +150,7 @@ pub fn normal_eqn_init(work: &mut [f64], width: usize, plan: Plan)
 fn lanes_done(statuses: [Status; 4]) -> [bool; 4]
     ensures { (l : ℕ) → l < 4 → get_or result l false ≡ is_done (get_or statuses l Spoilt) }
 {
-    let a = statuses[0];
-    let b = statuses[1];
-    let c = statuses[2];
-    let d = statuses[3];
-    [
-        machine::is_done(a),
-        machine::is_done(b),
-        machine::is_done(c),
-        machine::is_done(d),
-    ]
+    statuses.map(|t| t.is_done())
 }
 
 // The step that the statuses ask for: a done lane works its step out too, and its step length is 0. What dx, dz, tmp, dy, rhs, dw and the factor hold after is open: the next step writes them before it reads them.

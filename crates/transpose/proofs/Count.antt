@@ -122,6 +122,9 @@ pub record Tally (next : List ℕ) (n : ℕ) (held : ℕ → List ℕ) : Type 0 
 pub tallied : (off cols : List ℕ) (m n : ℕ) (old clear next : List ℕ) → clear ≡ replicate n 0 ++ drop n old → ((c : ℕ) → get_or next c 0 ≡ get_or clear c 0 + length (seen off cols m c)) → Tally next n (seen off cols m)
 tallied off cols m n old clear next z t = record { count = λ c h. omega (arith, t c, cleared_at old clear 0 0 n z c h) }
 
+pub tally_few : (off cols : List ℕ) (m n : ℕ) → Grid off cols m n → (next : List ℕ) → Tally next n (seen off cols m) → (c : ℕ) → c < n → get_or next c 0 ≤ 256
+tally_few off cols m n g next t c h = omega (arith, t.count c h, column_long off cols Numbers m c, room_few off cols m c, g.csr.few)
+
 -- ---- from counts to ends and starts
 module _ (f : ℕ → ℕ) where
   unfoldable pub ends_to : ℕ → List ℕ

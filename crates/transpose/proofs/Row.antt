@@ -32,10 +32,6 @@ module _ (off cols : List ℕ) (m n : ℕ) (w : What) (i : ℕ) (old first : Lis
   ok : RowOf off cols i n
   ok = row_of off cols m i n r.grid.csr r.inside (r.grid.within i r.inside)
 
-  -- the row is a part of the columns, and places are words
-  pub row_ends : (i < 256) × (i + 1 < length off) × (get_or off (i + 1) 0 ≤ length cols) × (length cols ≤ 65536)
-  row_ends = (omega (arith, r.inside, r.grid.csr.few), ok.part.here, ok.part.ends, r.grid.short)
-
   pub passing_start : (k : ℕ) → k ≡ get_or off i 0 → Passing off cols m n w i k old old first start
   passing_start k e =
       let z : 0 ≡ k - get_or off i 0 = omega arith in record {

@@ -12,16 +12,25 @@ ghost use Rattle.csr.specs.Csr.{max_places};
 
 use base::word_at;
 use lists::{Side, What};
+use std::mem;
+
+// Where column e has got to, and one on.
+pub fn step(next: &mut [u32], e: usize) -> usize
+    requires { (e < length next.old) × (get_or next.old e 0 < max_rows * max_columns) }
+    ensures { (result ≡ get_or next.old e 0) × (next.new ≡ set next.old e (get_or next.old e 0 + 1)) }
+{
+    let q = next[e];
+    next[e] = q + 1;
+    q as usize
+}
 
 // One more word into the bin of column e.
 fn put_in(index: &mut [u32], next: &mut [u32], start: usize, e: usize, x: u32)
     requires { (e < length next.old) × (start + get_or next.old e 0 < length index.old) × (get_or next.old e 0 < max_rows * max_columns) }
     ensures { (index.new ≡ set index.old (start + get_or next.old e 0) x) × (next.new ≡ set next.old e (get_or next.old e 0 + 1)) }
 {
-    let q = next[e];
-    let at = start + (q as usize);
-    index[at] = x;
-    next[e] = q + 1;
+    let q = step(next, e);
+    index[start + q] = x;
 }
 
 // Entry k of the columns: the matrix's are words, the factor's are bytes.
@@ -62,23 +71,11 @@ fn scatter_row(
 {
     let a = word_at(off, i);
     let b = word_at(off, i + 1);
-    let mut k = a;
-    while k < b {
+    for k in a..b {
         let e = column_at(side, cols, bytes, k);
         let x = of_entry(what, i as u32, k as u32);
         put_in(index, next, start, e, x);
-        k += 1;
     }
-}
-
-// One more in the count of column e, and the count.
-fn bump(next: &mut [u32], e: usize) -> usize
-    requires { (e < length next.old) × (get_or next.old e 0 < max_rows) }
-    ensures { (result ≡ get_or next.old e 0 + 1) × (next.new ≡ set next.old e (get_or next.old e 0 + 1)) }
-{
-    let q = next[e] + 1;
-    next[e] = q;
-    q as usize
 }
 
 // The entries of row i, each counted in its column: how many columns it shares with the rows up to it.
@@ -96,11 +93,9 @@ fn count_row(
     let a = word_at(off, i);
     let b = word_at(off, i + 1);
     let mut s: usize = 0;
-    let mut k = a;
-    while k < b {
+    for k in a..b {
         let e = column_at(side, cols, bytes, k);
-        s += bump(next, e);
-        k += 1;
+        s += step(next, e) + 1;
     }
     s
 }
@@ -118,21 +113,10 @@ pub fn count_rows(
     ensures { ((c : ℕ) → get_or next.new c 0 ≡ get_or next.old c 0 + length (seen off.now (cols_of side cols.now bytes.now) m c)) × (result ≡ count_s off.now (cols_of side cols.now bytes.now) m) × (result ≤ max_rows * max_places) }
 {
     let mut s: usize = 0;
-    let mut i: usize = 0;
-    while i < m {
+    for i in 0..m {
         s += count_row(side, off, cols, bytes, i, next);
-        i += 1;
     }
     s
-}
-
-fn swap(next: &mut [u32], e: usize, x: u32) -> u32
-    requires { e < length next.old }
-    ensures { (result ≡ get_or next.old e 0) × (next.new ≡ set next.old e x) }
-{
-    let q = next[e];
-    next[e] = x;
-    q
 }
 
 // From the counts of n columns: their ends to the index memory, and their starts to two memories.
@@ -147,17 +131,15 @@ pub fn put_ends(
     ensures ends { Wrote index.old index.new start (ends_from (λ c. get_or next.old c 0) n) result }
     ensures starts { Starts next.new n (λ c. get_or next.old c 0) × Starts again.new (n + 1) (λ c. get_or next.old c 0) }
 {
-    let mut at = base::word(index, start, 0);
+    let mut at = base::put(index, start, 0);
     let mut t: u32 = 0;
-    let mut e: usize = 0;
-    while e < n {
-        let c = swap(next, e, t);
-        swap(again, e, t);
+    for e in 0..n {
+        let c = mem::replace(&mut next[e], t);
+        again[e] = t;
         t += c;
-        at = base::word(index, at, t);
-        e += 1;
+        at = base::put(index, at, t);
     }
-    swap(again, n, t);
+    again[n] = t;
     at
 }
 
@@ -176,10 +158,8 @@ fn scatter(
     requires { (n : ℕ) × EmptyBins off.now (cols_of side cols.now bytes.now) m n index.old next.old start }
     ensures { (n : ℕ) → EmptyBins off.now (cols_of side cols.now bytes.now) m n index.old next.old start → index.new ≡ sets index.old start (cat n (rows_of off.now (cols_of side cols.now bytes.now) what m)) }
 {
-    let mut i: usize = 0;
-    while i < m {
+    for i in 0..m {
         scatter_row(side, what, off, cols, bytes, i, index, next, start);
-        i += 1;
     }
 }
 

@@ -1,28 +1,25 @@
-use mathlib.Core.Path.{◌∙◌, ap}
+use mathlib.Core.Path.{ap, ◌∙◌}
+use mathlib.Core.List.{List, [], ◌∷◌, ◌++◌}
+use Prim.Native.Nat.{ℕ}
 use native.Mathlib.Omega.{arith}
+use lib.ListN.{length-append}
 use Rattle.answer_text.specs.Text.{hex_text, float_text}
-use Rattle.answer_text.proofs.Texts.{hex_places, hex_is, then_byte}
+use Rattle.base.proofs.Write.{same_text}
+use Rattle.answer_text.proofs.Texts.{hex_places, hex_is}
 use Rattle.answer_text.proofs.put_float.Goals as goal
 
-pub put-end-requires : goal.put-end-requires
-put-end-requires c =
+pub put_then-requires : goal.put_then-requires
+put_then-requires c =
     let made = c.hex-k.ensures in
     omega (arith, made.in_bounds.1, hex_places _ _ c.bits_of.type_inv made.len)
-
-pub byte-requires : goal.byte-requires
-byte-requires c =
-    let made = c.hex-k.ensures in
-    omega (arith, c.put-end.ensures.next, c.put-end.auto.out, made.in_bounds.1, hex_places _ _ c.bits_of.type_inv made.len)
 
 pub returns : goal.returns
 unfolding float_text
 returns c =
     let made = c.hex-k.ensures in
-    let pattern = c.bits_of in
-    let few = hex_places _ _ pattern.type_inv made.len in
-    let put = c.put-end.ensures in
-    let last = c.byte.ensures in
+    let few = hex_places _ _ c.bits_of.type_inv made.len in
+    let digits = made.digits ∙ hex_is _ _ few made.len ∙ ap hex_text c.bits_of.ensures in
     record {
-      wrote = then_byte (made.digits ∙ hex_is _ _ few made.len ∙ ap hex_text pattern.ensures) put last;
-      value = omega (arith, last.next, put.next, made.in_bounds.1, few, made.len.0);
+      wrote = same_text (ap (λ (l : List ℕ). l ++ (c.args.after ∷ [])) digits) c.put_then.ensures;
+      value = omega (arith, c.put_then.ensures.next, length-append {A = ℕ}, made.in_bounds.1, few, made.len.0);
     }

@@ -1,33 +1,22 @@
 -- `csr::is_bad` meets its contract. Assumes nothing.
+use mathlib.Core.Path.{sym}
 use native.Mathlib.Omega.{arith}
-use borrow.Author.Tests.{lt-ltb, le-ltb, le-leb, lt-leb}
-use Rattle.csr.specs.Questions.{bad_row}
-use Rattle.csr.proofs.First.{starts, goes_on, found_test, none_test}
+use lib.ListN.{length}
+use borrow.Author.Tests.{lt-ltb, le-leb, lt-leb}
+use Rattle.csr.specs.Questions.{bad_at, bad_row}
+use Rattle.csr.proofs.First.{first_some, first_none}
 use Rattle.csr.proofs.is_bad.Goals as goal
-use Rattle.csr.proofs.is_bad.Goals.{then-k-gt0+else-row-k-2, else-k-gt0}
 
-pub loop-k-init : goal.loop-k-init
-loop-k-init c = starts _ _
-
-pub returns-then-row-k : goal.returns-then-row-k
+pub returns-then-x-n : goal.returns-then-x-n
 unfolding bad_row
-returns-then-row-k c = found_test _ _ _ (omega arith) (simp (le-leb _ _ c.if-row-k.true)) c.loop-k.invariant
+returns-then-x-n c = sym (first_some (bad_at c.args.n c.args.row.now) (length c.args.row.now) c.loop-k.k (omega arith) (simp (le-leb _ _ c.if-x-n.true)))
 
-pub returns-then-row-k-2 : goal.returns-then-row-k-2
+pub returns-then-x-row : goal.returns-then-x-row
 unfolding bad_row
-returns-then-row-k-2 c =
-    found_test _ _ _ (omega arith)
-    (simp (lt-leb _ _ c.if-row-k.false, lt-ltb _ _ c.if-k-gt0.true, le-leb _ _ c.if-row-k-2.true))
-    c.loop-k.invariant
-
-pub loop-k-preserved : goal.loop-k-preserved
-loop-k-preserved c =
-    let first = lt-leb _ _ c.if-row-k.false in
-    elim c.if-k-gt0.branch [
-      | then-k-gt0+else-row-k-2 w ↦ goes_on _ _ _ (omega arith) (simp (first, lt-ltb _ _ w.if-k-gt0.true, lt-leb _ _ w.if-row-k-2.false)) c.loop-k.invariant
-      | else-k-gt0 w ↦ goes_on _ _ _ (omega arith) (simp (first, le-ltb _ _ w.if-k-gt0.false)) c.loop-k.invariant
-    ]
+returns-then-x-row c =
+    sym (first_some (bad_at c.args.n c.args.row.now) (length c.args.row.now) c.loop-k.k (omega arith)
+    (simp (lt-leb _ _ c.if-x-n.false, lt-ltb _ _ c.if-k-gt0.true, le-leb _ _ c.if-x-row.true)))
 
 pub returns : goal.returns
 unfolding bad_row
-returns c = none_test _ _ _ (omega arith) c.loop-k.invariant
+returns c = sym (first_none (bad_at c.args.n c.args.row.now) (length c.args.row.now) (λ k l. c.loop-k.invariant k (omega arith)))

@@ -6,7 +6,7 @@ use Rattle.lanes.proofs.Regions.{room_le}
 use Rattle.layout.specs.Layout.{dy_at, l_in}
 use Rattle.layout.specs.Lists.{lindptr_in, ltindptr_in, ltindices_in, ltmap_in}
 use Rattle.factor_entry.proofs.Sums.{by_ends}
-use Rattle.eliminate.proofs.Turns.{column, column_reads, back_value}
+use Rattle.eliminate.proofs.Turns.{column_reads, back_value}
 use Rattle.base.specs.Numbers.{cut}
 use Rattle.sparse.proofs.Spans.{fits_in}
 use Rattle.eliminate.proofs.back_entry.Goals as goal
@@ -14,68 +14,14 @@ use Rattle.eliminate.proofs.back_entry.Goals as goal
 pub regions-mem-requires : goal.regions-mem-requires
 regions-mem-requires c = omega (arith, room_le c.args.width c.args.work.now, c.requires.0.fits, c.well_formed.0)
 
-pub ltindptr-ends-requires : goal.ltindptr-ends-requires
-ltindptr-ends-requires c = c.requires.0.indexed
-
-pub ltindices-rows-requires : goal.ltindices-rows-requires
-ltindices-rows-requires c = c.requires.0.indexed
-
-pub ltmap-places-requires : goal.ltmap-places-requires
-ltmap-places-requires c = c.requires.0.indexed
-
-pub word_at-a-requires : goal.word_at-a-requires
-word_at-a-requires c = rw c.ltindptr-ends.ensures (omega (arith, c.requires.0.columns.rows, c.requires.1))
-
-pub overflow_add-a : goal.overflow_add-a
-overflow_add-a c = omega (arith, by_ends c.args.i c.word_at-a.ensures c.ltindptr-ends.ensures, (column c.requires.0 c.requires.1).order, (column c.requires.0 c.requires.1).few, c.requires.0.indexed.fits)
-
-pub overflow_add-i : goal.overflow_add-i
-overflow_add-i c = omega (arith, c.requires.1, c.requires.0.indexed.fits)
-
-pub word_at-e-requires : goal.word_at-e-requires
-word_at-e-requires c = rw c.ltindptr-ends.ensures (omega (arith, c.requires.0.columns.rows, c.requires.1))
-
-pub overflow_add-mem : goal.overflow_add-mem
-overflow_add-mem c = rw c.regions-mem.ensures (omega (arith, room_le c.args.width c.args.work.now, c.requires.0.fits, c.requires.1, c.well_formed.0))
-
-pub get-b-requires : goal.get-b-requires
-get-b-requires c = rw c.regions-mem.ensures (c.requires.0.wide, omega (arith, c.requires.0.fits, c.requires.1))
-
-pub offset_bounds-rows-a : goal.offset_bounds-rows-a
-offset_bounds-rows-a c = omega (arith, by_ends c.args.i c.word_at-a.ensures c.ltindptr-ends.ensures, by_ends (c.args.i + 1) c.word_at-e.ensures c.ltindptr-ends.ensures, (column c.requires.0 c.requires.1).order, (column c.requires.0 c.requires.1).few, c.requires.0.indexed.fits)
-
-pub slice_bounds-less_back-count : goal.slice_bounds-less_back-count
-slice_bounds-less_back-count c = omega (arith, by_ends c.args.i c.word_at-a.ensures c.ltindptr-ends.ensures, by_ends (c.args.i + 1) c.word_at-e.ensures c.ltindptr-ends.ensures, (column c.requires.0 c.requires.1).order, (column c.requires.0 c.requires.1).few, c.requires.0.indexed.fits)
-
-pub offset_bounds-places-a : goal.offset_bounds-places-a
-offset_bounds-places-a c = omega (arith, by_ends c.args.i c.word_at-a.ensures c.ltindptr-ends.ensures, by_ends (c.args.i + 1) c.word_at-e.ensures c.ltindptr-ends.ensures, (column c.requires.0 c.requires.1).order, (column c.requires.0 c.requires.1).few, c.requires.0.indexed.fits)
-
-pub slice_bounds-less_back-count-2 : goal.slice_bounds-less_back-count-2
-slice_bounds-less_back-count-2 c = omega (arith, by_ends c.args.i c.word_at-a.ensures c.ltindptr-ends.ensures, by_ends (c.args.i + 1) c.word_at-e.ensures c.ltindptr-ends.ensures, (column c.requires.0 c.requires.1).order, (column c.requires.0 c.requires.1).few, c.requires.0.indexed.fits)
-
 pub less_back-v-requires : goal.less_back-v-requires
 less_back-v-requires c =
     let R = column_reads c.requires.0 c.requires.1 in
     rw (c.regions-mem.ensures, c.ltindices-rows.ensures, c.ltmap-places.ensures, by_ends c.args.i c.word_at-a.ensures c.ltindptr-ends.ensures, by_ends (c.args.i + 1) c.word_at-e.ensures c.ltindptr-ends.ensures)
     (R.sizes, fits_in (dy_at c.args.plan.n c.args.plan.m) (cut (get_or (ltindptr_in c.args.plan c.args.index.now) c.args.i 0 + 1) (get_or (ltindptr_in c.args.plan c.args.index.now) (c.args.i + 1) 0) (ltindices_in c.args.plan c.args.index.now)) R.rows (omega (arith, c.requires.0.fits)), fits_in (l_in c.args.plan) (cut (get_or (ltindptr_in c.args.plan c.args.index.now) c.args.i 0 + 1) (get_or (ltindptr_in c.args.plan c.args.index.now) (c.args.i + 1) 0) (ltmap_in c.args.plan c.args.index.now)) R.places c.requires.0.fits, c.requires.0.wide)
 
-pub lindptr-requires : goal.lindptr-requires
-lindptr-requires c = c.requires.0.indexed
-
-pub overflow_add-i-2 : goal.overflow_add-i-2
-overflow_add-i-2 c = omega (arith, c.requires.1, c.requires.0.indexed.fits)
-
-pub word_at-g-requires : goal.word_at-g-requires
-word_at-g-requires c = rw c.lindptr.ensures (column c.requires.0 c.requires.1).row
-
-pub overflow_sub-g : goal.overflow_sub-g
-overflow_sub-g c = omega (arith, by_ends (c.args.i + 1) c.word_at-g.ensures c.lindptr.ensures, (c.requires.0.ends c.args.i c.requires.1).0)
-
 pub overflow_add-mem-2 : goal.overflow_add-mem-2
 overflow_add-mem-2 c = rw c.regions-mem.ensures (omega (arith, room_le c.args.width c.args.work.now, by_ends (c.args.i + 1) c.word_at-g.ensures c.lindptr.ensures, (c.requires.0.ends c.args.i c.requires.1).1, c.requires.0.fits, c.well_formed.0))
-
-pub get-p-requires : goal.get-p-requires
-get-p-requires c = rw c.regions-mem.ensures (c.requires.0.wide, omega (arith, by_ends (c.args.i + 1) c.word_at-g.ensures c.lindptr.ensures, (c.requires.0.ends c.args.i c.requires.1).0, (c.requires.0.ends c.args.i c.requires.1).1, c.requires.0.fits))
 
 pub returns : goal.returns
 returns c =

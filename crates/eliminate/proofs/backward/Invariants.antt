@@ -5,6 +5,3 @@ use Rattle.eliminate.proofs.backward.Given as goal
 
 abbrev pub invariant-loop-i : goal.invariant-loop-i
 invariant-loop-i l = Falls l.width (lindptr_in l.plan l.index) (ltindptr_in l.plan l.index) (ltindices_in l.plan l.index) (ltmap_in l.plan l.index) (dy_at l.plan.n l.plan.m) (l_in l.plan) l.plan.m l.plan.stored l.initial.work l.work l.i
-
-abbrev pub decreases-loop-i : goal.decreases-loop-i
-decreases-loop-i l = l.i

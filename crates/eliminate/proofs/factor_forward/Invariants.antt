@@ -1,11 +1,8 @@
 use mathlib.Core.List.{List}
-use Prim.Native.Nat.{ℕ, ◌-◌}
+use Prim.Native.Nat.{ℕ}
 use Rattle.memory.specs.Planned.{Planned}
 use Rattle.eliminate.proofs.Rows.{Done}
 use Rattle.eliminate.proofs.factor_forward.Given as goal
 
 abbrev pub invariant-loop-i : goal.invariant-loop-i
 invariant-loop-i l = (off cols : List ℕ) → Planned off cols l.values l.plan l.index → Done l.width off cols l.values l.plan l.index l.initial.work l.i l.work
-
-abbrev pub decreases-loop-i : goal.decreases-loop-i
-decreases-loop-i l = l.mem.m - l.i

@@ -3,9 +3,6 @@ use Rattle.memory.proofs.Plans.{given_of}
 use Rattle.eliminate.proofs.Rows.{two_room, solved_all, back_in}
 use Rattle.eliminate.proofs.factor_solve.Goals as goal
 
-pub factor_forward-requires : goal.factor_forward-requires
-factor_forward-requires c = c.requires
-
 pub backward-requires : goal.backward-requires
 backward-requires c =
     let b = c.requires.0 in

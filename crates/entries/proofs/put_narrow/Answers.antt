@@ -4,29 +4,8 @@ use Rattle.lanes.proofs.Regions.{room_in}
 use Rattle.entries.proofs.Entries.{put_few}
 use Rattle.entries.proofs.put_narrow.Goals as goal
 
-pub overflow_mul-p : goal.overflow_mul-p
-overflow_mul-p c = omega (arith, c.requires.0, c.requires.1, c.well_formed.0, room_in c.args.width c.args.work.now c.args.entry c.requires.2)
-
-pub offset_bounds-work-p : goal.offset_bounds-work-p
-offset_bounds-work-p c = omega (arith, c.requires.0, c.requires.1, c.well_formed.0, room_in c.args.width c.args.work.now c.args.entry c.requires.2)
-
-pub bounds-work-p : goal.bounds-work-p
-bounds-work-p c = omega (arith, c.requires.0, c.requires.1, c.well_formed.0, room_in c.args.width c.args.work.now c.args.entry c.requires.2)
-
-pub overflow_add-work : goal.overflow_add-work
-overflow_add-work c = omega (arith, c.requires.0, c.requires.1, c.well_formed.0, room_in c.args.width c.args.work.now c.args.entry c.requires.2)
-
-pub offset_bounds-work-p-2 : goal.offset_bounds-work-p-2
-offset_bounds-work-p-2 c = omega (arith, c.requires.0, c.requires.1, c.well_formed.0, room_in c.args.width c.args.work.now c.args.entry c.requires.2)
-
 pub bounds-work-p-2 : goal.bounds-work-p-2
 bounds-work-p-2 c = simp length-set (omega (arith, c.requires.0, c.requires.1, c.well_formed.0, room_in c.args.width c.args.work.now c.args.entry c.requires.2))
-
-pub overflow_add-work-2 : goal.overflow_add-work-2
-overflow_add-work-2 c = omega (arith, c.requires.0, c.requires.1, c.well_formed.0, room_in c.args.width c.args.work.now c.args.entry c.requires.2)
-
-pub offset_bounds-work-p-3 : goal.offset_bounds-work-p-3
-offset_bounds-work-p-3 c = omega (arith, c.requires.0, c.requires.1, c.well_formed.0, room_in c.args.width c.args.work.now c.args.entry c.requires.2)
 
 pub bounds-work-p-3 : goal.bounds-work-p-3
 bounds-work-p-3 c = simp length-set (omega (arith, c.requires.0, c.requires.1, c.well_formed.0, room_in c.args.width c.args.work.now c.args.entry c.requires.2))

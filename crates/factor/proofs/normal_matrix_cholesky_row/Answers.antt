@@ -1,47 +1,34 @@
-use mathlib.Core.Path.{◌≡◌, ap}
-use Prim.Native.Nat.{ℕ, ◌+◌, ◌-◌}
-use native.Mathlib.Omega.{arith}
-use lib.ListN.{length}
-use Rattle.lanes.proofs.Regions.{room_le, room_put, kept_room}
+use Rattle.std.proofs.Common.{◌≡◌, ap, ℕ, List, ◌+◌, ◌-◌, ◌<◌, get_or, arith}
+use Rattle.lanes.proofs.Regions.{room_put, kept_room}
 use Rattle.lanes.proofs.Quads.{on}
-use Rattle.plan_laws.proofs.Entry.{start_needs, normal_needs, product_needs, finish_needs}
-use Rattle.plan_laws.proofs.Fill.{lindptr_room, lindices_next, put_room}
+use Rattle.layout.specs.Lists.{lindptr_in}
+use Rattle.plan_laws.specs.Factoring.{Given, Stands}
+use Rattle.plan_laws.proofs.Entry.{normal_needs, product_needs, finish_needs}
+use Rattle.plan_laws.proofs.Fill.{lindices_next, put_room}
 use Rattle.factor_entry.proofs.Sums.{by_ends}
+use Rattle.factor.specs.Row.{RowDue}
 use Rattle.factor.proofs.Along.{along_given, along_stands, value_below, off_diagonal, row_some, stands_last, along_none, along_more, row_kept, row_filled, row_entry}
+use Rattle.factor.proofs.normal_matrix_cholesky_row.Goals.{After-word_at-g, After-word_at-j}
 use Rattle.factor.proofs.normal_matrix_cholesky_row.Goals as goal
 
-pub regions-mem-requires : goal.regions-mem-requires
-regions-mem-requires c = omega (arith, room_le c.args.width c.args.work.now, c.requires.is.given.fits, c.well_formed.0)
+-- where the row ends, as the plan's list has it
+row_end : (c : After-word_at-g) → c.word_at-g.result ≡ get_or (lindptr_in c.args.plan c.args.index.now) (c.args.i + 1) 0
+row_end c = by_ends (c.args.i + 1) c.word_at-g.ensures c.lindptr-ends.ensures
 
-pub lindptr-ends-requires : goal.lindptr-ends-requires
-lindptr-ends-requires c = c.requires.is.given.indexed
+-- in the loop: all that is given, in the memory as it is then; entry e is in column j
+given : (c : After-word_at-j) {off cols : List ℕ} → RowDue c.args.width off cols c.args.values.now c.args.plan c.args.index.now c.args.work.now c.args.i → Given c.args.width off cols c.args.values.now c.args.plan c.args.index.now c.loop-e.work
+given c D = along_given D.given D.row (c.loop-e.invariant _ _ D)
 
-pub lindices-columns-requires : goal.lindices-columns-requires
-lindices-columns-requires c = c.requires.is.given.indexed
-
-pub overflow_add-i : goal.overflow_add-i
-overflow_add-i c = omega (arith, c.requires.is.row, c.requires.is.given.indexed.fits)
-
-pub word_at-g-requires : goal.word_at-g-requires
-word_at-g-requires c = rw c.lindptr-ends.ensures (lindptr_room c.requires.is.given c.requires.is.row)
+stands : (c : After-word_at-j) {off cols : List ℕ} → RowDue c.args.width off cols c.args.values.now c.args.plan c.args.index.now c.args.work.now c.args.i → Stands off cols c.args.plan.m c.args.i c.word_at-j.result c.loop-e.e
+stands c D = along_stands D.given D.row (c.loop-e.invariant _ _ D) c.loop-e-test.true (by_ends (c.args.i + 1) c.word_at-g.ensures c.lindptr-ends.ensures) (by_ends c.loop-e.e c.word_at-j.ensures c.lindices-columns.ensures)
 
 pub overflow_sub-g : goal.overflow_sub-g
-overflow_sub-g c = omega (arith, (row_some c.requires.is.given c.requires.is.row).0, by_ends (c.args.i + 1) c.word_at-g.ensures c.lindptr-ends.ensures)
-
-pub start_of-first-requires : goal.start_of-first-requires
-start_of-first-requires c = rw c.regions-mem.ensures (start_needs c.requires.is.given (stands_last c.requires.is.given c.requires.is.row))
+overflow_sub-g c = omega (arith, (row_some c.requires.is.given c.requires.is.row).0, row_end c)
 
 pub normal_sum-diag-requires : goal.normal_sum-diag-requires
-normal_sum-diag-requires c = rw (c.regions-mem.ensures, by_ends (c.args.i + 1) c.word_at-g.ensures c.lindptr-ends.ensures) (normal_needs c.requires.is.given (stands_last c.requires.is.given c.requires.is.row))
-
-pub overflow_add-mem : goal.overflow_add-mem
-overflow_add-mem c = rw c.regions-mem.ensures (omega (arith, room_le c.args.width c.args.work.now, c.requires.is.row, c.requires.is.given.fits, c.well_formed.0))
-
-pub get-side-requires : goal.get-side-requires
-get-side-requires c = rw c.regions-mem.ensures (c.requires.is.given.wide, omega (arith, c.requires.is.row, c.requires.is.given.fits))
-
-pub word_at-e-requires : goal.word_at-e-requires
-word_at-e-requires c = omega (arith, ap length c.lindptr-ends.ensures, lindptr_room c.requires.is.given c.requires.is.row)
+normal_sum-diag-requires c =
+    let D = c.requires.is in
+    rw (c.regions-mem.ensures, row_end (goal.at.normal_sum-diag-requires c).After-word_at-g) (normal_needs D.given (stands_last D.given D.row))
 
 pub loop-e-init : goal.loop-e-init
 loop-e-init c =
@@ -49,71 +36,66 @@ loop-e-init c =
     along_none D.given D.row c.normal_sum-diag.result c.get-side.result (by_ends c.args.i c.word_at-e.ensures c.lindptr-ends.ensures) D.filled
 
 pub word_at-j-requires : goal.word_at-j-requires
-word_at-j-requires c = rw c.lindices-columns.ensures (lindices_next c.requires.is.given c.requires.is.row (c.loop-e.invariant c.requires.off c.requires.cols c.requires.is).from (omega (arith, c.loop-e-test.true, by_ends (c.args.i + 1) c.word_at-g.ensures c.lindptr-ends.ensures)))
+word_at-j-requires c =
+    let D = c.requires.is in
+    rw c.lindices-columns.ensures (lindices_next D.given D.row (c.loop-e.invariant _ _ D).from (omega (arith, c.loop-e-test.true, row_end (goal.at.word_at-j-requires c).After-word_at-g)))
 
 pub normal_sum-sum-requires : goal.normal_sum-sum-requires
 normal_sum-sum-requires c =
-    let st = along_stands c.requires.is.given c.requires.is.row (c.loop-e.invariant c.requires.off c.requires.cols c.requires.is) c.loop-e-test.true (by_ends (c.args.i + 1) c.word_at-g.ensures c.lindptr-ends.ensures) (by_ends c.loop-e.e c.word_at-j.ensures c.lindices-columns.ensures) in
-    rw c.regions-mem.ensures (normal_needs (along_given c.requires.is.given c.requires.is.row (c.loop-e.invariant c.requires.off c.requires.cols c.requires.is)) st)
+    let p = (goal.at.normal_sum-sum-requires c).After-word_at-j in
+    rw c.regions-mem.ensures (normal_needs (given p c.requires.is) (stands p c.requires.is))
 
 pub less_products-reduced-requires : goal.less_products-reduced-requires
 less_products-reduced-requires c =
-    let st = along_stands c.requires.is.given c.requires.is.row (c.loop-e.invariant c.requires.off c.requires.cols c.requires.is) c.loop-e-test.true (by_ends (c.args.i + 1) c.word_at-g.ensures c.lindptr-ends.ensures) (by_ends c.loop-e.e c.word_at-j.ensures c.lindices-columns.ensures) in
-    rw c.regions-mem.ensures (product_needs (along_given c.requires.is.given c.requires.is.row (c.loop-e.invariant c.requires.off c.requires.cols c.requires.is)) st)
+    let p = (goal.at.less_products-reduced-requires c).After-word_at-j in
+    rw c.regions-mem.ensures (product_needs (given p c.requires.is) (stands p c.requires.is))
 
 pub over_diagonal-v-requires : goal.over_diagonal-v-requires
 over_diagonal-v-requires c =
-    let st = along_stands c.requires.is.given c.requires.is.row (c.loop-e.invariant c.requires.off c.requires.cols c.requires.is) c.loop-e-test.true (by_ends (c.args.i + 1) c.word_at-g.ensures c.lindptr-ends.ensures) (by_ends c.loop-e.e c.word_at-j.ensures c.lindices-columns.ensures) in
-    rw c.regions-mem.ensures (finish_needs (along_given c.requires.is.given c.requires.is.row (c.loop-e.invariant c.requires.off c.requires.cols c.requires.is)) st)
-
-pub overflow_add-mem-in-loop-e : goal.overflow_add-mem-in-loop-e
-overflow_add-mem-in-loop-e c =
-    let st = along_stands c.requires.is.given c.requires.is.row (c.loop-e.invariant c.requires.off c.requires.cols c.requires.is) c.loop-e-test.true (by_ends (c.args.i + 1) c.word_at-g.ensures c.lindptr-ends.ensures) (by_ends c.loop-e.e c.word_at-j.ensures c.lindices-columns.ensures) in
-    rw c.regions-mem.ensures (omega (arith, room_le c.args.width c.args.work.now, put_room c.requires.is.given st, c.well_formed.0))
+    let p = (goal.at.over_diagonal-v-requires c).After-word_at-j in
+    rw c.regions-mem.ensures (finish_needs (given p c.requires.is) (stands p c.requires.is))
 
 pub put-requires : goal.put-requires
 put-requires c =
-    let st = along_stands c.requires.is.given c.requires.is.row (c.loop-e.invariant c.requires.off c.requires.cols c.requires.is) c.loop-e-test.true (by_ends (c.args.i + 1) c.word_at-g.ensures c.lindptr-ends.ensures) (by_ends c.loop-e.e c.word_at-j.ensures c.lindices-columns.ensures) in
-    rw c.regions-mem.ensures (c.requires.is.given.wide, omega (arith, put_room c.requires.is.given st, kept_room (c.loop-e.invariant c.requires.off c.requires.cols c.requires.is).kept))
-
-pub overflow_add-mem-in-loop-e-2 : goal.overflow_add-mem-in-loop-e-2
-overflow_add-mem-in-loop-e-2 c =
-    let st = along_stands c.requires.is.given c.requires.is.row (c.loop-e.invariant c.requires.off c.requires.cols c.requires.is) c.loop-e-test.true (by_ends (c.args.i + 1) c.word_at-g.ensures c.lindptr-ends.ensures) (by_ends c.loop-e.e c.word_at-j.ensures c.lindices-columns.ensures) in
-    rw c.regions-mem.ensures (omega (arith, room_le c.args.width c.args.work.now, st.row, st.low, c.requires.is.given.fits, c.well_formed.0))
+    let p = (goal.at.put-requires c).After-word_at-j in
+    rw c.regions-mem.ensures (c.requires.is.given.wide, put_room (given p c.requires.is) (stands p c.requires.is))
 
 pub get-u-requires : goal.get-u-requires
 get-u-requires c =
-    let st = along_stands c.requires.is.given c.requires.is.row (c.loop-e.invariant c.requires.off c.requires.cols c.requires.is) c.loop-e-test.true (by_ends (c.args.i + 1) c.word_at-g.ensures c.lindptr-ends.ensures) (by_ends c.loop-e.e c.word_at-j.ensures c.lindices-columns.ensures) in
-    rw c.regions-mem.ensures (c.requires.is.given.wide, omega (arith, st.row, st.low, c.requires.is.given.fits, kept_room (c.loop-e.invariant c.requires.off c.requires.cols c.requires.is).kept, room_put c.args.width c.loop-e.work _ c.over_diagonal-v.result (rw c.regions-mem.ensures at c.put.ensures)))
-
-pub overflow_add-e : goal.overflow_add-e
-overflow_add-e c =
-    let st = along_stands c.requires.is.given c.requires.is.row (c.loop-e.invariant c.requires.off c.requires.cols c.requires.is) c.loop-e-test.true (by_ends (c.args.i + 1) c.word_at-g.ensures c.lindptr-ends.ensures) (by_ends c.loop-e.e c.word_at-j.ensures c.lindices-columns.ensures) in
-    omega (arith, room_le c.args.width c.args.work.now, put_room c.requires.is.given st, c.well_formed.0)
-
-pub loop-e-smaller : goal.loop-e-smaller
-loop-e-smaller c = omega (arith, c.loop-e-test.true)
+    let p = (goal.at.get-u-requires c).After-word_at-j in
+    let st = stands p c.requires.is in
+    rw c.regions-mem.ensures (c.requires.is.given.wide, omega (arith, st.row, st.low, (given p c.requires.is).fits, room_put c.args.width c.loop-e.work _ c.over_diagonal-v.result (rw c.regions-mem.ensures at c.put.ensures)))
 
 pub loop-e-preserved : goal.loop-e-preserved
 loop-e-preserved c =
     λ off cols D.
-    let b = c.loop-e-test.true in
-    let st = along_stands D.given D.row (c.loop-e.invariant off cols D) b (by_ends (c.args.i + 1) c.word_at-g.ensures c.lindptr-ends.ensures) (by_ends c.loop-e.e c.word_at-j.ensures c.lindices-columns.ensures) in
-    let o = off_diagonal D.given D.row (c.loop-e.invariant off cols D).from (omega (arith, b, by_ends (c.args.i + 1) c.word_at-g.ensures c.lindptr-ends.ensures)) (by_ends c.loop-e.e c.word_at-j.ensures c.lindices-columns.ensures) in
-    let v = value_below (along_given D.given D.row (c.loop-e.invariant off cols D)) st o c.normal_sum-sum.result c.less_products-reduced.result (on D.given.wide c.splat-start.ensures) (rw c.regions-mem.ensures at c.normal_sum-sum.ensures) (rw c.regions-mem.ensures at c.less_products-reduced.ensures) (rw c.regions-mem.ensures at c.over_diagonal-v.ensures) in
-    along_more D.given D.row (c.loop-e.invariant off cols D) (omega (arith, b, by_ends (c.args.i + 1) c.word_at-g.ensures c.lindptr-ends.ensures)) (by_ends c.loop-e.e c.word_at-j.ensures c.lindices-columns.ensures) v (rw c.regions-mem.ensures at c.put.ensures) (rw c.regions-mem.ensures at c.get-u.ensures) (on D.given.wide c.less_in-p.ensures) (on D.given.wide c.less_in-q.ensures)
-
-pub overflow_add-mem-2 : goal.overflow_add-mem-2
-overflow_add-mem-2 c = rw c.regions-mem.ensures (omega (arith, room_le c.args.width c.args.work.now, put_room c.requires.is.given (stands_last c.requires.is.given c.requires.is.row), c.well_formed.0, by_ends (c.args.i + 1) c.word_at-g.ensures c.lindptr-ends.ensures))
+    let p = (goal.at.loop-e-preserved c).After-word_at-j in
+    let R = c.loop-e.invariant off cols D in
+    let W = D.given.wide in
+    let m = c.regions-mem.ensures in
+    let below : c.loop-e.e < get_or (lindptr_in c.args.plan c.args.index.now) (c.args.i + 1) 0 - 1 = omega (arith, c.loop-e-test.true, row_end (goal.at.loop-e-preserved c).After-word_at-g) in
+    let column = by_ends c.loop-e.e c.word_at-j.ensures c.lindices-columns.ensures in
+    let v = value_below (given p D) (stands p D) (off_diagonal D.given D.row R.from below column) c.normal_sum-sum.result c.less_products-reduced.result (on W c.splat-start.ensures) (rw m at c.normal_sum-sum.ensures) (rw m at c.less_products-reduced.ensures) (rw m at c.over_diagonal-v.ensures) in
+    along_more D.given D.row R below column v (rw m at c.put.ensures) (rw m at c.get-u.ensures) (on W c.less_in-p.ensures) (on W c.less_in-q.ensures)
 
 pub put-requires-2 : goal.put-requires-2
-put-requires-2 c = rw c.regions-mem.ensures (c.requires.is.given.wide, omega (arith, put_room c.requires.is.given (stands_last c.requires.is.given c.requires.is.row), kept_room (c.loop-e.invariant c.requires.off c.requires.cols c.requires.is).kept, by_ends (c.args.i + 1) c.word_at-g.ensures c.lindptr-ends.ensures))
+put-requires-2 c =
+    let D = c.requires.is in
+    rw c.regions-mem.ensures (D.given.wide, omega (arith, put_room D.given (stands_last D.given D.row), kept_room (c.loop-e.invariant _ _ D).kept, row_end (goal.at.put-requires-2 c).After-word_at-g))
 
 pub returns : goal.returns
 returns c =
     λ off cols D.
-    let z : c.loop-e.e ≡ c.word_at-g.result - 1 = omega (arith, (c.loop-e.invariant off cols D).to, c.loop-e-test.false, by_ends (c.args.i + 1) c.word_at-g.ensures c.lindptr-ends.ensures) in record {
-      kept = row_kept D.given D.row (c.loop-e.invariant off cols D) z (ap (λ (k : ℕ). k - 1) (by_ends (c.args.i + 1) c.word_at-g.ensures c.lindptr-ends.ensures)) (rw c.regions-mem.ensures at c.start_of-first.ensures) (rw c.regions-mem.ensures at c.normal_sum-diag.ensures) (on D.given.wide c.root_of-root.ensures) (rw c.regions-mem.ensures at c.put-2.ensures);
-      filled = row_filled D.given D.row (c.loop-e.invariant off cols D) z (ap (λ (k : ℕ). k - 1) (by_ends (c.args.i + 1) c.word_at-g.ensures c.lindptr-ends.ensures)) (rw c.regions-mem.ensures at c.start_of-first.ensures) (rw c.regions-mem.ensures at c.normal_sum-diag.ensures) (on D.given.wide c.root_of-root.ensures) (rw c.regions-mem.ensures at c.put-2.ensures);
-      entry = row_entry D.given D.row (c.loop-e.invariant off cols D) z (ap (λ (k : ℕ). k - 1) (by_ends (c.args.i + 1) c.word_at-g.ensures c.lindptr-ends.ensures)) (rw c.regions-mem.ensures at c.start_of-first.ensures) (rw c.regions-mem.ensures at c.normal_sum-diag.ensures) (on D.given.wide c.root_of-root.ensures) (rw c.regions-mem.ensures at c.put-2.ensures) (rw c.regions-mem.ensures at c.get-side.ensures) c.div4.ensures;
+    let R = c.loop-e.invariant off cols D in
+    let m = c.regions-mem.ensures in
+    let end = row_end (goal.at.returns c).After-word_at-g in
+    let last = ap (λ (k : ℕ). k - 1) end in
+    let z : c.loop-e.e ≡ c.word_at-g.result - 1 = omega (arith, R.to, end) in
+    let first = rw m at c.start_of-first.ensures in
+    let diagonal = rw m at c.normal_sum-diag.ensures in
+    let root = on D.given.wide c.root_of-root.ensures in
+    let put = rw m at c.put-2.ensures in record {
+      kept = row_kept D.given D.row R z last first diagonal root put;
+      filled = row_filled D.given D.row R z last first diagonal root put;
+      entry = row_entry D.given D.row R z last first diagonal root put (rw m at c.get-side.ensures) c.div4.ensures;
     }

@@ -13,6 +13,3 @@ returns-then-above_zero c =
     root_value c.args.v
     (array_lanes c.args.v c.well_formed.0.1.0.1 ∙ lanes_ext (at c.args.v) (λ l. magnitude (at c.args.v l)) (λ l h. positive (at c.args.v l) (every_lane_lem (lt null) c.args.v (sym c.above_zero.ensures ∙ c.if-above_zero.true) l h)))
     c.root4.ensures
-
-pub returns : goal.returns
-returns c = root_value c.args.v c.abs4-size.ensures c.root4-2.ensures

@@ -1,23 +1,9 @@
-use Rattle.lanes.proofs.Regions.{room_le}
 use Rattle.lanes.proofs.Quads.{on, each_on}
-use native.Mathlib.Omega.{arith}
 use Prim.Native.Nat.{◌+◌}
 use lib.Ieee.{binary64, div}
 use Rattle.lanes.specs.Lanes.{cell}
 use Rattle.factor_entry.proofs.Sums.{start_on, start_off}
 use Rattle.factor_entry.proofs.start_of.Goals as goal
-
-pub overflow_add-w : goal.overflow_add-w
-overflow_add-w c = omega (arith, room_le c.args.width c.args.work.now, c.well_formed)
-
-pub get-a-requires : goal.get-a-requires
-get-a-requires c = (c.requires.2, omega arith)
-
-pub overflow_add-y : goal.overflow_add-y
-overflow_add-y c = omega (arith, room_le c.args.width c.args.work.now, c.well_formed)
-
-pub get-b-requires : goal.get-b-requires
-get-b-requires c = (c.requires.2, omega arith)
 
 pub returns-then-i-s : goal.returns-then-i-s
 returns-then-i-s c =

@@ -18,7 +18,7 @@ words-count-requires c = rw c.plan_sizes-plan.ensures (words_fit c.args.offsets.
 pub returns-then-index-count : goal.returns-then-index-count
 returns-then-index-count c =
     let w : c.words-count.result ≡ size_w c.args.offsets.now c.args.columns.now c.args.m c.args.n = c.words-count.ensures ∙ ap words_at c.plan_sizes-plan.ensures ∙ words_are c.args.offsets.now c.args.columns.now c.args.m c.args.n 0 in
-    record { says = c.new.ensures ∙ room_no c.args.m c.args.n c.args.offsets.now c.args.columns.now c.args.index.now (omega (arith, w)); words = refl }
+    record { says = room_no c.args.m c.args.n c.args.offsets.now c.args.columns.now c.args.index.now (omega (arith, w)); words = refl }
 
 pub copy_plan-requires : goal.copy_plan-requires
 copy_plan-requires c =

@@ -7,7 +7,7 @@ use Rattle.csr.specs.Counts.{size_w}
 use Rattle.csr.specs.Verdict.{told, written}
 use Rattle.layout.specs.Lists.{words_at}
 use Rattle.counts.proofs.Plans.{words_are, words_fit}
-use Rattle.ipm_common.proofs.Final.{answered_yes}
+use Rattle.ipm_common.proofs.Final.{answered_yes, answered_no}
 use Rattle.plan_file.specs.Matrix.{matrix_lists}
 use Rattle.file_calls.specs.Calls.{file_bytes}
 use Rattle.file_calls.proofs.Carried.{no_words, no_bytes, writable, written_so}
@@ -19,12 +19,17 @@ words-words-requires c = rw c.plan_sizes-plan.ensures (words_fit c.args.offsets.
 pub returns-then-index-words : goal.returns-then-index-words
 returns-then-index-words c =
     let w : c.words-words.result ≡ size_w c.args.offsets.now c.args.columns.now c.args.m c.args.n = c.words-words.ensures ∙ ap words_at c.plan_sizes-plan.ensures ∙ words_are c.args.offsets.now c.args.columns.now c.args.m c.args.n 0 in
-    record { answer = c.new.ensures ∙ no_words c.args.m c.args.n c.args.offsets.now c.args.columns.now (length c.args.index.now) (length c.args.file.now) (omega (arith, w)); words = refl; bytes = refl }
+    record { answer = no_words c.args.m c.args.n c.args.offsets.now c.args.columns.now (length c.args.index.now) (length c.args.file.now) (omega (arith, w)); words = refl; bytes = refl }
 
 pub returns-then-file-bytes : goal.returns-then-file-bytes
 returns-then-file-bytes c =
     let w : c.words-words.result ≡ size_w c.args.offsets.now c.args.columns.now c.args.m c.args.n = c.words-words.ensures ∙ ap words_at c.plan_sizes-plan.ensures ∙ words_are c.args.offsets.now c.args.columns.now c.args.m c.args.n 0 in
-    record { answer = c.new-then-file-bytes.ensures ∙ no_bytes c.args.m c.args.n c.args.offsets.now c.args.columns.now (length c.args.index.now) (length c.args.file.now) (omega (arith, w)) (omega (arith, w, c.file_bytes-bytes.ensures)); words = refl; bytes = refl }
+    record { answer = no_bytes c.args.m c.args.n c.args.offsets.now c.args.columns.now (length c.args.index.now) (length c.args.file.now) (omega (arith, w)) (omega (arith, w, c.file_bytes-bytes.ensures)); words = refl; bytes = refl }
+
+pub returns-in_err-plan_accepted : goal.returns-in_err-plan_accepted
+returns-in_err-plan_accepted c =
+    let w : c.words-words.result ≡ size_w c.args.offsets.now c.args.columns.now c.args.m c.args.n = c.words-words.ensures ∙ ap words_at c.plan_sizes-plan.ensures ∙ words_are c.args.offsets.now c.args.columns.now c.args.m c.args.n 0 in
+    absurd (answered_no c.in_err-plan_accepted.ensures (omega (arith, w)))
 
 pub put_file-requires : goal.put_file-requires
 put_file-requires c =

@@ -9,11 +9,8 @@ use Rattle.plan_file.specs.Tables.{wide}
 use Rattle.file_walk.specs.Headed.{Headed}
 use Rattle.file_walk.specs.declared.walk.Record.{Record}
 use Rattle.file_walk.proofs.Walks.{headed}
-use Rattle.file_copy.proofs.Copies.{words_wide, copying_none, copying_all, next_fits, copying_on}
+use Rattle.file_copy.proofs.Copies.{words_wide, copying_all, next_fits, copying_on}
 use Rattle.file_copy.proofs.copy_plan.Goals as goal
-
-pub loop-at-init : goal.loop-at-init
-loop-at-init c = copying_none wide c.args.file.now c.args.index.now c.requires.0
 
 pub record_at-r-requires : goal.record_at-r-requires
 record_at-r-requires c = headed wide c.args.file.now c.loop-at.at c.loop-at.invariant.good c.loop-at-test.true
@@ -37,11 +34,6 @@ pub copy_record-to-requires : goal.copy_record-to-requires
 copy_record-to-requires c =
     rw c.record_at-r.ensures
     (words_wide (le2 c.args.file.now (c.loop-at.at + 4)), omega (arith, same_long c.loop-at.invariant.wrote, next_fits wide c.args.file.now c.args.index.now c.loop-at.index c.loop-at.at c.loop-at.to c.loop-at.invariant c.loop-at-test.true (le4 c.args.file.now c.loop-at.at) refl (le2 c.args.file.now (c.loop-at.at + 4)) refl (wide (le2 c.args.file.now (c.loop-at.at + 4))) refl (length c.args.index.now) c.requires.1))
-
-pub loop-at-smaller : goal.loop-at-smaller
-loop-at-smaller c =
-    let h : Headed c.args.file.now c.loop-at.at = headed wide c.args.file.now c.loop-at.at c.loop-at.invariant.good c.loop-at-test.true in
-    omega (arith, h, ap (λ (r : Record). r.end) c.record_at-r.ensures)
 
 pub loop-at-preserved : goal.loop-at-preserved
 loop-at-preserved c = rw c.record_at-r.ensures (copying_on wide c.args.file.now c.args.index.now c.loop-at.index c.loop-at.at c.loop-at.to c.loop-at.invariant c.loop-at-test.true (le4 c.args.file.now c.loop-at.at) refl (le2 c.args.file.now (c.loop-at.at + 4)) refl (wide (le2 c.args.file.now (c.loop-at.at + 4))) refl _ _ (rw c.record_at-r.ensures at c.copy_record-to.ensures))

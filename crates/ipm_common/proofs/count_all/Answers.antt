@@ -9,27 +9,15 @@ use Rattle.transpose.proofs.Grids.{accepted_grid}
 use Rattle.ipm_common.proofs.Counted.{factor_pairs}
 use Rattle.ipm_common.proofs.count_all.Goals as goal
 
-pub count-e-requires : goal.count-e-requires
-count-e-requires c = (c.requires.1.words, c.requires.0.csr.few)
-
-pub clear-requires : goal.clear-requires
-clear-requires c = omega (arith, c.requires.3.columns)
-
 pub count_rows-s-requires : goal.count_rows-s-requires
 count_rows-s-requires c =
     let a = c.args in
     record { n = a.n; grid = accepted_grid a.offsets.now a.columns.now a.m a.n c.requires.0; long = omega (arith, c.requires.3.columns, c.clear.auto.s); clear = cleared_at a.next.now c.clear.new.s 0 0 a.n c.clear.ensures }
 
-pub clear-requires-2 : goal.clear-requires-2
-clear-requires-2 c = omega (arith, c.requires.3.rows, c.clear.auto.s, c.count_rows-s.auto.next)
-
 pub count_rows-b-requires : goal.count_rows-b-requires
 count_rows-b-requires c =
     let a = c.args in
     record { n = a.m; grid = rows_grid (bit a.p.now) a.lindptr.now a.lindices.now a.m c.requires.2; long = omega (arith, c.requires.3.rows, c.clear.auto.s, c.count_rows-s.auto.next, c.clear-2.auto.s); clear = cleared_at c.count_rows-s.new.next c.clear-2.new.s 0 0 a.m c.clear-2.ensures }
-
-pub overflow_cast-result : goal.overflow_cast-result
-overflow_cast-result c = omega (arith, c.count_rows-b.ensures.2)
 
 pub overflow_sub-result : goal.overflow_sub-result
 overflow_sub-result c =

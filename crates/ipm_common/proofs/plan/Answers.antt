@@ -2,8 +2,8 @@
 use mathlib.Core.Path.{sym, ap, ◌∙◌}
 use mathlib.Core.List.{◌++◌}
 use lib.ListN.{length, drop}
+use Rattle.std.proofs.lemmas.Result.{err_from_is_err_and}
 use Rattle.csr.specs.Verdict.{Verdict, and_then}
-use Rattle.csr.specs.Verdict as verdict
 use Rattle.csr.specs.Counts.{size_w}
 use Rattle.csr.proofs.Yes.{accepted_of}
 use Rattle.lists.specs.Lists.{plan_words}
@@ -13,23 +13,23 @@ use Rattle.ipm_common.proofs.plan.Goals as goal
 pub plan_accepted-requires : goal.plan_accepted-requires
 plan_accepted-requires c =
     let a = c.args in
-    accepted_of a.m a.n a.offsets.now a.columns.now (length a.columns.now)
-    (sym c.ask.ensures ∙ ap verdict.told_asked c.in-Good.is)
+    accepted_of a.m a.n a.offsets.now a.columns.now (length a.columns.now) (sym c.in_ok-ask.ensures)
 
-pub returns-in-Good : goal.returns-in-Good
+pub returns : goal.returns
 unfolding plan_verdict plan_index
-returns-in-Good c =
+returns c =
     let a = c.args in
     let room = room_verdict a.m a.n a.offsets.now a.columns.now (length a.index.now) in
     let new = plan_words a.offsets.now a.columns.now a.m a.n ++ drop (size_w a.offsets.now a.columns.now a.m a.n) a.index.now in
-    let said = c.plan_accepted.ensures.says ∙ ap (λ (v : Verdict). and_then v room) (sym (ap verdict.told_asked c.in-Good.is) ∙ c.ask.ensures) in
+    let said = c.plan_accepted.ensures.says ∙ ap (λ (v : Verdict). and_then v room) c.in_ok-ask.ensures in
     record { answer = said; words = c.plan_accepted.ensures.words ∙ ap (λ (v : Verdict). left v new a.index.now) said }
 
-pub returns-in-Refused : goal.returns-in-Refused
+pub returns-in_err-ask : goal.returns-in_err-ask
 unfolding plan_verdict plan_index
-returns-in-Refused c =
+returns-in_err-ask c =
     let a = c.args in
+    let p = err_from_is_err_and c.from_residual.result c.from_residual.ensures.1 in
     let room = room_verdict a.m a.n a.offsets.now a.columns.now (length a.index.now) in
     let new = plan_words a.offsets.now a.columns.now a.m a.n ++ drop (size_w a.offsets.now a.columns.now a.m a.n) a.index.now in
-    let said = ap (λ (v : Verdict). and_then v room) (sym (ap verdict.told_asked c.in-Refused.is) ∙ c.ask.ensures) in
-    record { answer = said; words = ap (λ (v : Verdict). left v new a.index.now) said }
+    let said = ap (λ (v : Verdict). and_then v room) c.in_err-ask.ensures in
+    record { answer = rw (p.1, p.2) said; words = ap (λ (v : Verdict). left v new a.index.now) said }

@@ -12,38 +12,34 @@ use Rattle.lists.specs.Lists.{shape, plan_of}
 use Rattle.lists.proofs.Whole as all
 use Rattle.lists.proofs.Sizes.{plan_size}
 use Rattle.ipm_common.proofs.Final as fin
+use Rattle.ipm_common.proofs.Memories.{cleared}
 use Rattle.ipm_common.proofs.plan_in.Goals as goal
 
 pub pattern-requires : goal.pattern-requires
-pattern-requires c =
+pattern-requires g c =
     let a = c.args in
     (c.requires.0.csr, inside a.offsets.now a.columns.now a.m a.n c.requires.0, refl, λ i h. clear_zeros 1024 i)
 
 pub count_all-t-requires : goal.count_all-t-requires
-count_all-t-requires c =
+count_all-t-requires g c =
     let a = c.args in (
       c.requires.0,
       rows_ready a.offsets.now a.columns.now c.pattern.new.p a.m c.requires.0.csr c.requires.0.offsets.few c.pattern.auto.p c.pattern.ensures,
       c.list_rows.ensures.rows,
-      c.requires.1.counts,
+      cleared c.requires.1,
     )
 
-pub words-w-requires : goal.words-w-requires
-words-w-requires c =
-    let p = c.requires.0 in
-    (p.csr.few, omega (arith, p.csr.few, p.wide), p.offsets.few, c.count_all-t.ensures.few)
-
 pub returns-then-index-w : goal.returns-then-index-w
-returns-then-index-w c =
+returns-then-index-w g c =
     let a = c.args in
     let w : c.words-w.result ≡ size_w a.offsets.now a.columns.now a.m a.n = c.words-w.ensures ∙ fin.words_are a.offsets.now a.columns.now a.m a.n _ _ _ c.count_all-t.ensures in
     record {
-      says = c.new.ensures ∙ fin.room_no a.m a.n a.offsets.now a.columns.now a.index.now (omega (arith, w, c.if-index-w.true));
+      says = fin.room_no a.m a.n a.offsets.now a.columns.now a.index.now (omega (arith, w, c.if-index-w.true));
       words = refl;
     }
 
 pub put_plan-requires : goal.put_plan-requires
-put_plan-requires c =
+put_plan-requires g c =
     let a = c.args in
     let z = plan_size a.offsets.now a.columns.now a.m a.n c.requires.0 in
     let w : c.words-w.result ≡ size_w a.offsets.now a.columns.now a.m a.n = c.words-w.ensures ∙ fin.words_are a.offsets.now a.columns.now a.m a.n _ _ _ c.count_all-t.ensures in (
@@ -51,13 +47,13 @@ put_plan-requires c =
       rows_ready a.offsets.now a.columns.now c.pattern.new.p a.m c.requires.0.csr c.requires.0.offsets.few c.pattern.auto.p c.pattern.ensures,
       c.list_rows.ensures.rows,
       omega (arith, z, w, c.if-index-w.false),
-      omega (arith, c.requires.1.marks.columns),
-      record { rows = omega (arith, c.requires.1.counts.rows, c.count_all-t.auto.next); columns = omega (arith, c.requires.1.counts.columns, c.count_all-t.auto.next) },
-      c.requires.1.firsts,
+      omega (arith, c.requires.1.columns.1),
+      record { rows = omega (arith, c.requires.1.columns.0, c.count_all-t.auto.next); columns = omega (arith, c.requires.1.columns.1, c.count_all-t.auto.next) },
+      cleared c.requires.1,
     )
 
 pub returns : goal.returns
-returns c =
+returns g c =
     let a = c.args in
     let z = plan_size a.offsets.now a.columns.now a.m a.n c.requires.0 in
     let w : c.words-w.result ≡ size_w a.offsets.now a.columns.now a.m a.n = c.words-w.ensures ∙ fin.words_are a.offsets.now a.columns.now a.m a.n _ _ _ c.count_all-t.ensures in

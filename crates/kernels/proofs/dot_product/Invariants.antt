@@ -1,10 +1,6 @@
-use Prim.Native.Nat.{◌-◌, ◌≤◌}
 use Rattle.lanes.specs.Lanes.{On}
 use Rattle.kernels.proofs.Loops.{products_to}
 use Rattle.kernels.proofs.dot_product.Given as goal
 
 abbrev pub invariant-loop-e : goal.invariant-loop-e
-invariant-loop-e l = (l.e ≤ l.k) × On l.width l.acc (products_to l.width l.work l.p l.q l.k l.e)
-
-abbrev pub decreases-loop-e : goal.decreases-loop-e
-decreases-loop-e l = l.k - l.e
+invariant-loop-e l = On l.width l.acc (products_to l.width l.work l.p l.q l.k l.e)

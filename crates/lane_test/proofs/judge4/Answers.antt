@@ -1,27 +1,13 @@
-use native.Mathlib.Omega.{arith}
-use Rattle.lanes.proofs.Quads.{few_lanes}
+use Rattle.std.proofs.Common.{◌<◌, ◌≢◌, ◌∙◌, length, arith, length-set, get_or-set_other, get_or-set_same, below_more}
 use Rattle.lane_test.proofs.judge4.Goals as goal
 
-pub judge_lane-a-requires : goal.judge_lane-a-requires
-judge_lane-a-requires c = (omega arith, c.requires.0, omega (arith, c.requires.1, c.requires.3.some), c.requires.2)
-
-pub returns-then-width-eq1 : goal.returns-then-width-eq1
-returns-then-width-eq1 c = few_lanes _ c.args.width c.requires.3.most (λ _. c.judge_lane-a.ensures) (λ g. absurd (omega (arith, g, c.if-width-eq1.true))) (λ g. absurd (omega (arith, g, c.if-width-eq1.true))) (λ g. absurd (omega (arith, g, c.if-width-eq1.true)))
-
-pub judge_lane-b-requires : goal.judge_lane-b-requires
-judge_lane-b-requires c = (omega arith, c.requires.0, omega (arith, c.requires.1, c.requires.3.some, c.if-width-eq1.false), c.requires.2)
-
-pub returns-then-width-eq2 : goal.returns-then-width-eq2
-returns-then-width-eq2 c = few_lanes _ c.args.width c.requires.3.most (λ _. c.judge_lane-a.ensures) (λ _. c.judge_lane-b.ensures) (λ g. absurd (omega (arith, g, c.if-width-eq2.true))) (λ g. absurd (omega (arith, g, c.if-width-eq2.true)))
-
-pub judge_lane-c-requires : goal.judge_lane-c-requires
-judge_lane-c-requires c = (omega arith, c.requires.0, omega (arith, c.requires.1, c.requires.3.some, c.if-width-eq1.false, c.if-width-eq2.false), c.requires.2)
-
-pub returns-then-width-eq3 : goal.returns-then-width-eq3
-returns-then-width-eq3 c = few_lanes _ c.args.width c.requires.3.most (λ _. c.judge_lane-a.ensures) (λ _. c.judge_lane-b.ensures) (λ _. c.judge_lane-c.ensures) (λ g. absurd (omega (arith, g, c.if-width-eq3.true)))
-
-pub judge_lane-d-requires : goal.judge_lane-d-requires
-judge_lane-d-requires c = (omega arith, c.requires.0, omega (arith, c.requires.1, c.requires.3.some, c.if-width-eq1.false, c.if-width-eq2.false, c.if-width-eq3.false), c.requires.2)
-
-pub returns : goal.returns
-returns c = few_lanes _ c.args.width c.requires.3.most (λ _. c.judge_lane-a.ensures) (λ _. c.judge_lane-b.ensures) (λ _. c.judge_lane-c.ensures) (λ _. c.judge_lane-d.ensures)
+pub loop-l-preserved : goal.loop-l-preserved
+loop-l-preserved c =
+    let t = c.tolerances_of-given.ensures in
+    let I = c.loop-l.invariant in record {
+      four = length-set _ _ _ ∙ I.four;
+      judged =
+          below_more _ _
+          (λ k h. let ne : k ≢ c.loop-l.l = omega arith in rw get_or-set_other (I.judged k h))
+          (let lt : c.loop-l.l < length c.loop-l.statuses = omega (arith, I.four) in rw get_or-set_same (rw (c.judge.ensures, t.0, t.1, t.2)));
+    }

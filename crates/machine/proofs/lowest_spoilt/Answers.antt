@@ -1,31 +1,12 @@
-use mathlib.Core.Path.{◌≡◌, sym, ◌∙◌, subst}
-use mathlib.Core.Bool.{false}
-use Prim.Native.Nat.{ℕ, suc, ◌<◌, ◌+◌}
-use native.Mathlib.Omega.{arith}
-use native.Mathlib.Nat.{eq-or-lt_of_le}
-use mathlib.Core.Logic.{◌⊎◌, inl, inr}
-use mathlib.Core.List.{List}
-use lib.ListN.{get_or}
-use Rattle.machine.specs.Machine.{Status, spoilt}
+use Rattle.std.proofs.Common.{rules, tests, ◌∙◌, take, arith}
+use Rattle.std.proofs.lemmas.Iterator.{YieldsList-from_slice}
+use Rattle.std.proofs.lemmas.Iterator.Search.{position_from_yields_List}
 use Rattle.machine.specs.Outcome.{is_spoilt}
-use Rattle.lanes.proofs.Lists.{first_at_lem, first_all}
+use Rattle.machine.proofs.Lowest.{position_first}
 use Rattle.machine.proofs.lowest_spoilt.Goals as goal
 
-one_more : (v : List Status) (l : ℕ) → ((j : ℕ) → j < l → is_spoilt (get_or v j spoilt) ≡ false) → is_spoilt (get_or v l spoilt) ≡ false → (j : ℕ) → j < l + 1 → is_spoilt (get_or v j spoilt) ≡ false
-one_more v l h e j b = go (eq-or-lt_of_le b)
-  where
-    go : (suc j ≡ l + 1) ⊎ (suc j < l + 1) → is_spoilt (get_or v j spoilt) ≡ false
-    go (inl z) = let y : j ≡ l = omega arith in subst (λ (j : ℕ). is_spoilt (get_or v j spoilt) ≡ false) (sym y) e
-    go (inr z) = h j (omega arith)
-
-pub loop-l-init : goal.loop-l-init
-loop-l-init c = (omega arith, λ j h. absurd (omega arith))
-
-pub returns-then-is_spoilt : goal.returns-then-is_spoilt
-returns-then-is_spoilt c = sym (first_at_lem (λ j. is_spoilt (get_or c.args.statuses j spoilt)) c.args.width c.loop-l.l (omega arith) (sym c.is_spoilt.ensures ∙ c.if-is_spoilt.true) c.loop-l.invariant.1)
-
-pub loop-l-preserved : goal.loop-l-preserved
-loop-l-preserved c = (omega arith, one_more c.args.statuses c.loop-l.l c.loop-l.invariant.1 (sym c.is_spoilt.ensures ∙ c.if-is_spoilt.false))
-
 pub returns : goal.returns
-returns c = sym (first_all (λ j. is_spoilt (get_or c.args.statuses j spoilt)) c.args.width (λ j h. c.loop-l.invariant.1 j (omega arith)))
+returns c =
+    let s = c.args.statuses in
+    position_from_yields_List _ _ _ _ c.position.ensures.ran (YieldsList-from_slice (take c.args.width s) cc) (λ x b q k. search (rules, tests))
+    ∙ position_first is_spoilt s c.args.width (omega arith)

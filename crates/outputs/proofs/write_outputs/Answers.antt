@@ -4,14 +4,6 @@ use Rattle.layout.specs.Layout.{y_at, l_in}
 use Rattle.outputs.proofs.Regions.{output_fits, region_out}
 use Rattle.outputs.proofs.write_outputs.Goals as goal
 
-pub regions-at-requires : goal.regions-at-requires
-regions-at-requires c = c.requires.few
-
-pub write_output-requires : goal.write_output-requires
-write_output-requires c =
-    let p = c.args.plan in
-    rw c.regions-at.ensures (output_fits c.args.lanes _ p.n (l_in p) _ _ c.requires.output_long (omega arith) c.requires.room)
-
 pub write_output-requires-2 : goal.write_output-requires-2
 write_output-requires-2 c =
     let p = c.args.plan in

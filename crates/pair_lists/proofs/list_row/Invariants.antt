@@ -1,13 +1,7 @@
-use Prim.Native.Nat.{◌≤◌, ◌+◌, ◌-◌}
-use mathlib.Core.Path.{◌≡◌}
-use lib.ListN.{length}
 use Rattle.pattern.specs.Word.{bit}
 use Rattle.base.specs.Cat.{Wrote}
 use Rattle.pair_lists.specs.Kept.{kept}
 use Rattle.pair_lists.proofs.list_row.Given as goal
 
 abbrev pub invariant-loop-k : goal.invariant-loop-k
-invariant-loop-k l = (l.k ≤ l.i + 1) × (length l.lindices ≡ length l.initial.lindices) × Wrote l.initial.lindices l.lindices l.start (kept (bit l.p l.i) l.k) l.at
-
-abbrev pub decreases-loop-k : goal.decreases-loop-k
-decreases-loop-k l = l.i + 1 - l.k
+invariant-loop-k l = Wrote l.initial.lindices l.lindices l.start (kept (bit l.p l.i) l.k) l.at

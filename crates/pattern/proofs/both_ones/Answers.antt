@@ -1,10 +1,26 @@
 -- `pattern::both_ones` meets its contract. Assumes nothing.
-use native.Mathlib.Omega.{arith}
-use mathlib.Core.Path.{◌∙◌}
+use Rattle.std.proofs.Common.{arith, rules, ◌&&◌, refl}
+use Rattle.std.proofs.lemmas.Iterator.{YieldsList-from_map, YieldsList-from_range}
+use Rattle.std.proofs.lemmas.Iterator.Consumers.{sum_from_yields_List, fits_from_yields_list}
+use Rattle.std.specs.Int.Count.{ones}
+use Rattle.base.proofs.Sums.{count_le}
+use Rattle.pattern.specs.Word.{bit, common_word}
 use Rattle.pattern.proofs.Rows.{both_ones_law}
 use Rattle.pattern.proofs.both_ones.Goals as goal
 
+pub sum-requires-clause-fits : goal.sum-requires-clause-fits
+sum-requires-clause-fits c =
+    let p = c.args.p.now in
+    let i = c.args.i in
+    let j = c.args.j in
+    fits_from_yields_list c.map.result _ (YieldsList-from_map _ (λ w. ones (common_word p i j w)) (YieldsList-from_range 0 4 4 c.map.ensures.source refl) c.map.ensures.closure (λ x r q k. search rules))
+    (omega (arith, both_ones_law p i j (λ k. (c.type_inv.p k).fits), count_le 256 (λ k. bit p i k && bit p j k)))
+
 pub returns : goal.returns
 returns c =
-    let a = c.args in
-    (c.four_ones.ensures.0 ∙ both_ones_law a.p.now a.i a.j c.common_word.result c.common_word-2.result c.common_word-3.result c.common_word-4.result c.common_word.ensures c.common_word-2.ensures c.common_word-3.ensures c.common_word-4.ensures (omega arith) (omega arith) (omega arith) (omega arith), c.four_ones.ensures.1)
+    let p = c.args.p.now in
+    let i = c.args.i in
+    let j = c.args.j in
+    let e = sum_from_yields_List c.map.result c.sum.result c.sum.ensures.ran (YieldsList-from_map _ (λ w. ones (common_word p i j w)) (YieldsList-from_range 0 4 4 c.map.ensures.source refl) c.map.ensures.closure (λ x r q k. search rules)) in
+    let law = both_ones_law p i j (λ k. (c.type_inv.p k).fits) in
+    (cc, omega (arith, e, law, count_le 256 (λ k. bit p i k && bit p j k)))

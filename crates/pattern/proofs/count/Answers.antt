@@ -1,31 +1,22 @@
 -- `pattern::count` meets its contract. Assumes nothing.
-use Prim.Native.Nat.{ℕ, ◌+◌}
-use mathlib.Core.Path.{refl, sym, ap, ap₂, ◌∙◌}
-use native.Mathlib.Omega.{arith}
-use native.Mathlib.Numerals.{add-one}
-use Rattle.base.specs.Sums.{sum}
+use Rattle.std.proofs.Common.{arith, rules, ◌∙◌}
+use Rattle.std.proofs.lemmas.Iterator.{YieldsList-from_map, YieldsList-from_range}
+use Rattle.std.proofs.lemmas.Iterator.Consumers.{sum_from_yields_List, fits_from_yields_list}
 use Rattle.pattern.specs.Word.{row_ones}
+use Rattle.pattern.proofs.Rows.{sum_range, rows_most}
 use Rattle.pattern.proofs.count.Goals as goal
 
-pub loop-i-init : goal.loop-i-init
-unfolding sum
-loop-i-init c = (omega arith, refl, omega arith)
-
-pub row_ones-e-requires : goal.row_ones-e-requires
-row_ones-e-requires c = (c.requires.0, omega arith)
-
-pub loop-i-preserved : goal.loop-i-preserved
-unfolding sum
-loop-i-preserved c =
-    let i = c.loop-i.i in
-    let p = c.args.p.now in (
-      omega arith,
-      ap₂ ◌+◌ c.loop-i.invariant.1 c.row_ones-e.ensures.0 ∙ ap (λ (n : ℕ). sum n (λ k. row_ones p k)) (sym (add-one i)),
-      omega arith,
-    )
+pub sum-requires-clause-fits : goal.sum-requires-clause-fits
+sum-requires-clause-fits c =
+    let m = c.args.m in
+    let f = row_ones c.args.p.now in
+    fits_from_yields_list c.map.result _ (YieldsList-from_map _ f (YieldsList-from_range 0 m m c.map.ensures.source (omega arith)) c.map.ensures.closure (λ x r q k. search rules))
+    (omega (arith, sum_range m f, rows_most c.args.p.now m))
 
 pub returns : goal.returns
 returns c =
     let m = c.args.m in
-    let p = c.args.p.now in
-    c.loop-i.invariant.1 ∙ ap (λ (n : ℕ). sum n (λ k. row_ones p k)) (omega arith)
+    let f = row_ones c.args.p.now in
+    sum_from_yields_List c.map.result c.sum.result c.sum.ensures.ran
+    (YieldsList-from_map _ f (YieldsList-from_range 0 m m c.map.ensures.source (omega arith)) c.map.ensures.closure (λ x r q k. search rules))
+    ∙ sum_range m f

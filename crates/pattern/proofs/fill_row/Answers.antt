@@ -1,47 +1,36 @@
 -- `pattern::fill_row` meets its contract. Assumes nothing.
-use Prim.Native.Nat.{ℕ, ◌<◌, ◌≤◌, ◌+◌}
-use mathlib.Core.Path.{◌≡◌, refl, sym, ◌∙◌, subst}
+use Prim.Native.Nat.{ℕ, ◌<◌, ◌+◌}
+use mathlib.Core.Path.{◌≡◌, sym, ◌∙◌, subst}
 use mathlib.Core.Bool.{Bool, false, ◌&&◌}
 use mathlib.Core.List.{List}
 use native.Mathlib.Omega.{arith}
 use lib.ListN.{length}
 use Rattle.pattern.specs.Word.{bit, Put, Done, Seeded, OtherRows}
-use Rattle.pattern.proofs.Rows.{Common, Part, part_start, step_no, step_yes, part_end, other_put, done_other}
+use Rattle.pattern.proofs.Rows.{Common, Part, step_no, step_yes, part_end, other_put, done_other}
 use Rattle.pattern.proofs.fill_row.Goals as goal
 use Rattle.pattern.proofs.fill_row.Goals.{then-meets, else-meets}
 
 -- the entries below j of row i are filled
 abbrev Filled : List ℕ → ℕ → List ℕ → ℕ → Type 0
 Filled p₀ i p j =
-    (length p ≡ 1024) × (j ≤ i) × OtherRows p₀ p i × ((nb : ℕ → ℕ → Bool) → ((a : ℕ) → a < i → Done nb p₀ a) → Seeded nb p₀ i → Part nb p i j)
+    (length p ≡ 1024) × OtherRows p₀ p i × ((nb : ℕ → ℕ → Bool) → ((a : ℕ) → a < i → Done nb p₀ a) → Seeded nb p₀ i → Part nb p i j)
 
 -- after a turn that set the bit, and after one that did not
 again-yes : (p₀ : List ℕ) (i : ℕ) (p : List ℕ) (j : ℕ) (q : List ℕ) → i < 256 → j < i → Filled p₀ i p j → Put p q i j → length q ≡ length p
     → Common p i j → Filled p₀ i q (j + 1)
 again-yes p₀ i p j q hi hj v u len cm = (
   len ∙ v.0,
-  omega arith,
-  other_put p₀ p q i j v.2 u,
-  λ nb d s. step_yes nb p i j hi hj (done_other nb p₀ p i hi v.2 d) (v.3 nb d s) q u cm,
+  other_put p₀ p q i j v.1 u,
+  λ nb d s. step_yes nb p i j hi hj (done_other nb p₀ p i hi v.1 d) (v.2 nb d s) q u cm,
 )
 
 again-no : (p₀ : List ℕ) (i : ℕ) (p : List ℕ) (j : ℕ) → i < 256 → j < i → Filled p₀ i p j
     → ((k : ℕ) → k < 256 → bit p i k && bit p j k ≡ false) → Filled p₀ i p (j + 1)
 again-no p₀ i p j hi hj v f = (
   v.0,
-  omega arith,
-  v.2,
-  λ nb d s. step_no nb p i j hi hj (done_other nb p₀ p i hi v.2 d) (v.3 nb d s) f,
+  v.1,
+  λ nb d s. step_no nb p i j hi hj (done_other nb p₀ p i hi v.1 d) (v.2 nb d s) f,
 )
-
-pub loop-j-init : goal.loop-j-init
-loop-j-init c = (c.requires.0, omega arith, λ a b ha hb n. refl, λ nb d s. part_start nb c.args.p.now c.args.i s)
-
-pub meets-requires : goal.meets-requires
-meets-requires c = (c.loop-j.invariant.0, omega arith, omega arith)
-
-pub put-requires : goal.put-requires
-put-requires c = (c.loop-j.invariant.0, omega arith, omega arith)
 
 pub loop-j-preserved : goal.loop-j-preserved
 loop-j-preserved c =
@@ -60,6 +49,6 @@ pub returns : goal.returns
 returns c =
     let e : c.loop-j.j ≡ c.args.i = omega arith in
     record {
-      other = c.loop-j.invariant.2;
-      row = λ nb d sd. part_end nb c.loop-j.p c.args.i (Prim.rw e at (c.loop-j.invariant.3 nb d sd));
+      other = c.loop-j.invariant.1;
+      row = λ nb d sd. part_end nb c.loop-j.p c.args.i (Prim.rw e at (c.loop-j.invariant.2 nb d sd));
     }

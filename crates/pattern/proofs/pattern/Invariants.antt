@@ -1,4 +1,4 @@
-use Prim.Native.Nat.{ℕ, ◌≤◌, ◌<◌, ◌-◌}
+use Prim.Native.Nat.{ℕ, ◌≤◌, ◌<◌}
 use mathlib.Core.Path.{◌≡◌}
 use lib.ListN.{length}
 use Rattle.pattern.specs.Word.{Done, Clear}
@@ -6,7 +6,4 @@ use Rattle.pattern.specs.Links.{first_of, links, Firsts}
 use Rattle.pattern.proofs.pattern.Given as goal
 
 abbrev pub invariant-loop-i : goal.invariant-loop-i
-invariant-loop-i l = (length l.p ≡ 1024) × (l.i ≤ l.m) × ((a : ℕ) → a < l.i → Done (links l.off l.cols) l.p a) × ((a : ℕ) → l.i ≤ a → a < 256 → Clear l.p a) × (length l.first ≡ 1024) × Firsts l.first (first_of l.off l.cols l.i)
-
-abbrev pub decreases-loop-i : goal.decreases-loop-i
-decreases-loop-i l = l.m - l.i
+invariant-loop-i l = (length l.p ≡ 1024) × ((a : ℕ) → a < l.i → Done (links l.off l.cols) l.p a) × ((a : ℕ) → l.i ≤ a → a < 256 → Clear l.p a) × (length l.first ≡ 1024) × Firsts l.first (first_of l.off l.cols l.i)

@@ -1,4 +1,4 @@
-use mathlib.Core.Path.{sym, ◌∙◌}
+use mathlib.Core.Path.{sym}
 use Rattle.io.proofs.Counting.{prefix_len_of_le}
 use native.Mathlib.Omega.{arith}
 use Rattle.record.specs.Record.{m_of, n_of}
@@ -11,20 +11,20 @@ use Rattle.reading.proofs.respond.Goals as goal
 
 pub answer-requires : goal.answer-requires
 answer-requires c =
-    let told = sym c.read_header-header.ensures ∙ c.in-Matches.is in
+    let told = sym c.in-Some.ensures in
     (whole _ _ told, c.requires)
 
-pub returns-in-Mismatch : goal.returns-in-Mismatch
-returns-in-Mismatch c =
-    let told = sym c.read_header-header.ensures ∙ c.in-Mismatch.is in
+pub returns-in-None : goal.returns-in-None
+returns-in-None c =
+    let told = sym c.in-None.ensures in
     record {
       wrote = same_text (mismatch_text _ told) c.put_input.ensures;
       prefix_len = prefix_len_of_le _ _ (omega (arith, c.put_input.ensures.next, c.put_input.auto.out, input_length, c.requires));
     }
 
-pub returns-in-Matches : goal.returns-in-Matches
-returns-in-Matches c =
-    let told = sym c.read_header-header.ensures ∙ c.in-Matches.is in
+pub returns-in-Some : goal.returns-in-Some
+returns-in-Some c =
+    let told = sym c.in-Some.ensures in
     let s = c.args.bytes.now in
     record {
       wrote = same_text (matched_text s _ told) c.answer.ensures;

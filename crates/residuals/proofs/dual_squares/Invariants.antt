@@ -1,10 +1,6 @@
-use Prim.Native.Nat.{◌-◌, ◌≤◌}
 use Rattle.lanes.specs.Lanes.{On}
 use Rattle.residuals.proofs.Turns.{dual_up_to}
 use Rattle.residuals.proofs.dual_squares.Given as goal
 
 abbrev pub invariant-loop-e : goal.invariant-loop-e
-invariant-loop-e l = (l.e ≤ l.mem.n) × On l.width l.acc (dual_up_to l.width l.mem l.atindptr l.atindices l.atmap l.vals l.block l.c l.work l.e)
-
-abbrev pub decreases-loop-e : goal.decreases-loop-e
-decreases-loop-e l = l.mem.n - l.e
+invariant-loop-e l = On l.width l.acc (dual_up_to l.width l.mem l.atindptr l.atindices l.atmap l.vals l.block l.c l.work l.e)

@@ -1,10 +1,6 @@
-use Prim.Native.Nat.{◌-◌, ◌≤◌}
 use Rattle.lanes.specs.Lanes.{On}
 use Rattle.residuals.proofs.Turns.{primal_up_to}
 use Rattle.residuals.proofs.primal_squares.Given as goal
 
 abbrev pub invariant-loop-i : goal.invariant-loop-i
-invariant-loop-i l = (l.i ≤ l.mem.m) × On l.width l.acc (primal_up_to l.width l.mem l.off l.cols l.vals l.block l.b l.work l.i)
-
-abbrev pub decreases-loop-i : goal.decreases-loop-i
-decreases-loop-i l = l.mem.m - l.i
+invariant-loop-i l = On l.width l.acc (primal_up_to l.width l.mem l.off l.cols l.vals l.block l.b l.work l.i)

@@ -1,18 +1,7 @@
-use native.Mathlib.Omega.{arith}
 use lib.Ieee.{binary64, sub}
-use Rattle.lanes.proofs.Regions.{room_le}
 use Rattle.lanes.proofs.Quads.{each_on, reg_cell, lane_cell, ◌▹◌}
 use borrow.Author.Tests.{lt-ltb, le-ltb}
 use Rattle.residuals.proofs.r_start.Goals as goal
-
-pub get_lanes-v-requires : goal.get_lanes-v-requires
-get_lanes-v-requires c = (c.requires.1.wide, c.requires.2.lanes, omega (arith, c.requires.2.long, c.requires.0))
-
-pub overflow_add-w : goal.overflow_add-w
-overflow_add-w c = let P = c.requires.1 in omega (arith, room_le c.args.width c.args.work.now, c.well_formed)
-
-pub get-requires : goal.get-requires
-get-requires c = let P = c.requires.1 in (P.wide, omega arith)
 
 pub returns-then-i-s : goal.returns-then-i-s
 returns-then-i-s c =

@@ -1,16 +1,7 @@
-use native.Mathlib.Omega.{arith}
 use lib.Ieee.{binary64, div}
-use Rattle.lanes.proofs.Regions.{room_le}
 use Rattle.lanes.proofs.Quads.{on, on_self, each_on, reg_cell, ◌▹◌}
 use borrow.Author.Tests.{lt-ltb, le-ltb}
-use Rattle.kernels.proofs.Laid.{in_y}
 use Rattle.right_hand_side.proofs.v_start.Goals as goal
-
-pub overflow_add-y : goal.overflow_add-y
-overflow_add-y c = omega (arith, in_y c.requires.1 c.requires.0, room_le c.args.width c.args.work.now, c.well_formed)
-
-pub get-requires : goal.get-requires
-get-requires c = (c.requires.1.wide, in_y c.requires.1 c.requires.0)
 
 pub returns-then-i-s : goal.returns-then-i-s
 returns-then-i-s c =

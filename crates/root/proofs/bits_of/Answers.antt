@@ -1,11 +1,8 @@
 -- `root::bits_of` meets its contract. Assumes nothing.
 use mathlib.Core.Path.{sym, ap, ◌∙◌}
 use lib.Ieee.{binary64, to_bits}
-use Rattle.root.proofs.Floats.{only_nan, no_nan, nan_pattern}
+use Rattle.root.proofs.Floats.{is_nan_lem, nan_pattern}
 use Rattle.root.proofs.bits_of.Goals as goal
 
-pub float_to_bits-result : goal.float_to_bits-result
-float_to_bits-result c = no_nan _ c.if-x.false
-
-pub returns-then-x : goal.returns-then-x
-returns-then-x c = nan_pattern ∙ ap (to_bits binary64) (sym (only_nan _ c.if-x.true))
+pub returns-then-is_nan : goal.returns-then-is_nan
+returns-then-is_nan c = nan_pattern ∙ ap (to_bits binary64) (is_nan_lem _ (sym c.if-is_nan.ensures.value))

@@ -4,15 +4,15 @@ use mathlib.Core.Logic.{◌⊎◌, inl, inr}
 use Prim.Native.Nat.{ℕ, ◌≤◌, ◌<◌, ◌%◌, ◌/◌, ◌^◌}
 use native.Mathlib.Decide.{dec_le}
 use native.Mathlib.Omega.{arith}
+use Rattle.std.specs.Prelude.{Some}
 use Rattle.root.specs.Classes.{nan_answer}
 use Rattle.root.specs.Steps.{Special}
-use Rattle.root.specs.declared.Operand.TheVariants.{Answered}
 use Rattle.root.proofs.Classes.{zero_row, infinity_row, negative_row, positive_row, top_row}
 use Rattle.root.proofs.Patterns.{zero_answer, infinity_answer, negative_answer, top_answer}
 use Rattle.root.proofs.special.Goals as goal
 
 -- a NaN for what has a sign and is not -0
-negative : {b : ℕ} → 2 ^ 63 ≤ b → (b % 2 ^ 63 / 2 ^ 52 ≡ 0 → 0 < b % 2 ^ 52) → Special b (Answered nan_answer)
+negative : {b : ℕ} → 2 ^ 63 ≤ b → (b % 2 ^ 63 / 2 ^ 52 ≡ 0 → 0 < b % 2 ^ 52) → Special b (Some nan_answer)
 negative {b} l h = record { row = negative_row b l h; is = (inr (omega arith), negative_answer b l h) }
 
 zero-which : (b : ℕ) → b % 2 ^ 63 / 2 ^ 52 ≡ 0 → b % 2 ^ 52 ≡ 0 → (b ≡ 0) ⊎ (0x7FF0_0000_0000_0000 ≤ b)

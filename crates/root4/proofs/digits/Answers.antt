@@ -6,10 +6,3 @@ use Rattle.root4.proofs.digits.Goals as goal
 
 pub float_from_bits-high : goal.float_from_bits-high
 float_from_bits-high c = cleared_pattern _ (subst T (sym c.bounded-bits.type_inv) tt) c.bounded-bits.ensures.number
-
-pub returns : goal.returns
-returns c =
-    let e0 = c.newton.ensures in
-    let e1 = c.newton-y.ensures in
-    let e2 = c.bounded-bits.ensures.is in
-    cc

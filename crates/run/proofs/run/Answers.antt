@@ -12,9 +12,6 @@ use Rattle.run.specs.Tests.{ByNorms}
 use Rattle.run.proofs.Runs.{settings_of, settings_with, settings_norms, bears, ends_ran, ran_tests, goes, goes_on, told_step, stepped}
 use Rattle.run.proofs.run.Goals as goal
 
-pub normal_eqn_init-requires : goal.normal_eqn_init-requires
-normal_eqn_init-requires c = (omega (arith, c.requires.0.room), c.requires.0.lent.wide)
-
 pub loop-outcome-init : goal.loop-outcome-init
 loop-outcome-init c =
     let f = c.normal_eqn_init.ensures in (
@@ -26,9 +23,6 @@ loop-outcome-init c =
 pub overflow_add-k : goal.overflow_add-k
 overflow_add-k c = let f = c.args.controls in let g = (c.loop-outcome.invariant.0 (settings_of f) (settings_with f) (settings_norms f)).under in omega (arith, g, c.well_formed)
 
-pub measure-sums-requires : goal.measure-sums-requires
-measure-sums-requires c = let p = c.requires.0.lent in (p.rows, p.columns, p.slack, omega (arith, c.loop-outcome.invariant.2), p.wide)
-
 pub test_at-statuses-requires : goal.test_at-statuses-requires
 test_at-statuses-requires c = (
   record { planned = c.requires.0.planned; lent = c.requires.0.lent; room = c.loop-outcome.invariant.2 },
@@ -36,19 +30,11 @@ test_at-statuses-requires c = (
   λ H W D. bears H c.args.plan c.args.block c.args.width c.requires.0.lent.wide c.args.off.now c.args.cols.now c.args.vals.now c.args.b.now c.args.c.now c.args.tol.now c.args.controls.limit c.loop-outcome.k _ (c.loop-outcome.invariant.0 H W D),
 )
 
-pub turn_after-requires : goal.turn_after-requires
-turn_after-requires c = c.requires.0.lent.wide.most
-
-pub returns-in-Ends : goal.returns-in-Ends
-returns-in-Ends c = (
+pub returns-in-Some : goal.returns-in-Some
+returns-in-Some c = (
   untouched_on (untouched_wider (fresh_frame c.normal_eqn_init.ensures) (omega arith)) c.loop-outcome.invariant.1,
-  λ H W D. ran_tests (call_in H c.args.plan c.args.block c.args.width c.args.off.now c.args.cols.now c.args.vals.now c.args.b.now c.args.c.now c.args.tol.now) c.args.controls.limit c.requires.1 _ _ (ends_ran (call_in H c.args.plan c.args.block c.args.width c.args.off.now c.args.cols.now c.args.vals.now c.args.b.now c.args.c.now c.args.tol.now) c.args.controls.limit c.loop-outcome.k _ c.test_at-statuses.result (c.loop-outcome.invariant.0 H W D) (c.test_at-statuses.ensures H W D).says _ (sym c.turn_after.ensures ∙ c.in-Ends.is)),
+  λ H W D. ran_tests (call_in H c.args.plan c.args.block c.args.width c.args.off.now c.args.cols.now c.args.vals.now c.args.b.now c.args.c.now c.args.tol.now) c.args.controls.limit c.requires.1 _ _ (ends_ran (call_in H c.args.plan c.args.block c.args.width c.args.off.now c.args.cols.now c.args.vals.now c.args.b.now c.args.c.now c.args.tol.now) c.args.controls.limit c.loop-outcome.k _ c.test_at-statuses.result (c.loop-outcome.invariant.0 H W D) (c.test_at-statuses.ensures H W D).says _ (sym c.turn_after.ensures ∙ c.in-Some.is)),
 )
-
-pub step_lanes-requires : goal.step_lanes-requires
-step_lanes-requires c =
-    let p = c.requires.0.lent in
-    (c.requires.0.planned, record { slack = p.slack; wide = p.wide; within = p.within; b_long = p.b_long; c_long = p.c_long }, c.loop-outcome.invariant.2)
 
 pub loop-outcome-smaller : goal.loop-outcome-smaller
 loop-outcome-smaller c = let f = c.args.controls in let g = (c.loop-outcome.invariant.0 (settings_of f) (settings_with f) (settings_norms f)).under in omega (arith, g)
@@ -59,7 +45,7 @@ loop-outcome-preserved c =
     let r = c.measure-sums.result in
     let A = problem_in c.args.plan c.args.off.now c.args.cols.now c.args.vals.now in
     let d = data_in c.args.plan c.args.block c.args.b.now c.args.c.now c.args.tol.now in
-    let on = goes c.args.width c.test_at-statuses.result c.args.controls.limit _ (sym c.turn_after.ensures ∙ c.in-Steps.is) in
+    let on = goes c.args.width c.test_at-statuses.result c.args.controls.limit _ (sym c.turn_after.ensures ∙ c.in_default.is) in
     let told : (H : Settings) → With F H → ByNorms A H → Told c.args.width A H d c.test_at-statuses.result r.mu c.loop-outcome.work =
     λ H W D.
     let m : Measured c.args.width A.m A.n A.s H.centring c.loop-outcome.work r.nx r.ny r.g r.mu = rw W.centring c.measure-sums.ensures in

@@ -24,7 +24,7 @@ products-are m = omega (arith, (costliest m).products, cube m)
 
 pub returns-then-not-rows_right : goal.returns-then-not-rows_right
 unfolding costliest_verdict
-returns-then-not-rows_right c = c.new.ensures ∙ simp (← c.rows_right.ensures, c.if-not-rows_right.true)
+returns-then-not-rows_right c = simp (← c.rows_right.ensures, c.if-not-rows_right.true)
 
 pub overflow_add-result : goal.overflow_add-result
 overflow_add-result c = omega (arith, few c.args.m _ c.rows_right.ensures c.if-not-rows_right.false)

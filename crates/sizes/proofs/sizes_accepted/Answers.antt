@@ -8,7 +8,7 @@ use Rattle.sizes.proofs.sizes_accepted.Goals as goal
 
 pub returns-then-m-s : goal.returns-then-m-s
 unfolding slack_verdict
-returns-then-m-s c = c.new.ensures ∙ simp (lt-leb _ _ c.if-m-s.true)
+returns-then-m-s c = simp (lt-leb _ _ c.if-m-s.true)
 
 pub words-words-requires : goal.words-words-requires
 words-words-requires c = rw c.plan_sizes-plan.ensures (words_fit c.args.offsets.now c.args.columns.now c.args.m c.args.n c.args.s c.requires)

@@ -1,28 +1,10 @@
-use mathlib.Core.Path.{refl}
 use lib.Ieee.{binary64, sub}
-use Rattle.lanes.proofs.Quads.{each_on, on_self}
-use Rattle.sparse.proofs.Loops.{sum_start, sum_turn, sum_end}
-use Rattle.sparse.proofs.Spans.{turn_beside, turn_fits, turn_named}
+use Rattle.std.proofs.Common.{get_or, rules}
+use Rattle.lanes.specs.Lists.{at}
 use Rattle.sparse.specs.Parts.{less_col}
 use Rattle.sparse.specs.Sparse.{less_all}
-use native.Mathlib.Omega.{arith}
 use Rattle.sparse.proofs.col_less.Goals as goal
-
-pub span-es-requires : goal.span-es-requires
-span-es-requires c = c.requires.0
-
-pub span-ps-requires : goal.span-ps-requires
-span-ps-requires c = record { here = c.requires.0.here; rises = c.requires.0.rises; ends = omega (arith, c.requires.0.ends, c.requires.1) }
-
-pub loop-k-init : goal.loop-k-init
-loop-k-init c = sum_start
-
-pub column_term-a-requires : goal.column_term-a-requires
-column_term-a-requires c = let h = c.loop-k-test.true in (h, turn_beside c.requires.0 c.args.atindices.now refl c.span-es.ensures h c.args.atmap.now c.requires.1 c.span-ps.ensures, (turn_named c.requires.0 c.args.atmap.now c.requires.1 c.span-ps.ensures (turn_beside c.requires.0 c.args.atindices.now refl c.span-es.ensures h c.args.atmap.now c.requires.1 c.span-ps.ensures) c.requires.2), turn_fits c.requires.0 c.args.atindices.now refl c.span-es.ensures h c.args.y c.requires.3, c.requires.4)
-
-pub loop-k-preserved : goal.loop-k-preserved
-loop-k-preserved c = sum_turn c.loop-k.invariant c.loop-k-test.true (each_on c.requires.4 (sub binary64) {a = c.loop-k.acc} c.sub4-t.ensures on_self c.column_term-a.ensures)
 
 pub returns : goal.returns
 unfolding less_col less_all
-returns c = rw (c.span-es.ensures, c.span-ps.ensures) at (sum_end c.loop-k.invariant c.loop-k-test.false)
+returns c = rw (c.span-es.ensures, c.span-ps.ensures) at (c.sum.ensures (λ k. at c.args.vals.now (get_or c.span-ps.result.now k 0)) (sub binary64) (λ k v b p. search rules) (λ p q r e. search rules))

@@ -1,11 +1,11 @@
-use Prim.Native.Nat.{◌-◌}
-use lib.ListN.{length}
-use lib.Ieee.{binary64, add}
-use Rattle.sparse.proofs.Loops.{row_term, Sum}
+use Rattle.std.proofs.Common.{get_or, ◌+◌}
+use Rattle.lanes.specs.Arithmetic.{◌⊕◌, ◌⊗◌}
+use Rattle.lanes.specs.Lists.{at, fold}
+use Rattle.lanes.specs.Lanes.{cell, On}
 use Rattle.sparse.proofs.row_plus_two.Given as goal
 
 abbrev pub invariant-loop-k : goal.invariant-loop-k
-invariant-loop-k l = Sum l.width (add binary64) (row_term l.width l.work l.x l.es l.vs) (length l.es) l.initial.first l.first l.k × Sum l.width (add binary64) (row_term l.width l.work l.u l.es l.vs) (length l.es) l.initial.second l.second l.k
-
-abbrev pub decreases-loop-k : goal.decreases-loop-k
-decreases-loop-k l = length l.es - l.k
+invariant-loop-k l = record {
+  first : On l.width l.first (λ t. fold l.k (λ k r. r ⊕ at l.vs k ⊗ cell l.width l.work (l.x + get_or l.es k 0) t) (at l.initial.first t));
+  second : On l.width l.second (λ t. fold l.k (λ k r. r ⊕ at l.vs k ⊗ cell l.width l.work (l.u + get_or l.es k 0) t) (at l.initial.second t));
+}

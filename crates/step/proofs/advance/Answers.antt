@@ -8,9 +8,6 @@ use Rattle.step.proofs.advance.Goals as goal
 pub regions-mem-requires : goal.regions-mem-requires
 regions-mem-requires c = omega (arith, room_le c.args.width c.args.work.now, c.requires.1, c.well_formed)
 
-pub vector_update-requires : goal.vector_update-requires
-vector_update-requires c = rw c.regions-mem.ensures (after (omega arith), omega (arith, c.requires.1, c.requires.0), omega (arith, c.requires.1, c.requires.0), c.requires.2)
-
 pub vector_update-requires-2 : goal.vector_update-requires-2
 vector_update-requires-2 c = rw c.regions-mem.ensures (after (omega arith), omega (arith, c.requires.1, c.requires.0, kept_room c.vector_update.ensures.kept), omega (arith, c.requires.1, c.requires.0, kept_room c.vector_update.ensures.kept), c.requires.2)
 

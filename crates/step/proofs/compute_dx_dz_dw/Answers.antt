@@ -1,14 +1,11 @@
 use Rattle.lanes.proofs.Quads.{on}
-use Rattle.lanes.proofs.Regions.{room_le, kept_room}
+use Rattle.lanes.proofs.Regions.{kept_room}
 use native.Mathlib.Omega.{arith}
 use Rattle.kernels.proofs.Laid.{laid}
 use Rattle.plan_laws.proofs.Follows.{cols_for}
 use Rattle.memory.proofs.Plans.{indexed, prepared}
 use Rattle.step.proofs.Steps.{changed}
 use Rattle.step.proofs.compute_dx_dz_dw.Goals as goal
-
-pub regions-mem-requires : goal.regions-mem-requires
-regions-mem-requires c = omega (arith, room_le c.args.width c.args.work.now, c.requires.1, c.well_formed)
 
 pub atindptr-atindptr-requires : goal.atindptr-atindptr-requires
 atindptr-atindptr-requires c = indexed c.requires.0.is

@@ -6,9 +6,6 @@ use Rattle.step.proofs.normal_eqn_init.Goals as goal
 pub regions-mem-requires : goal.regions-mem-requires
 regions-mem-requires c = omega (arith, room_le c.args.width c.args.work.now, c.requires.0, c.well_formed)
 
-pub vector_set-requires : goal.vector_set-requires
-vector_set-requires c = rw c.regions-mem.ensures (omega (arith, c.requires.0), c.requires.1)
-
 pub vector_set-requires-2 : goal.vector_set-requires-2
 vector_set-requires-2 c = rw c.regions-mem.ensures (omega (arith, c.requires.0, kept_room c.vector_set.ensures.kept), c.requires.1)
 

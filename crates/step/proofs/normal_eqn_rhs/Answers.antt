@@ -1,4 +1,4 @@
-use Rattle.lanes.proofs.Regions.{room_le, kept_room}
+use Rattle.lanes.proofs.Regions.{kept_room}
 use native.Mathlib.Omega.{arith}
 use Rattle.kernels.proofs.Laid.{laid}
 use Rattle.plan_laws.proofs.Follows.{rows_for, cols_for}
@@ -6,9 +6,6 @@ use Rattle.memory.proofs.Plans.{indexed, prepared}
 use Rattle.memory.specs.Numbers.{data_at}
 use Rattle.step.proofs.Steps.{right_side}
 use Rattle.step.proofs.normal_eqn_rhs.Goals as goal
-
-pub regions-mem-requires : goal.regions-mem-requires
-regions-mem-requires c = omega (arith, room_le c.args.width c.args.work.now, c.requires.2, c.well_formed)
 
 pub atindptr-atindptr-requires : goal.atindptr-atindptr-requires
 atindptr-atindptr-requires c = indexed c.requires.0

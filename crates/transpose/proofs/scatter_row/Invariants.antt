@@ -1,16 +1,8 @@
-use Prim.Native.Nat.{ℕ, ◌≤◌, ◌-◌}
-use mathlib.Core.Path.{◌≡◌}
-use lib.ListN.{length, get_or}
+use Prim.Native.Nat.{ℕ}
 use Rattle.transpose.specs.Bins.{Scattering, cols_of}
 use Rattle.transpose.proofs.Row as law
 use Rattle.transpose.proofs.scatter_row.Given as goal
 
 abbrev pub invariant-loop-k : goal.invariant-loop-k
 invariant-loop-k l =
-    (get_or l.off l.i 0 ≤ l.k)
-    × (length l.index ≡ length l.initial.index)
-    × (length l.next ≡ length l.initial.next)
-    × ((m n : ℕ) → Scattering l.off (cols_of l.side l.cols l.bytes) m n l.what l.i l.initial.index l.initial.next l.start → law.Passing l.off (cols_of l.side l.cols l.bytes) m n l.what l.i l.k l.initial.index l.index l.next l.start)
-
-abbrev pub decreases-loop-k : goal.decreases-loop-k
-decreases-loop-k l = l.b - l.k
+    (m n : ℕ) → Scattering l.off (cols_of l.side l.cols l.bytes) m n l.what l.i l.initial.index l.initial.next l.start → law.Passing l.off (cols_of l.side l.cols l.bytes) m n l.what l.i l.k l.initial.index l.index l.next l.start

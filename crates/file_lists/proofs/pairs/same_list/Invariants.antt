@@ -1,6 +1,5 @@
-use Prim.Native.Nat.{ℕ, ◌≤◌, ◌-◌}
-use mathlib.Core.Path.{◌≡◌}
-use lib.ListN.{length, get_or}
+use Prim.Native.Nat.{ℕ, ◌≤◌}
+use lib.ListN.{get_or}
 use Rattle.lists.specs.Lists.{shape}
 use Rattle.pair_lists.specs.Listing.{Counting}
 use Rattle.file_numbers.specs.Agree.{numbers_of}
@@ -8,7 +7,8 @@ use Rattle.file_lists.proofs.Compared as turns
 use Rattle.file_lists.proofs.pairs.same_list.Given as goal
 
 abbrev pub invariant-loop-i : goal.invariant-loop-i
-invariant-loop-i l = (l.i ≤ l.m) × (length l.made ≡ length l.initial.made) × Counting l.which l.off l.cols l.i l.n × turns.Passed (shape l.off l.cols) l.which (numbers_of l.body) l.i l.at l.good × (length l.mark ≡ length l.initial.mark) × ((x : ℕ) → get_or l.initial.mark x 0 ≤ get_or l.off 0 0 → get_or l.mark x 0 ≤ get_or l.off l.i 0)
-
-abbrev pub decreases-loop-i : goal.decreases-loop-i
-decreases-loop-i l = l.m - l.i
+invariant-loop-i l = record {
+  counting : Counting l.which l.off l.cols l.i l.seen.n;
+  passed : turns.Passed (shape l.off l.cols) l.which (numbers_of l.body) l.i l.seen.at;
+  low : (x : ℕ) → get_or l.initial.mark x 0 ≤ get_or l.off 0 0 → get_or l.mark x 0 ≤ get_or l.off l.i 0;
+}

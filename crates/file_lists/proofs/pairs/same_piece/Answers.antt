@@ -1,9 +1,10 @@
 -- `file_lists::pairs::same_piece` meets its contract. Assumes nothing.
 use Prim.Native.Nat.{ℕ, ◌-◌}
 use mathlib.Core.Path.{sym, ap, ◌∙◌}
-use mathlib.Core.List.{[], ◌∷◌}
 use native.Mathlib.Omega.{arith}
 use lib.ListN.{length}
+use Rattle.std.specs.Prelude.{Option}
+use Rattle.base.specs.Cat.{kept}
 use Rattle.pair_lists.specs.Kept.{marks_read}
 use Rattle.pair_lists.proofs.Pieces as law
 use Rattle.file_lists.proofs.Small.{stands_as}
@@ -36,9 +37,6 @@ same_products-requires c =
       omega (arith, c.requires.3, e),
     )
 
-pub overflow_add-j : goal.overflow_add-j
-overflow_add-j c = omega (arith, law.left c.requires.0 c.requires.1, (law.below c.requires.0 c.requires.1).1)
-
 pub word_at-last-requires : goal.word_at-last-requires
 word_at-last-requires c = omega (arith, (law.below c.requires.0 c.requires.1).0, c.requires.0.rows.offsets)
 
@@ -58,44 +56,41 @@ same_products-requires-in-LdecompIndptrJ c =
       omega (arith, c.requires.3, e),
     )
 
-pub overflow_add-t : goal.overflow_add-t
-overflow_add-t c = omega (arith, law.small c.requires.0 c.requires.1)
-
 pub same_word-requires-in-Lindptr : goal.same_word-requires-in-Lindptr
-same_word-requires-in-Lindptr c = omega (arith, c.requires.3, ap length (law.of_lindptr c.requires.0 c.requires.1 c.in-Lindptr.is))
+same_word-requires-in-Lindptr c = omega (arith, c.requires.3, ap length (law.of_lindptr c.requires.0 c.requires.1 c.in-Lindptr.is), ap (λ (o : Option ℕ). length (kept o)) c.then_some.ensures)
 
 pub same_word-requires-in-LdiagIndptr : goal.same_word-requires-in-LdiagIndptr
-same_word-requires-in-LdiagIndptr c = omega (arith, c.requires.3, ap length (law.of_ldiag_indptr c.requires.0 c.requires.1 c.in-LdiagIndptr.is))
+same_word-requires-in-LdiagIndptr c = omega (arith, c.requires.3, ap length (law.of_ldiag_indptr c.requires.0 c.requires.1 c.in-LdiagIndptr.is), ap (λ (o : Option ℕ). length (kept o)) c.then_some-in-LdiagIndptr.ensures)
 
 pub same_word-requires-in-Lindices : goal.same_word-requires-in-Lindices
 same_word-requires-in-Lindices c = omega (arith, c.requires.3, ap length (law.of_lindices c.requires.0 c.requires.1 c.in-Lindices.is))
 
 pub returns-in-AnormIndptr : goal.returns-in-AnormIndptr
-returns-in-AnormIndptr c = stands_as (ap (λ (x : ℕ). x ∷ []) c.of_word.ensures ∙ sym (law.of_anorm_indptr c.requires.0 c.requires.1 c.in-AnormIndptr.is)) c.same_word.ensures
+returns-in-AnormIndptr c = stands_as _ _ _ _ _ (sym (law.of_anorm_indptr c.requires.0 c.requires.1 c.in-AnormIndptr.is)) c.same_word.ensures
 
 pub returns-in-AnormIndptrI : goal.returns-in-AnormIndptrI
-returns-in-AnormIndptrI c = stands_as (sym (law.of_anorm_indptr_i c.requires.0 c.requires.1 c.in-AnormIndptrI.is)) c.same_shared.ensures
+returns-in-AnormIndptrI c = stands_as _ _ _ _ _ (sym (law.of_anorm_indptr_i c.requires.0 c.requires.1 c.in-AnormIndptrI.is)) c.same_shared.ensures
 
 pub returns-in-AnormIndptrJ : goal.returns-in-AnormIndptrJ
-returns-in-AnormIndptrJ c = stands_as (sym (law.of_anorm_indptr_j c.requires.0 c.requires.1 c.in-AnormIndptrJ.is)) c.same_shared-in-AnormIndptrJ.ensures
+returns-in-AnormIndptrJ c = stands_as _ _ _ _ _ (sym (law.of_anorm_indptr_j c.requires.0 c.requires.1 c.in-AnormIndptrJ.is)) c.same_shared-in-AnormIndptrJ.ensures
 
 pub returns-in-AnormIndices : goal.returns-in-AnormIndices
-returns-in-AnormIndices c = stands_as (sym (law.of_anorm_indices c.requires.0 c.requires.1 c.in-AnormIndices.is)) c.same_shared-in-AnormIndices.ensures
+returns-in-AnormIndices c = stands_as _ _ _ _ _ (sym (law.of_anorm_indices c.requires.0 c.requires.1 c.in-AnormIndices.is)) c.same_shared-in-AnormIndices.ensures
 
 pub returns-in-LdecompIndptr : goal.returns-in-LdecompIndptr
-returns-in-LdecompIndptr c = stands_as (ap (λ (x : ℕ). x ∷ []) c.of_word-in-LdecompIndptr.ensures ∙ sym (law.of_ldecomp_indptr c.requires.0 c.requires.1 c.in-LdecompIndptr.is)) c.same_word-in-LdecompIndptr.ensures
+returns-in-LdecompIndptr c = stands_as _ _ _ _ _ (sym (law.of_ldecomp_indptr c.requires.0 c.requires.1 c.in-LdecompIndptr.is)) c.same_word-in-LdecompIndptr.ensures
 
 pub returns-in-LdecompIndptrI : goal.returns-in-LdecompIndptrI
-returns-in-LdecompIndptrI c = stands_as (sym (law.of_ldecomp_indptr_i c.requires.0 c.requires.1 c.in-LdecompIndptrI.is)) c.same_products.ensures
+returns-in-LdecompIndptrI c = stands_as _ _ _ _ _ (sym (law.of_ldecomp_indptr_i c.requires.0 c.requires.1 c.in-LdecompIndptrI.is)) c.same_products.ensures
 
 pub returns-in-LdecompIndptrJ : goal.returns-in-LdecompIndptrJ
-returns-in-LdecompIndptrJ c = stands_as (sym (law.of_ldecomp_indptr_j c.requires.0 c.requires.1 c.in-LdecompIndptrJ.is (c.word_at-last.result - 1) (ap (λ (y : ℕ). y - 1) c.word_at-last.ensures))) c.same_products-in-LdecompIndptrJ.ensures
+returns-in-LdecompIndptrJ c = stands_as _ _ _ _ _ (sym (law.of_ldecomp_indptr_j c.requires.0 c.requires.1 c.in-LdecompIndptrJ.is (c.word_at-last.result - 1) (ap (λ (y : ℕ). y - 1) c.word_at-last.ensures))) c.same_products-in-LdecompIndptrJ.ensures
 
 pub returns-in-Lindptr : goal.returns-in-Lindptr
-returns-in-Lindptr c = stands_as (sym (law.of_lindptr c.requires.0 c.requires.1 c.in-Lindptr.is)) c.same_word-in-Lindptr.ensures
+returns-in-Lindptr c = stands_as _ _ _ _ _ (ap kept c.then_some.ensures ∙ sym (law.of_lindptr c.requires.0 c.requires.1 c.in-Lindptr.is)) c.same_word-in-Lindptr.ensures
 
 pub returns-in-LdiagIndptr : goal.returns-in-LdiagIndptr
-returns-in-LdiagIndptr c = stands_as (sym (law.of_ldiag_indptr c.requires.0 c.requires.1 c.in-LdiagIndptr.is)) c.same_word-in-LdiagIndptr.ensures
+returns-in-LdiagIndptr c = stands_as _ _ _ _ _ (ap kept c.then_some-in-LdiagIndptr.ensures ∙ sym (law.of_ldiag_indptr c.requires.0 c.requires.1 c.in-LdiagIndptr.is)) c.same_word-in-LdiagIndptr.ensures
 
 pub returns-in-Lindices : goal.returns-in-Lindices
-returns-in-Lindices c = stands_as (sym (law.of_lindices c.requires.0 c.requires.1 c.in-Lindices.is)) c.same_word-in-Lindices.ensures
+returns-in-Lindices c = stands_as _ _ _ _ _ (sym (law.of_lindices c.requires.0 c.requires.1 c.in-Lindices.is)) c.same_word-in-Lindices.ensures

@@ -2,17 +2,18 @@
 use mathlib.Core.Path.{refl}
 use Rattle.pattern.proofs.Whole.{clear_zeros, rows_ready}
 use Rattle.pattern.proofs.Links.{inside}
+use Rattle.ipm_common.proofs.Memories.{cleared}
 use Rattle.file_questions.proofs.sixteen.is_plan_in.Goals as goal
 
 pub pattern-requires : goal.pattern-requires
-pattern-requires c =
+pattern-requires g c =
     let ok = c.requires.1.accepted in
     (ok.csr, inside c.args.off.now c.args.cols.now c.args.plan.m c.args.plan.n ok, refl, λ i h. clear_zeros 1024 i)
 
 pub is_file-requires : goal.is_file-requires
-is_file-requires c =
+is_file-requires g c =
     let ok = c.requires.1.accepted in
-    let memories = c.requires.2 in (
+    let memory = cleared c.requires.2 in (
       c.requires.0,
       record {
         accepted = ok;
@@ -21,7 +22,7 @@ is_file-requires c =
         counts = c.requires.1.counts;
         entries = c.requires.1.entries;
       },
-      memories.counts,
-      memories.firsts,
-      memories.marks,
+      memory,
+      memory,
+      memory,
     )

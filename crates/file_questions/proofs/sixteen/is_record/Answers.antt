@@ -1,8 +1,6 @@
 -- `file_questions::sixteen::is_record` meets its contract. Assumes nothing.
-use mathlib.Core.Path.{sym, ap, subst}
-use Rattle.plan_file.specs.declared.Meaning.{Meaning}
+use mathlib.Core.Path.{subst}
 use Rattle.plan_file.specs.Matrix.{matrix_lists}
-use Rattle.plan_file.specs.Verdicts.{is_matrixs}
 use Rattle.file_questions.specs.Takes.{Takes}
 use Rattle.file_questions.proofs.Walk.{listed_is}
 use Rattle.file_questions.proofs.sixteen.is_record.Goals as goal
@@ -14,9 +12,3 @@ pub returns-in-Listed : goal.returns-in-Listed
 returns-in-Listed c =
     let t = subst Takes c.in-Listed.is c.requires.0 in
     listed_is (matrix_lists c.args.off.now c.args.cols.now c.args.plan.m c.args.plan.n) c.args.meaning c.args.body.now _ _ c.is_list.result c.in-Listed.is t.2 c.is_list.ensures
-
-pub returns-in-Note : goal.returns-in-Note
-returns-in-Note c = sym (ap (λ (q : Meaning). is_matrixs (matrix_lists c.args.off.now c.args.cols.now c.args.plan.m c.args.plan.n) q c.args.body.now) c.in-Note.is)
-
-pub returns-in-Neither : goal.returns-in-Neither
-returns-in-Neither c = sym (ap (λ (q : Meaning). is_matrixs (matrix_lists c.args.off.now c.args.cols.now c.args.plan.m c.args.plan.n) q c.args.body.now) c.in-Neither.is)

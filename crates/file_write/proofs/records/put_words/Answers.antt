@@ -1,17 +1,16 @@
+use mathlib.Core.Path.{◌∙◌}
 use native.Mathlib.Omega.{arith}
-use Rattle.file_write.proofs.Puts.{puts_none, puts_more, puts_all, puts_long}
+use Rattle.base.proofs.Write.{same_text}
+use Rattle.file_write.proofs.Puts.{bytes_four, puts_none, puts_more, puts_all}
 use Rattle.file_write.proofs.records.put_words.Goals as goal
 
-pub loop-k-init : goal.loop-k-init
-loop-k-init c = puts_none 4 _ _ _
+pub loop-x-init : goal.loop-x-init
+loop-x-init c = puts_none 4 _ _ _
 
-pub put32-at-requires : goal.put32-at-requires
-put32-at-requires c =
-    let inv = c.loop-k.invariant in
-    omega (arith, puts_long 4 _ _ _ _ _ _ inv, inv.place)
-
-pub loop-k-preserved : goal.loop-k-preserved
-loop-k-preserved c = puts_more 4 _ _ _ _ _ _ _ _ (omega arith) c.loop-k.invariant c.put32-at.ensures
+pub loop-x-preserved : goal.loop-x-preserved
+loop-x-preserved c =
+    puts_more 4 _ _ _ _ _ _ _ _ c.loop-x-test.true c.loop-x.invariant
+    (same_text (c.to_le_bytes.ensures ∙ bytes_four _) c.put-at.ensures)
 
 pub returns : goal.returns
-returns c = puts_all 4 _ _ _ _ _ _ (omega arith) c.loop-k.invariant
+returns c = puts_all 4 _ _ _ _ _ _ (omega arith) c.loop-x.invariant

@@ -1,7 +1,0 @@
-use mathlib.Core.Path.{refl}
-use Rattle.reading.specs.Answer.{zeros}
-use Rattle.reading.proofs.record_memory.index.Goals as goal
-
-pub returns : goal.returns
-unfolding zeros
-returns c = refl
