@@ -1,7 +1,10 @@
 // What the programs that run recorded cases share: the words of a data file, the cases one after the other, and how many were right.
 #![tactic(auto)]
 
-ghost use Rattle.std.specs.Prelude.{◌≡◌, ◌+◌, ◌*◌, ◌≤◌, length};
+ghost use Rattle.std.specs.Prelude.{◌≡◌, ◌↔◌, ℕ, ◌+◌, ◌*◌, ◌/◌, ◌<◌, ◌≤◌, not, length, min, slice_index, take, drop, All, IsTrue};
+ghost use Rattle.std.specs.Cmp.Lexicographic.{pointwise};
+ghost use Rattle.base.specs.Sums.{one};
+ghost use Rattle.record.specs.Little.{le4};
 
 use std::fmt;
 
@@ -30,7 +33,8 @@ impl Tally {
     // One case more.
     pub fn add(&mut self, right: bool)
         requires { self.old.right + self.old.wrong + 1 ≤ 4294967295 }
-        ensures { self.new.right + self.new.wrong ≡ self.old.right + self.old.wrong + 1 }
+        ensures right { self.new.right ≡ self.old.right + one right }
+        ensures wrong { self.new.wrong ≡ self.old.wrong + one (not right) }
     {
         if right {
             self.right += 1;
@@ -47,6 +51,7 @@ impl fmt::Display for Tally {
 }
 
 // Runs the cases from the start on until there is none, and tells whether the file was whole. `most` is more cases than there are.
+// The contract only bounds how many were run: what a case gives is for the run to show, and nothing that is proved rests on it.
 pub fn run_all<F: Fn(usize) -> Result<Option<Ran>, Broken>>(
     case: F,
     most: u32,
@@ -71,7 +76,8 @@ pub fn run_all<F: Fn(usize) -> Result<Option<Ran>, Broken>>(
 
 // The words of the bytes, as many as there is room for.
 pub fn decode<'a>(bytes: &[u8], words: &'a mut [u32]) -> &'a [u32]
-    ensures { 4 * length result.now ≤ length bytes.now }
+    ensures count { length result.now ≡ min (length words.old) (length bytes.now / 4) }
+    ensures words { (k : ℕ) → k < length result.now → slice_index result.now k ≡ le4 bytes.now (4 * k) }
 {
     let count = words.len().min(bytes.len() / WORD_BYTES);
     for (k, word) in words[..count].iter_mut().enumerate() {
@@ -81,7 +87,9 @@ pub fn decode<'a>(bytes: &[u8], words: &'a mut [u32]) -> &'a [u32]
 }
 
 // Whether a memory begins with a list, and is then as it was.
-pub fn begins_with<T: Copy + PartialEq>(memory: &[T], list: &[T], old: T) -> bool {
+pub fn begins_with<T: Copy + PartialEq>(memory: &[T], list: &[T], old: T) -> bool
+    ensures { IsTrue result ↔ (IsTrue (pointwise T.eq (take (length list.now) memory.now) list.now) × All (λ x. IsTrue (T.eq x old)) (drop (length list.now) memory.now)) }
+{
     match memory.strip_prefix(list) {
         Some(rest) => rest.iter().all(|x| *x == old),
         None => false,
