@@ -1,21 +1,18 @@
--- The digits of a number, and texts written one after the other. Assumes nothing.
+-- The digits of a number, and the columns of a list of lanes. Assumes nothing.
 use mathlib.Core.Path.{◌≡◌, refl, sym, ap, ◌∙◌, subst}
 use mathlib.Core.Bool.{Bool, cond}
-use mathlib.Core.List.{List, [], ◌∷◌, ◌++◌, append_assoc}
+use mathlib.Core.List.{List, [], ◌∷◌, ◌++◌}
 use Prim.Native.Nat.{ℕ, zero, suc, ◌+◌, ◌-◌, ◌*◌, ◌/◌, ◌%◌, ◌^◌, ◌≤◌, ◌<◌}
 use native.Mathlib.Nat.{mod-eq_of_lt, div-lt_iff_lt-mul, le-div_iff_mul-le, pow-suc, pow-le-pow_right, le_trans, lt_of_lt_of_le, lt_irrefl}
 use native.Mathlib.Decide.{dec_le}
 use native.Mathlib.Omega.{arith}
 use borrow.Author.Tests.{lt-ltb, le-ltb}
-use borrow.Rule.Slice.PartMut.{put_mid}
 use lib.Ieee.{Float, nan}
 use lib.ListN.{length, get_or, take, drop, length-append}
 use lib.Seq.{drop-drop, get_or-take, get_or-drop}
-use Rattle.std.proofs.lemmas.List.Edits.{sets-eq}
 use Rattle.std.specs.Simd.{first_chunks}
 use Rattle.io.specs.Digits.{hex_digit_ascii, last_digits, IsDigitCount}
 use Rattle.lanes.specs.Lists.{at as element}
-use Rattle.base.specs.Cat.{Wrote}
 use Rattle.answer_text.specs.Text.{decimal_to, hex_text, float_text, line_text, space, line_feed}
 
 pub length_digits : (b k n : ℕ) → length (last_digits b k n) ≡ k
@@ -69,16 +66,6 @@ hex_places n k u f = few 16 16 16 n k (omega arith) (omega arith) u f
 pub hex_is : (k b : ℕ) → k ≤ 16 → IsDigitCount 16 16 b k → last_digits 16 k b ≡ hex_text b
 unfolding hex_text
 hex_is k b h f = let e : k ≡ 16 = omega (arith, f.0) in ap (λ (j : ℕ). last_digits 16 j b) e
-
--- ---- texts written one after the other
-
--- a text copied to its part of a list
-pub copied : (a : List ℕ) (start : ℕ) (s : List ℕ) → start + length s ≤ length a
-    → Wrote a (put_mid start (start + length s - start) a s) start s (start + length s)
-copied a start s h = record { is = sym (sets-eq s a start h ∙ append_assoc (take start a) s (drop (start + length s) a) ∙ part (omega arith)); next = refl }
-  where
-    part : {k : ℕ} → k ≡ length s → take start a ++ (s ++ drop (start + length s) a) ≡ put_mid start k a s
-    part e = rw (e, drop-drop)
 
 -- ---- the columns of a list of lanes
 

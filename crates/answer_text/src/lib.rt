@@ -5,25 +5,19 @@ ghost use Rattle.std.specs.Prelude.{◌≡◌, [], ◌∷◌, ◌++◌, ◌+◌,
 ghost use Rattle.base.specs.Cat.{cat, Wrote};
 ghost use Rattle.answer_text.specs.Text.{whole_bytes, float_bytes, line_bytes, accepted_bytes, refused_bytes, input_bytes, whole_text, float_text, line_text, accepted_text, refused_text, input_text};
 
+use base::put_all;
+use csr::Numbered;
+
 const SPACE: u8 = b' ';
 
 const LINE_FEED: u8 = b'\n';
-
-fn put(out: &mut [u8], at: usize, s: &[u8]) -> usize
-    requires { at + length s.now ≤ length out.old }
-    ensures { Wrote out.old out.new at s.now result }
-{
-    let end = at + s.len();
-    out[at..end].copy_from_slice(s);
-    end
-}
 
 // A text, and a byte after it.
 fn put_then(out: &mut [u8], at: usize, s: &[u8], after: u8) -> usize
     requires { at + length s.now < length out.old }
     ensures { Wrote out.old out.new at (s.now ++ (after ∷ [])) result }
 {
-    let end = put(out, at, s);
+    let end = put_all(out, at, s);
     base::put(out, end, after)
 }
 
@@ -80,20 +74,20 @@ pub fn put_accepted(out: &mut [u8], test: usize, x: &[f64], n: usize) -> usize
     requires { (accepted_bytes n ≤ length out.old) × (4 * n ≤ length x.now) }
     ensures { Wrote out.old out.new 0 (accepted_text test x.now n) result }
 {
-    let word = put(out, 0, b"accepted ");
+    let word = put_all(out, 0, b"accepted ");
     let line = put_whole(out, word, test as u64, LINE_FEED);
     put_lines(out, line, x, n)
 }
 
 // The answer to a refused solve.
-pub fn put_refused(out: &mut [u8], question: u32, place: usize, lane: u32) -> usize
+pub fn put_refused(out: &mut [u8], no: Numbered) -> usize
     requires { refused_bytes ≤ length out.old }
-    ensures { Wrote out.old out.new 0 (refused_text question place lane) result }
+    ensures { Wrote out.old out.new 0 (refused_text no.question no.place no.lane) result }
 {
-    let word = put(out, 0, b"refused ");
-    let a = put_whole(out, word, question as u64, SPACE);
-    let b = put_whole(out, a, place as u64, SPACE);
-    put_whole(out, b, lane as u64, LINE_FEED)
+    let word = put_all(out, 0, b"refused ");
+    let a = put_whole(out, word, no.question as u64, SPACE);
+    let b = put_whole(out, a, no.place as u64, SPACE);
+    put_whole(out, b, no.lane as u64, LINE_FEED)
 }
 
 // The answer to bytes that do not match.
@@ -101,5 +95,5 @@ pub fn put_input(out: &mut [u8]) -> usize
     requires { input_bytes ≤ length out.old }
     ensures { Wrote out.old out.new 0 input_text result }
 {
-    put(out, 0, b"input\n")
+    put_all(out, 0, b"input\n")
 }

@@ -4,3 +4,5 @@ pub mod Sums
 pub mod Write
 pub mod Front
 pub mod Maps
+pub mod Facts
+pub mod Parts

@@ -1,34 +1,16 @@
-// Words and bytes of a lent list: read, stored, and written one after the other.
+// Elements of a lent list: a part of it, and elements written one after the other.
 #![tactic(auto)]
 
-ghost use Rattle.std.specs.Prelude.{◌≡◌, [], ◌∷◌, ◌++◌, ◌+◌, ◌<◌, ◌≤◌, length, get_or, set, drop, replicate};
+ghost use Rattle.std.specs.Prelude.{◌≡◌, [], ◌∷◌, ◌++◌, ◌+◌, ◌<◌, ◌≤◌, length, drop, replicate};
 ghost use Rattle.base.specs.Cat.{kept, Wrote};
 ghost use Rattle.base.specs.Numbers.{span, Part};
-
-// A word as a number.
-pub fn word_at(s: &[u32], i: usize) -> usize
-    requires { i < length s.now }
-    ensures { result ≡ get_or s.now i 0 }
-{
-    s[i] as usize
-}
 
 // The part of a list between two offsets.
 pub fn span<'a, T>(off: &[u32], list: &'a [T], i: usize) -> &'a [T]
     requires { Part off.now i (length list.now) }
     ensures { result.now ≡ span off.now list.now i }
 {
-    let a = word_at(off, i);
-    let e = word_at(off, i + 1);
-    &list[a..e]
-}
-
-// A word stored.
-pub fn store(s: &mut [u32], i: usize, x: u32)
-    requires { i < length s.old }
-    ensures { s.new ≡ set s.old i x }
-{
-    s[i] = x;
+    &list[off[i] as usize..off[i + 1] as usize]
 }
 
 // One element written, and the place after it.
@@ -51,10 +33,22 @@ pub fn keep<T: Copy>(list: &mut [T], at: usize, x: Option<T>) -> usize
     }
 }
 
-// The first n words set to 0, and no other changed.
-pub fn clear(s: &mut [u32], n: usize)
-    requires { n ≤ length s.old }
-    ensures { s.new ≡ replicate n 0 ++ drop n s.old }
+// Elements written one after the other, and the place after them.
+pub fn put_all<T: Copy>(list: &mut [T], at: usize, s: &[T]) -> usize
+    requires { at + length s.now ≤ length list.old }
+    ensures { Wrote list.old list.new at s.now result }
 {
-    s[..n].fill(0);
+    let end = at + s.len();
+    list[at..end].copy_from_slice(s);
+    end
+}
+
+// The first n elements set to x, and no other changed.
+pub fn fill_front<T: Copy>(list: &mut [T], n: usize, x: T)
+    requires { n ≤ length list.old }
+    ensures { list.new ≡ replicate n x ++ drop n list.old }
+{
+    for k in 0..n {
+        list[k] = x;
+    }
 }

@@ -12,6 +12,7 @@ use std::fmt;
 pub const WORD_BYTES: usize = 4;
 
 // A case that was run: whether it gave what was wanted, and where the next one starts.
+// `right` is itself what is told: it allows no other value.
 #[derive(Clone, Copy, Debug, PartialEq, Eq)]
 pub struct Ran {
     pub right: bool,

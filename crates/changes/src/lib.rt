@@ -13,7 +13,7 @@ ghost use Rattle.changes.specs.Changes.{ColumnsChanged, SlackChanged};
 use entries::{get, put};
 use lanes::{add4, div4, larger4, mul4, neg4, sub4, zero4};
 use layout::Regions;
-use sparse::col_plus;
+use sparse::ByColumn;
 
 fn dx_in(cost: [f64; 4], da: [f64; 4], over: [f64; 4], x: [f64; 4], z: [f64; 4]) -> [f64; 4]
     ensures { result ≡ lanes (λ l. (at cost l ⊖ at da l ⊕ at over l) ⊗ at x l ⊘ at z l) }
@@ -40,24 +40,19 @@ fn ratio_in(v: [f64; 4], da: [f64; 4], a: [f64; 4], db: [f64; 4], b: [f64; 4]) -
 // dx, in place of the reduced costs, and dz, in place of mu/x; the largest ratio of both.
 #[tactic(auto, using(lanes::proofs::Regions::room_le))]
 pub fn column_changes(
-    atindptr: &[u32],
-    atindices: &[u32],
-    atmap: &[u32],
-    vals: &[f64],
+    columns: &ByColumn<'_>,
     work: &mut [f64],
     width: usize,
     mem: Regions,
     mu: [f64; 4],
 ) -> [f64; 4]
-    requires { Cols mem.n mem.m atindptr.now atindices.now atmap.now vals.now × Laid width mem work.old }
-    ensures { ColumnsChanged width mem atindptr.now atindices.now atmap.now vals.now mu work.old work.new result }
+    requires { Cols mem.n mem.m columns.now.atindptr.now columns.now.atindices.now columns.now.atmap.now columns.now.vals.now × Laid width mem work.old }
+    ensures { ColumnsChanged width mem columns.now.atindptr.now columns.now.atindices.now columns.now.atmap.now columns.now.vals.now mu work.old work.new result }
 {
     let zero = zero4();
     let mut acc = zero4();
     for e in 0..mem.n {
-        let da = col_plus(
-            atindptr, atindices, atmap, vals, work, width, mem.dy, e, zero,
-        );
+        let da = columns.plus(work, width, mem.dy, e, zero);
         let d = get(work, mem.dx + e, width);
         let q = get(work, mem.dz + e, width);
         let xe = get(work, mem.x + e, width);

@@ -19,7 +19,7 @@ use Rattle.base.proofs.Sums.{sum_ext, sum_zero, sum_more}
 use Rattle.csr.specs.Pattern.{has, row, neighbours}
 use Rattle.csr.proofs.Rule.{stored_diag}
 use Rattle.csr.proofs.Has.{has_last, has_at, not_before}
-use Rattle.csr.proofs.Rows.{row_of, row_le}
+use Rattle.csr.proofs.RowParts.{row_of, row_le}
 use Rattle.csr.specs.Csr.{Accepted}
 use Rattle.csr.specs.Questions.{max_rows}
 use Rattle.csr.specs.Counts.{is_stored, count_e, count_s, count_d}

@@ -5,7 +5,7 @@ use Prim.Native.Nat.{ℕ, ◌≤◌}
 use native.Mathlib.Omega.{arith}
 use lib.ListN.{length}
 use Rattle.layout.specs.declared.Plan.{Plan}
-use Rattle.layout.specs.Layout.{plan_of, top_in, numbers_of, top_word}
+use Rattle.layout.specs.Layout.{plan_of, numbers_of, top_word}
 use Rattle.layout.specs.Lists.{words_at}
 use Rattle.csr.specs.Csr.{Accepted}
 use Rattle.csr.specs.Counts.{count_e, count_s, count_d, size_w, size_f}
@@ -28,6 +28,3 @@ module _ (off cols : List ℕ) (m n s : ℕ) where
     pub words_fit : words_at planned_sizes ≤ top_word
     words_fit =
         omega (arith, ok.csr.few, ok.offsets.few, ok.wide, few_stored off cols m ok.csr, few_shared off cols m ok.csr ok.offsets.few, few_products off cols m ok.csr)
-
-    pub numbers_fit : s ≤ m → (top_in planned_sizes ≤ top_word) × (numbers_of planned_sizes 4 ≤ top_word)
-    numbers_fit h = (omega (arith, ok.csr.few, ok.wide, few_stored off cols m ok.csr), omega (arith, ok.csr.few, ok.wide, few_stored off cols m ok.csr))

@@ -3,7 +3,7 @@ use mathlib.Core.Path.{◌≡◌, refl, sym, ap, ap₂, ◌∙◌}
 use mathlib.Core.Logic.{◌⊎◌, inl, inr}
 use mathlib.Core.Bool.{Bool, true, false, ◌&&◌, cond}
 use mathlib.Core.List.{List}
-use Prim.Native.Nat.{ℕ, zero, suc, ◌+◌, ◌-◌, ◌≤◌, ◌<◌}
+use Prim.Native.Nat.{ℕ, zero, suc, ◌+◌, ◌≤◌, ◌<◌}
 use native.Mathlib.Omega.{arith}
 use native.Mathlib.Decide.{ℕ_discrete}
 use native.Mathlib.Numerals.{add-one}
@@ -47,10 +47,6 @@ module _ (mark : List ℕ) (i k : ℕ) (h : k < length mark) where
       go : Dec (x ≡ k) → met (set mark k (i + 1)) i x ≡ true
       go (yes z) = met_at x z
       go (no n) = met_other x n ∙ e
-
-pub some_kept : (f y : ℕ) → (f ≡ 0 → ⊥) → f - 1 + 1 ≡ or_else f y
-some_kept zero y n = absurd (n refl)
-some_kept (suc f) y n = omega arith
 
 pub next_is : (i x next : ℕ) → next + 1 ≡ or_else x (i + 1) → ((x ≡ 0) × (next ≡ i)) ⊎ (x ≡ suc next)
 next_is i zero next e = inl (refl, omega arith)
@@ -113,9 +109,6 @@ module _ {st : ℕ → ℕ → Bool} {i k : ℕ} {mark parent column : List ℕ}
 
     pub bump_asks : (k < length column) × (get_or column k 0 ≤ 65536)
     bump_asks = (omega (arith, t.room, t.columns), omega (arith, mine, entries_few st i k, t.few))
-
-    pub adopt_asks : (k < length parent) × (i < 256)
-    adopt_asks = (omega (arith, t.room, t.parents), t.few)
 
     pub grown : get_or column k 0 + 1 ≤ 257
     grown = omega (arith, mine, entries_few st i k, t.few)
@@ -221,9 +214,6 @@ module _ {st : ℕ → ℕ → Bool} {i k : ℕ} {mark parent column : List ℕ}
               ∙ sym (ap (λ (b : Bool). entries_in st i x + one b) (met_other mark i k in_marks x n))
 
 -- ---- the climb as a whole
-pub climb_start : (i at : ℕ) (mark parent column : List ℕ) (e d : ℕ) → Climbed i at at mark parent column mark parent column e d e d
-climb_start i at mark parent column e d = record { size = refl; turns = λ st E D t. t; keeps = λ x h. h; reaches = λ l. inr refl }
-
 module _ {i at k : ℕ} {mark₀ parent₀ column₀ mark parent column : List ℕ} {e₀ d₀ e d : ℕ} (v : Climbed i at k mark₀ parent₀ column₀ mark parent column e₀ d₀ e d) where
   pub climb_here : (w : Climbing i at mark₀ parent₀ column₀ e₀ d₀) → Turn w.st i k mark parent column w.E w.D e d
   climb_here w = v.turns w.st w.E w.D w.turn

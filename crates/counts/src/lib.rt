@@ -3,13 +3,14 @@
 
 ghost use Rattle.std.specs.Prelude.{◌≡◌, ◌+◌, ◌≤◌, ◌<◌, length, get_or, set};
 ghost use Rattle.layout.specs.Layout.{plan_of};
-ghost use Rattle.csr.specs.Csr.{Accepted, max_places};
+ghost use Rattle.csr.specs.Csr.{max_places};
 ghost use Rattle.csr.specs.Counts.{count_e, count_s, count_d, Counted};
 ghost use Rattle.csr.specs.Questions.{max_rows, max_columns};
 ghost use Rattle.pattern.specs.Links.{or_else};
 ghost use Rattle.counts.specs.Climb.{Adopts, Climbing, Climbed};
-ghost use Rattle.counts.specs.Rows.{Rows, Fit, Countable};
+ghost use Rattle.counts.specs.Rows.{Rows as Noted, Fit, Countable};
 
+use csr::{Matrix, Rows};
 use layout::Plan;
 
 // The counts so far.
@@ -69,6 +70,7 @@ impl<const ROWS: usize, const COLUMNS: usize> Notes<ROWS, COLUMNS> {
     {
         let stamp = (i as u32) + 1;
         let mut k = at;
+        // Follows parents: there is nothing to count.
         while k < i {
             if self.mark[k] == stamp {
                 return tally;
@@ -82,11 +84,11 @@ impl<const ROWS: usize, const COLUMNS: usize> Notes<ROWS, COLUMNS> {
     }
 
     // Row i: each of its columns adds to S the rows that have it by now, and a climb from the first of them.
-    fn count_row(&mut self, offsets: &[u32], columns: &[u32], i: usize, mut tally: Tally) -> Tally
-        requires { Fit offsets.now columns.now i ROWS COLUMNS × Rows offsets.now columns.now i self.old.mark self.old.parent self.old.column self.old.seen self.old.first tally.stored tally.shared tally.products }
-        ensures { Rows offsets.now columns.now (i + 1) self.new.mark self.new.parent self.new.column self.new.seen self.new.first result.stored result.shared result.products }
+    fn count_row(&mut self, rows: &Rows<'_>, i: usize, mut tally: Tally) -> Tally
+        requires { Fit rows.now.offsets.now rows.now.columns.now i ROWS COLUMNS × Noted rows.now.offsets.now rows.now.columns.now i self.old.mark self.old.parent self.old.column self.old.seen self.old.first tally.stored tally.shared tally.products }
+        ensures { Noted rows.now.offsets.now rows.now.columns.now (i + 1) self.new.mark self.new.parent self.new.column self.new.seen self.new.first result.stored result.shared result.products }
     {
-        for c in csr::get_row(offsets, columns, i) {
+        for c in rows.row(i) {
             let c = *c as usize;
             tally.shared += bump(&mut self.seen, c);
             let at = adopt(&mut self.first, c, i);
@@ -99,9 +101,9 @@ impl<const ROWS: usize, const COLUMNS: usize> Notes<ROWS, COLUMNS> {
     }
 
     // All m rows.
-    fn count(offsets: &[u32], columns: &[u32], m: usize) -> Tally
-        requires { Countable offsets.now columns.now m ROWS COLUMNS × (ROWS ≤ max_rows) × (COLUMNS ≤ max_columns) }
-        ensures { Counted offsets.now columns.now m result.stored result.shared result.products }
+    fn count(rows: &Rows<'_>, m: usize) -> Tally
+        requires { Countable rows.now.offsets.now rows.now.columns.now m ROWS COLUMNS × (ROWS ≤ max_rows) × (COLUMNS ≤ max_columns) }
+        ensures { Counted rows.now.offsets.now rows.now.columns.now m result.stored result.shared result.products }
     {
         let mut notes = Self {
             mark: [0; ROWS],
@@ -116,36 +118,34 @@ impl<const ROWS: usize, const COLUMNS: usize> Notes<ROWS, COLUMNS> {
             products: 0,
         };
         for i in 0..m {
-            tally = notes.count_row(offsets, columns, i, tally);
+            tally = notes.count_row(rows, i, tally);
         }
         tally
     }
 }
 
 // E, S and D of a matrix that is accepted.
-fn count_accepted(m: usize, n: usize, offsets: &[u32], columns: &[u32]) -> Tally
-    requires { Accepted offsets.now columns.now m n }
-    ensures { Counted offsets.now columns.now m result.stored result.shared result.products }
+fn count_accepted(matrix: &Matrix<'_>) -> Tally
+    ensures { Counted matrix.now.rows.offsets.now matrix.now.rows.columns.now matrix.now.m result.stored result.shared result.products }
 {
-    if m <= Plan::FEW_ROWS && n <= Plan::FEW_COLUMNS {
-        Notes::<{ Plan::FEW_ROWS }, { Plan::FEW_COLUMNS }>::count(offsets, columns, m)
+    if matrix.m <= Plan::FEW_ROWS && matrix.n <= Plan::FEW_COLUMNS {
+        Notes::<{ Plan::FEW_ROWS }, { Plan::FEW_COLUMNS }>::count(&matrix.rows, matrix.m)
     } else {
-        Notes::<{ Plan::MAX_ROWS }, { Plan::MAX_COLUMNS }>::count(offsets, columns, m)
+        Notes::<{ Plan::MAX_ROWS }, { Plan::MAX_COLUMNS }>::count(&matrix.rows, matrix.m)
     }
 }
 
 // The sizes of the plan of a matrix that is accepted: one look at each entry of the matrix, one turn of a climb for each
 // entry of the factor below its diagonal.
-pub fn plan_sizes(m: usize, n: usize, s: usize, offsets: &[u32], columns: &[u32]) -> Plan
-    requires { Accepted offsets.now columns.now m n }
-    ensures { result ≡ plan_of m n s (length columns.now) (count_e offsets.now columns.now m) (count_s offsets.now columns.now m) (count_d offsets.now columns.now m) }
+pub fn plan_sizes(matrix: &Matrix<'_>, s: usize) -> Plan
+    ensures { result ≡ plan_of matrix.now.m matrix.now.n s (length matrix.now.rows.columns.now) (count_e matrix.now.rows.offsets.now matrix.now.rows.columns.now matrix.now.m) (count_s matrix.now.rows.offsets.now matrix.now.rows.columns.now matrix.now.m) (count_d matrix.now.rows.offsets.now matrix.now.rows.columns.now matrix.now.m) }
 {
-    let tally = count_accepted(m, n, offsets, columns);
+    let tally = count_accepted(matrix);
     Plan::new(
-        m,
-        n,
+        matrix.m,
+        matrix.n,
         s,
-        columns.len(),
+        matrix.rows.columns.len(),
         tally.stored,
         tally.shared,
         tally.products,

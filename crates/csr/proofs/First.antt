@@ -1,13 +1,9 @@
 -- The first number below m at which p holds, and a search for it. Assumes nothing.
-use Rattle.std.specs.Prelude.{Option, Some, None}
-use Rattle.std.specs.Option.{option_map}
-use Rattle.std.specs.List.{find, range_with_len}
-use Rattle.std.proofs.lemmas.Iterator.Adapters.{option_map_id}
+use Rattle.std.specs.Prelude.{Some, None}
 use Rattle.std.specs.Bool.{then_some}
 use mathlib.Core.Path.{◌≡◌, refl, sym, ◌∙◌, ap, ap₂}
 use mathlib.Core.Bool.{Bool, true, false, cond, true≢false}
 use Prim.Native.Nat.{ℕ, zero, suc, ◌+◌, ◌≤◌, ◌<◌}
-use native.Mathlib.Numerals.{add-one}
 use native.Mathlib.Omega.{arith}
 use borrow.Author.Tests.{lt-ltb, le-ltb, ltb-false}
 use native.Mathlib.Decide.{dec_lt}
@@ -62,18 +58,22 @@ first_ext p q m h = first_same p q 0 m (λ k a b. h k (omega arith))
 
 -- ---- a search that answers the number, or none
 
-found_from : (p : ℕ → Bool) (i f : ℕ) → find p (range_with_len i f) ≡ below (i + f) (first_from p i f)
+first_at : (p : ℕ → Bool) (i f k : ℕ) → ((j : ℕ) → i ≤ j → j < k → p j ≡ false) → i ≤ k → k < i + f → p k ≡ true → first_from p i f ≡ k
 unfolding first_from
-found_from p i zero = rw (le-ltb i (i + 0) (omega arith)) refl
-found_from p i (suc f) = go (p i) (found_from p (i + 1) f)
-  where
-    go : (t : Bool) → find p (range_with_len (i + 1) f) ≡ below (i + 1 + f) (first_from p (i + 1) f) → cond t (Some i) (find p (range_with_len (i + 1) f)) ≡ below (i + suc f) (cond t i (first_from p (suc i) f))
-    go true ih = rw (lt-ltb i (i + suc f) (omega arith)) refl
-    go false ih = let e : i + 1 + f ≡ i + suc f = omega arith in ih ∙ ap₂ (λ (n k : ℕ). below n (first_from p k f)) e (add-one i)
+first_at p i zero k h l u e = absurd (omega arith)
+first_at p i (suc f) k h l u e =
+    elim (dec_lt i k) [
+      | yes q ↦ rw (h i (omega arith) q) (first_at p (suc i) f k (λ j a b. h j (omega arith) b) (omega arith) (omega arith) e)
+      | no q ↦ let s : i ≡ k = omega arith in rw (ap p s ∙ e) s
+    ]
 
--- the answer of `find` over the numbers below m
-pub found : (p : ℕ → Bool) (m : ℕ) (r : Option ℕ) → option_map (λ x. x) r ≡ find p (range_with_len 0 m) → r ≡ below m (first_from p 0 m)
-found p m r h = let e : 0 + m ≡ m = omega arith in sym (option_map_id r) ∙ h ∙ found_from p 0 m ∙ ap (λ (n : ℕ). below n (first_from p 0 m)) e
+-- p holds at i, and at no number before it: the search answers i
+pub found_some : (p : ℕ → Bool) (m i : ℕ) → i < m → ((j : ℕ) → j < i → p j ≡ false) → p i ≡ true → Some i ≡ below m (first_from p 0 m)
+found_some p m i l h e = rw (first_at p 0 m i (λ j a b. h j b) (omega arith) (omega arith) e, lt-ltb i m l) refl
+
+-- p holds at no number below m: the search answers none
+pub found_none : (p : ℕ → Bool) (m : ℕ) → ((k : ℕ) → k < m → p k ≡ false) → None ≡ below m (first_from p 0 m)
+found_none p m h = rw (first_none p m h) refl
 
 -- the two ways to read an answer
 pub below_some : (m e i : ℕ) → Some i ≡ below m e → (e ≡ i) × (ltb i m ≡ true)

@@ -3,6 +3,6 @@ pub mod Examples
 pub mod First
 pub mod Has
 pub mod Right
-pub mod Rows
+pub mod RowParts
 pub mod Rule
 pub mod Yes

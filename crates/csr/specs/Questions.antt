@@ -3,6 +3,7 @@ use Rattle.std.specs.Prelude.{List, Bool, not, ◌&&◌, ◌||◌, cond, ℕ, ze
 use Rattle.csr.specs.Pattern.{row}
 use Rattle.csr.specs.Verdict.{Verdict, passed, refused, ask}
 
+-- that a row or a column is below these stands in clauses, in three words each: a type for such a number would make each use longer
 abbrev pub max_rows : ℕ
 max_rows = 256
 

@@ -1,14 +1,13 @@
 // The lent matrix: its rows, and questions 1 to 5.
 #![tactic(auto)]
 
-ghost use Rattle.std.specs.Prelude.{◌≡◌, ℕ, ◌+◌, ◌≤◌, ltb, length, get_or};
+ghost use Rattle.std.specs.Prelude.{◌≡◌, ℕ, ◌+◌, ◌≤◌, IfOk, ltb, length, get_or};
 ghost use Rattle.base.specs.Numbers.{Part, below};
+ghost use Rattle.base.proofs.Facts.{facts};
 ghost use Rattle.csr.specs.Pattern.{row};
-ghost use Rattle.csr.specs.Csr.{Offsets};
+ghost use Rattle.csr.specs.Csr.{Offsets, Accepted};
 ghost use Rattle.csr.specs.Verdict.{at, numbered, told_asked};
 ghost use Rattle.csr.specs.Questions.{first_from, bad_row, offsets_right, rows_right, first_no, max_rows};
-
-use base::{span, word_at};
 
 // A no, by its question. A row that is refused is named by its place, a test by its number, and a lane by its own.
 #[derive(Clone, Copy, Debug, PartialEq, Eq)]
@@ -32,6 +31,7 @@ pub enum Refusal {
 }
 
 // A no as document 01 numbers it: the question, its place and its lane, 0 where the question names none.
+// Numbers and not an enum: so C callers and the texts of answers have it.
 #[derive(Clone, Copy, Debug, PartialEq, Eq)]
 pub struct Numbered {
     pub question: u32,
@@ -81,12 +81,31 @@ impl From<Refusal> for Numbered {
     }
 }
 
-// The part of the column list between two offsets.
-pub fn get_row<'a>(offsets: &[u32], columns: &'a [u32], i: usize) -> &'a [u32]
-    requires { Part offsets.now i (length columns.now) }
-    ensures { result.now ≡ row offsets.now columns.now i }
-{
-    span(offsets, columns, i)
+// Lists of rows: row i's columns stand from number i of the offsets to number i + 1.
+#[derive(Clone, Copy)]
+pub struct Rows<'a> {
+    pub offsets: &'a [u32],
+    pub columns: &'a [u32],
+}
+
+impl<'a> Rows<'a> {
+    // The columns of row i.
+    #[tactic(auto, unfolding(crate::specs::Pattern::row))]
+    pub fn row(&self, i: usize) -> &'a [u32]
+        requires { Part self.now.offsets.now i (length self.now.columns.now) }
+        ensures { result.now ≡ row self.now.offsets.now self.now.columns.now i }
+    {
+        base::span(self.offsets, self.columns, i)
+    }
+}
+
+// A matrix that got a yes at questions 1 to 5.
+#[derive(Clone, Copy)]
+pub struct Matrix<'a> {
+    pub m: usize,
+    pub n: usize,
+    pub rows: Rows<'a>,
+    ghost accepted: { Accepted rows.offsets.now rows.columns.now m n } by { Prim.hlevel facts },
 }
 
 // The first row below m with fewer than `least` entries. Where the offsets fall a row has fewer than none.
@@ -94,13 +113,20 @@ fn first_short(offsets: &[u32], least: usize, m: usize) -> Option<usize>
     requires { (length offsets.now ≡ m + 1) × (least ≤ 1) }
     ensures { result ≡ below m (first_from (λ (k : ℕ). ltb (get_or offsets.now (k + 1) 0) (get_or offsets.now k 0 + least)) 0 m) }
 {
-    (0..m).find(|i| word_at(offsets, *i + 1) < word_at(offsets, *i) + least)
+    // A loop: `find` over the rows took 1.05 to 1.08 times as long in `ipm_sizes`.
+    for k in 0..m {
+        if (offsets[k + 1] as usize) < offsets[k] as usize + least {
+            return Some(k);
+        }
+    }
+    None
 }
 
 // Whether a row's columns fail to rise strictly or to stay below n.
 fn is_bad(row: &[u32], n: usize) -> bool
     ensures { result ≡ bad_row n row.now }
 {
+    // A loop: `any` and `windows` look at each row twice, 2.98 microseconds for 2.41 in `ipm_sizes` of 256 short rows.
     for (k, x) in row.iter().enumerate() {
         if *x as usize >= n {
             return true;
@@ -113,11 +139,16 @@ fn is_bad(row: &[u32], n: usize) -> bool
 }
 
 // The first row below m that is bad.
-fn first_bad(offsets: &[u32], columns: &[u32], m: usize, n: usize) -> Option<usize>
-    requires { Offsets m offsets.now (length columns.now) }
-    ensures { result ≡ below m (first_from (λ (i : ℕ). bad_row n (row offsets.now columns.now i)) 0 m) }
+fn first_bad(rows: &Rows<'_>, m: usize, n: usize) -> Option<usize>
+    requires { Offsets m rows.now.offsets.now (length rows.now.columns.now) }
+    ensures { result ≡ below m (first_from (λ (i : ℕ). bad_row n (row rows.now.offsets.now rows.now.columns.now i)) 0 m) }
 {
-    (0..m).find(|i| is_bad(get_row(offsets, columns, *i), n))
+    for i in 0..m {
+        if is_bad(rows.row(i), n) {
+            return Some(i);
+        }
+    }
+    None
 }
 
 // Question 3, of t columns and so many values.
@@ -142,14 +173,9 @@ pub fn rows_right(m: usize) -> bool
 }
 
 // Questions 1 to 5, in order, over any numbers and lists.
-pub fn ask(
-    m: usize,
-    n: usize,
-    offsets: &[u32],
-    columns: &[u32],
-    values: usize,
-) -> Result<(), Refusal>
-    ensures { told_asked result ≡ first_no m n offsets.now columns.now values }
+pub fn ask<'a>(m: usize, n: usize, rows: &Rows<'a>, values: usize) -> Result<Matrix<'a>, Refusal>
+    ensures verdict { told_asked result ≡ first_no m n rows.now.offsets.now rows.now.columns.now values }
+    ensures matrix { IfOk result (λ M. (M.m ≡ m) × (M.n ≡ n) × (M.rows ≡ rows.now)) }
 {
     if !rows_right(m) {
         return Err(Refusal::Rows);
@@ -157,14 +183,14 @@ pub fn ask(
     if !(1..=layout::Plan::MAX_COLUMNS).contains(&n) {
         return Err(Refusal::Columns);
     }
-    if !offsets_right(offsets, columns.len(), values, m) {
+    if !offsets_right(rows.offsets, rows.columns.len(), values, m) {
         return Err(Refusal::Offsets);
     }
-    if let Some(row) = first_short(offsets, 1, m) {
+    if let Some(row) = first_short(rows.offsets, 1, m) {
         return Err(Refusal::EmptyRow(row));
     }
-    if let Some(row) = first_bad(offsets, columns, m, n) {
+    if let Some(row) = first_bad(rows, m, n) {
         return Err(Refusal::ColumnOrder(row));
     }
-    Ok(())
+    Ok(Matrix { m, n, rows: *rows })
 }

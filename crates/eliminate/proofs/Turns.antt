@@ -17,7 +17,7 @@ use Rattle.base.proofs.Numbers.{cut_length, cut_at}
 use Rattle.sparse.specs.Sparse.{less_each, back_at, back, Names}
 use Rattle.layout.specs.declared.Plan.{Plan}
 use Rattle.layout.specs.Layout.{dy_at, l_in}
-use Rattle.layout.specs.Lists.{lindptr_at, ldiag_indptr_at, ltindices_at, ltmap_at, lindptr_in, ltindptr_in, ltindices_in, ltmap_in}
+use Rattle.layout.specs.Lists.{ltindptr_in, ltindices_in, ltmap_in}
 use Rattle.eliminate.specs.Elimination.{BackIn}
 
 -- ---- backward
@@ -103,26 +103,14 @@ factor_apart p = after (omega arith)
 pub back_still : {width : ℕ} {p : Plan} {index : List ℕ} {old new : List Float} → BackIn width p index old → room width new ≡ room width old → BackIn width p index new
 back_still B k = record { columns = B.columns; ends = B.ends; indexed = B.indexed; fits = omega (arith, B.fits, k); wide = B.wide }
 
--- column i of the factor stands in the lists, and so does the end of row i
+-- column i of the factor stands in the lists
 pub record Column (p : Plan) (index : List ℕ) (i : ℕ) : Type 0 where
-  pub order : get_or (ltindptr_in p index) i 0 + 1 ≤ get_or (ltindptr_in p index) (i + 1) 0
   pub rows : get_or (ltindptr_in p index) (i + 1) 0 ≤ length (ltindices_in p index)
   pub places : get_or (ltindptr_in p index) (i + 1) 0 ≤ length (ltmap_in p index)
-  pub few : get_or (ltindptr_in p index) (i + 1) 0 ≤ p.stored
-  pub row : i + 1 < length (lindptr_in p index)
 
 module _ {width : ℕ} {p : Plan} {index : List ℕ} {work : List Float} (B : BackIn width p index work) {i : ℕ} (h : i < p.m) where
   pub column : Column p index i
-  column =
-      let a = B.columns.rises i h in
-      let e = B.columns.ends i h in
-      record {
-        order = omega arith;
-        rows = e;
-        places = omega (arith, B.columns.sizes);
-        few = omega (arith, cut_length (ltindices_at p) (ltmap_at p) index (omega (arith, B.indexed.room)));
-        row = omega (arith, cut_length (lindptr_at p) (ldiag_indptr_at p) index (omega (arith, B.indexed.room)));
-      }
+  column = let e = B.columns.ends i h in record { rows = e; places = omega (arith, B.columns.sizes) }
 
   abbrev from : ℕ
   from = get_or (ltindptr_in p index) i 0 + 1

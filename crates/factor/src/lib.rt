@@ -4,11 +4,10 @@
 ghost use Rattle.std.specs.Prelude.{List, ℕ};
 ghost use Rattle.factor.specs.Row.{RowDue, SomeDue, RowDone};
 
-use base::word_at;
 use entries::{get, put};
 use factor_entry::{less_products, normal_sum, over_diagonal, root_of, start_of};
 use lanes::{div4, splat};
-use layout::Plan;
+use layout::Lists;
 use sparse::less_in;
 
 // Row i of the factor, columns rising, where the rows before it stand; and entry i of the forward substitution of the right-hand side, where the entries before it stand in the solution's region. The diagonal's sum and the entry's go along with the row.
@@ -16,26 +15,25 @@ pub fn normal_matrix_cholesky_row(
     work: &mut [f64],
     width: usize,
     values: &[f64],
-    index: &[u32],
-    plan: Plan,
+    lists: &Lists<'_>,
     i: usize,
 ) -> [f64; 4]
-    requires { SomeDue width values.now plan index.now work.old i }
-    ensures { (off cols : List ℕ) → RowDue width off cols values.now plan index.now work.old i → RowDone width off cols values.now plan index.now i work.old work.new result }
+    requires { SomeDue width values.now lists.now.plan lists.now.index.now work.old i }
+    ensures { (off cols : List ℕ) → RowDue width off cols values.now lists.now.plan lists.now.index.now work.old i → RowDone width off cols values.now lists.now.plan lists.now.index.now i work.old work.new result }
 {
-    let mem = plan.regions();
-    let ends = plan.lindptr(index);
-    let columns = plan.lindices(index);
-    let g = word_at(ends, i + 1) - 1;
+    let mem = lists.plan.regions();
+    let ends = lists.lindptr;
+    let columns = lists.lindices;
+    let g = ends[i + 1] as usize - 1;
     let first = start_of(work, width, mem.y, mem.w, mem.s, i);
-    let mut diag = normal_sum(work, width, values, index, plan, mem, g, first);
+    let mut diag = normal_sum(work, width, values, lists, mem, g, first);
     let mut side = get(work, mem.rhs + i, width);
-    for e in word_at(ends, i)..g {
-        let j = word_at(columns, e);
+    for e in ends[i] as usize..g {
+        let j = columns[e] as usize;
         let start = splat(0.0);
-        let sum = normal_sum(work, width, values, index, plan, mem, e, start);
-        let reduced = less_products(work, width, index, plan, mem.l, e, sum);
-        let v = over_diagonal(work, width, index, plan, mem.l, j, reduced);
+        let sum = normal_sum(work, width, values, lists, mem, e, start);
+        let reduced = less_products(work, width, lists, mem.l, e, sum);
+        let v = over_diagonal(work, width, lists, mem.l, j, reduced);
         put(work, mem.l + e, width, v);
         let u = get(work, mem.dy + j, width);
         let p = less_in(diag, v, v);

@@ -8,10 +8,9 @@ ghost use Rattle.lanes.specs.Arithmetic.{◌⊕◌, ◌⊗◌, ◌⊘◌, √, m
 ghost use Rattle.layout.specs.Lists.{ldiag_indptr_in};
 ghost use Rattle.plan_laws.specs.Factoring.{NormalAt, NormalSum, ProductAt, ProductSum, DiagonalAt};
 
-use base::word_at;
 use entries::get;
 use lanes::{above_zero, abs4, add4, div4, mul4, root4, splat};
-use layout::{Plan, Regions};
+use layout::{Lists, Regions};
 use sparse::less_in;
 
 // One shared column's part of the normal matrix: two stored values, x and z.
@@ -27,26 +26,26 @@ pub fn normal_sum(
     work: &[f64],
     width: usize,
     values: &[f64],
-    index: &[u32],
-    plan: Plan,
+    lists: &Lists<'_>,
     mem: Regions,
     e: usize,
     start: [f64; 4],
 ) -> [f64; 4]
-    requires { NormalAt width values.now plan index.now work.now mem.x mem.z e }
-    ensures { NormalSum width values.now plan index.now work.now mem.x mem.z e start result }
+    requires { NormalAt width values.now lists.now.plan lists.now.index.now work.now mem.x mem.z e }
+    ensures { NormalSum width values.now lists.now.plan lists.now.index.now work.now mem.x mem.z e start result }
 {
-    let ends = plan.anorm_indptr(index);
-    let left = plan.anorm_indptr_i(index);
-    let right = plan.anorm_indptr_j(index);
-    let columns = plan.anorm_indices(index);
+    let ends = lists.anorm_indptr;
+    let left = lists.anorm_indptr_i;
+    let right = lists.anorm_indptr_j;
+    let columns = lists.anorm_indices;
     let mut acc = start;
-    for p in word_at(ends, e)..word_at(ends, e + 1) {
-        let i = word_at(left, p);
-        let j = word_at(right, p);
-        let c = word_at(columns, p);
+    for p in ends[e] as usize..ends[e + 1] as usize {
+        let i = left[p] as usize;
+        let j = right[p] as usize;
+        let c = columns[p] as usize;
         let x = get(work, mem.x + c, width);
         let z = get(work, mem.z + c, width);
+        // Through a name of its own, here and below: the check covers no array that a call lays straight into `acc`.
         let t = normal_in(acc, values[i], values[j], x, z);
         acc = t;
     }
@@ -58,22 +57,21 @@ pub fn normal_sum(
 pub fn less_products(
     work: &[f64],
     width: usize,
-    index: &[u32],
-    plan: Plan,
+    lists: &Lists<'_>,
     lo: usize,
     e: usize,
     start: [f64; 4],
 ) -> [f64; 4]
-    requires { ProductAt width plan index.now work.now lo e }
-    ensures { ProductSum width plan index.now work.now lo e start result }
+    requires { ProductAt width lists.now.plan lists.now.index.now work.now lo e }
+    ensures { ProductSum width lists.now.plan lists.now.index.now work.now lo e start result }
 {
-    let ends = plan.ldecomp_indptr(index);
-    let left = plan.ldecomp_indptr_i(index);
-    let right = plan.ldecomp_indptr_j(index);
+    let ends = lists.ldecomp_indptr;
+    let left = lists.ldecomp_indptr_i;
+    let right = lists.ldecomp_indptr_j;
     let mut acc = start;
-    for p in word_at(ends, e)..word_at(ends, e + 1) {
-        let i = word_at(left, p);
-        let j = word_at(right, p);
+    for p in ends[e] as usize..ends[e + 1] as usize {
+        let i = left[p] as usize;
+        let j = right[p] as usize;
         let a = get(work, lo + i, width);
         let b = get(work, lo + j, width);
         let t = less_in(acc, a, b);
@@ -112,16 +110,15 @@ pub fn root_of(v: [f64; 4]) -> [f64; 4]
 pub fn over_diagonal(
     work: &[f64],
     width: usize,
-    index: &[u32],
-    plan: Plan,
+    lists: &Lists<'_>,
     lo: usize,
     j: usize,
     v: [f64; 4],
 ) -> [f64; 4]
-    requires { DiagonalAt width plan index.now work.now lo j }
-    ensures { On width result (λ l. lane v l ⊘ here width work.now (lo + get_or (ldiag_indptr_in plan index.now) j 0) l) }
+    requires { DiagonalAt width lists.now.plan lists.now.index.now work.now lo j }
+    ensures { On width result (λ l. lane v l ⊘ here width work.now (lo + get_or (ldiag_indptr_in lists.now.plan lists.now.index.now) j 0) l) }
 {
-    let d = word_at(plan.ldiag_indptr(index), j);
+    let d = lists.ldiag_indptr[j] as usize;
     let b = get(work, lo + d, width);
     div4(v, b)
 }

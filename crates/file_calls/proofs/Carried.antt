@@ -15,26 +15,31 @@ use Rattle.csr.specs.Counts.{count_e, count_s, count_d, size_w}
 use Rattle.csr.specs.Verdict.{Verdict, Told, passed, told, written, refused, ask, and_then}
 use Rattle.csr.specs.Pattern.{row}
 use Rattle.csr.specs.Questions.{max_columns, first_from, empty, bad_row, offsets_right, rows_right, first_no}
-use Rattle.csr.proofs.Yes.{accepted_of, asked}
+use Rattle.csr.proofs.Yes.{accepted_of}
 use Rattle.layout.specs.declared.Plan.{Plan}
 use Rattle.layout.specs.Layout.{plan_of}
-use Rattle.layout.specs.Lists.{sizes_of}
+use Rattle.layout.specs.Lists.{sizes_of, words_at}
+use Rattle.counts.proofs.Plans.{words_are}
 use Rattle.lists.specs.Lists.{plan_words}
 use Rattle.lists.proofs.Sizes.{plan_size}
 use Rattle.lists.proofs.Whole.{as_written}
 use Rattle.ipm_common.specs.Plan.{room_verdict, plan_verdict, plan_index}
 use Rattle.plan_file.specs.Matrix.{matrix_lists}
 use Rattle.plan_file.specs.Tables.{wide}
-use Rattle.plan_file.specs.Verdicts.{file_verdict, whole_file, lists_in}
+use Rattle.plan_file.specs.Verdicts.{file_verdict, lists_in}
 use Rattle.plan_file.specs.Promises.{plan_file}
 use Rattle.plan_file.proofs.Bounds.{sixteen_long}
-use Rattle.plan_file.proofs.Files.{one_by_one}
 use Rattle.plan_file.proofs.Plans.{joined_plan, sizes_are, file_bytes_lem, files}
 use Rattle.file_write.specs.Writable.{Writable}
 use Rattle.file_questions.proofs.Three.{then_passed}
 use Rattle.file_calls.specs.Calls.{file_bytes, rooms_verdict, write_verdict, words_after, bytes_after, read_verdict, Carried}
 
 module _ (m n : ℕ) (off cols : List ℕ) where
+  -- the words of the plan, as they are counted
+  pub counted : {s k : ℕ} {p : Plan} → p ≡ plan_of m n s (length cols) (count_e off cols m) (count_s off cols m) (count_d off cols m) → k ≡ words_at p
+      → k ≡ size_w off cols m n
+  counted {s} e q = q ∙ ap words_at e ∙ words_are off cols m n s
+
   -- ---- questions 6 and 8 of write_plan
 
   pub no_words : (words bytes : ℕ) → words < size_w off cols m n → refused 6 0 0 ≡ rooms_verdict m n off cols words bytes
@@ -71,10 +76,7 @@ module _ (m n : ℕ) (off cols : List ℕ) where
         (as_written old new (plan_file off cols m n) r (omega (arith, file_bytes_lem off cols m n ok)) w).0
         ∙ ap (λ (k : ℕ). plan_file off cols m n ++ drop k old) (file_bytes_lem off cols m n ok)
 
-    -- a file with a yes at 14 to 16 is whole, and its words are the plan's
-    pub file_whole : (file : List ℕ) → file_verdict wide (matrix_lists off cols m n) file ≡ passed → whole_file wide file ≡ true
-    file_whole file e = (asked (whole_file wide file) _ 14 0 0 (sym (one_by_one wide (matrix_lists off cols m n) file) ∙ e)).0
-
+    -- the words of a file with a yes at 14 to 16 are the plan's
     pub file_words : (file : List ℕ) → file_verdict wide (matrix_lists off cols m n) file ≡ passed → join (lists_in wide file) ≡ plan_words off cols m n
     file_words file e = ap join ((files off cols m n ok).gives file e) ∙ (files off cols m n ok).planned
 
@@ -85,14 +87,6 @@ module _ (m n : ℕ) (off cols : List ℕ) where
         let size = plan_size off cols m n ok in
         (as_written old new (plan_words off cols m n) r (omega (arith, size)) (same_text (file_words file e) w)).0
         ∙ ap (λ (k : ℕ). plan_words off cols m n ++ drop k old) size
-
-    -- a yes: the answer and both lists
-    pub written_so : (index file : List ℕ) {index1 file1 : List ℕ} {r : ℕ} → size_w off cols m n ≤ length index → file_bytes m n off cols ≤ length file
-        → index1 ≡ plan_words off cols m n ++ drop (size_w off cols m n) index → Wrote file file1 0 (plan_file off cols m n) r
-        → (told (written (file_bytes m n off cols)) ≡ rooms_verdict m n off cols (length index) (length file))
-        × (index1 ≡ words_after m n off cols (told (written (file_bytes m n off cols))) index)
-        × (file1 ≡ bytes_after m n off cols (told (written (file_bytes m n off cols))) file)
-    written_so index file {index1} {file1} {r} words bytes p w = (all_room (length index) (length file) words bytes, p, file_after file file1 r bytes w)
 
   -- ---- after questions 1 to 5
 

@@ -2,7 +2,6 @@
 #![tactic(auto)]
 
 ghost use Rattle.std.specs.Prelude.{◌≡◌, length};
-ghost use Rattle.csr.specs.Csr.{Accepted};
 ghost use Rattle.csr.specs.Verdict.{passed};
 ghost use Rattle.ipm_common.specs.Plan.{told_plan, Answered};
 ghost use Rattle.plan_file.specs.Matrix.{matrix_lists};
@@ -10,23 +9,16 @@ ghost use Rattle.plan_file.specs.Tables.{wide};
 ghost use Rattle.plan_file.specs.Verdicts.{file_verdict};
 ghost use Rattle.file_calls.specs.Calls.{told_write, rooms_verdict, write_verdict, words_after, bytes_after, read_verdict};
 
-use csr::Refusal;
+use csr::{Matrix, Refusal, Rows};
+use file_questions::Asked;
 
-// Questions 6 and 8 of a matrix that is accepted, and the plan with its file. All sizes are known before a word is written.
-fn write_accepted(
-    m: usize,
-    n: usize,
-    offsets: &[u32],
-    columns: &[u32],
-    index: &mut [u32],
-    file: &mut [u8],
-) -> Result<usize, Refusal>
-    requires { Accepted offsets.now columns.now m n }
-    ensures answer { told_write result ≡ rooms_verdict m n offsets.now columns.now (length index.old) (length file.old) }
-    ensures words { index.new ≡ words_after m n offsets.now columns.now (told_write result) index.old }
-    ensures bytes { file.new ≡ bytes_after m n offsets.now columns.now (told_write result) file.old }
+// Questions 6 and 8 of a matrix, and the plan with its file. All sizes are known before a word is written.
+fn write_accepted(matrix: &Matrix<'_>, index: &mut [u32], file: &mut [u8]) -> Result<usize, Refusal>
+    ensures answer { told_write result ≡ rooms_verdict matrix.now.m matrix.now.n matrix.now.rows.offsets.now matrix.now.rows.columns.now (length index.old) (length file.old) }
+    ensures words { index.new ≡ words_after matrix.now.m matrix.now.n matrix.now.rows.offsets.now matrix.now.rows.columns.now (told_write result) index.old }
+    ensures bytes { file.new ≡ bytes_after matrix.now.m matrix.now.n matrix.now.rows.offsets.now matrix.now.rows.columns.now (told_write result) file.old }
 {
-    let plan = counts::plan_sizes(m, n, 0, offsets, columns);
+    let plan = counts::plan_sizes(matrix, 0);
     let words = plan.words();
     if index.len() < words {
         return Err(Refusal::IndexMemory);
@@ -36,7 +28,7 @@ fn write_accepted(
         return Err(Refusal::Lengths);
     }
     // The plan has room: question 6 got a yes above.
-    ipm_common::plan_accepted(m, n, offsets, columns, index)?;
+    ipm_common::plan_accepted(matrix, index)?;
     file_write::put_file(file, index, plan);
     Ok(bytes)
 }
@@ -45,37 +37,28 @@ fn write_accepted(
 pub fn write_plan(
     m: usize,
     n: usize,
-    offsets: &[u32],
-    columns: &[u32],
+    rows: &Rows<'_>,
     index: &mut [u32],
     file: &mut [u8],
 ) -> Result<usize, Refusal>
-    ensures answer { told_write result ≡ write_verdict m n offsets.now columns.now (length index.old) (length file.old) }
-    ensures words { index.new ≡ words_after m n offsets.now columns.now (write_verdict m n offsets.now columns.now (length index.old) (length file.old)) index.old }
-    ensures bytes { file.new ≡ bytes_after m n offsets.now columns.now (write_verdict m n offsets.now columns.now (length index.old) (length file.old)) file.old }
+    ensures answer { told_write result ≡ write_verdict m n rows.now.offsets.now rows.now.columns.now (length index.old) (length file.old) }
+    ensures words { index.new ≡ words_after m n rows.now.offsets.now rows.now.columns.now (write_verdict m n rows.now.offsets.now rows.now.columns.now (length index.old) (length file.old)) index.old }
+    ensures bytes { file.new ≡ bytes_after m n rows.now.offsets.now rows.now.columns.now (write_verdict m n rows.now.offsets.now rows.now.columns.now (length index.old) (length file.old)) file.old }
 {
-    csr::ask(m, n, offsets, columns, columns.len())?;
-    write_accepted(m, n, offsets, columns, index, file)
+    let matrix = csr::ask(m, n, rows, rows.columns.len())?;
+    write_accepted(&matrix, index, file)
 }
 
-// Question 6 of a matrix that is accepted and of a file that is its plan's, and the file's lists in the index memory.
-fn read_accepted(
-    m: usize,
-    n: usize,
-    offsets: &[u32],
-    columns: &[u32],
-    file: &[u8],
-    index: &mut [u32],
-) -> Result<usize, Refusal>
-    requires { Accepted offsets.now columns.now m n × (file_verdict wide (matrix_lists offsets.now columns.now m n) file.now ≡ passed) }
-    ensures { Answered m n offsets.now columns.now index.old index.new (told_plan result) }
+// Question 6 of what is known of a matrix and a file that is its plan's, and the file's lists in the index memory.
+fn read_accepted(asked: &Asked<'_>, index: &mut [u32]) -> Result<usize, Refusal>
+    requires { file_verdict wide (matrix_lists asked.now.matrix.rows.offsets.now asked.now.matrix.rows.columns.now asked.now.matrix.m asked.now.matrix.n) asked.now.file.bytes.now ≡ passed }
+    ensures { Answered asked.now.matrix.m asked.now.matrix.n asked.now.matrix.rows.offsets.now asked.now.matrix.rows.columns.now index.old index.new (told_plan result) }
 {
-    let plan = counts::plan_sizes(m, n, 0, offsets, columns);
-    let count = plan.words();
+    let count = asked.plan.words();
     if index.len() < count {
         return Err(Refusal::IndexMemory);
     }
-    file_copy::copy_plan(file, index);
+    file_copy::copy_plan(asked.file, index);
     Ok(count)
 }
 
@@ -83,15 +66,14 @@ fn read_accepted(
 pub fn read_plan(
     m: usize,
     n: usize,
-    offsets: &[u32],
-    columns: &[u32],
+    rows: &Rows<'_>,
     file: &[u8],
     index: &mut [u32],
 ) -> Result<usize, Refusal>
-    ensures answer { told_plan result ≡ read_verdict m n offsets.now columns.now file.now (length index.old) }
-    ensures words { index.new ≡ words_after m n offsets.now columns.now (read_verdict m n offsets.now columns.now file.now (length index.old)) index.old }
+    ensures answer { told_plan result ≡ read_verdict m n rows.now.offsets.now rows.now.columns.now file.now (length index.old) }
+    ensures words { index.new ≡ words_after m n rows.now.offsets.now rows.now.columns.now (read_verdict m n rows.now.offsets.now rows.now.columns.now file.now (length index.old)) index.old }
 {
-    file_questions::ask(m, n, offsets, columns, columns.len(), file)?;
+    let asked = file_questions::ask(m, n, rows, rows.columns.len(), file)?;
     // The file's lists are the matrix's.
-    read_accepted(m, n, offsets, columns, file, index)
+    read_accepted(&asked, index)
 }

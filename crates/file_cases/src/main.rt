@@ -9,10 +9,11 @@
 ghost use Rattle.std.specs.Prelude.{◌*◌, ◌<◌, ◌≤◌, length, IfSome};
 
 use cases::{Ran, WORD_BYTES, begins_with, decode, run_all};
-use csr::{Numbered, Refusal};
+use csr::{Numbered, Refusal, Rows};
 use std::{fs, io};
 
 // The numbers before a case's lists, and where each stands.
+// Numbers: so a case has them in the file.
 const HEAD: usize = 12;
 
 const WRITES: usize = 0;
@@ -91,13 +92,19 @@ impl Case<'_> {
         }
     }
 
+    fn rows(&self) -> Rows<'_> {
+        Rows {
+            offsets: self.offsets,
+            columns: self.columns,
+        }
+    }
+
     fn is_read_right(&self) -> bool {
         let mut index = [OLD_WORD; MOST_WORDS];
         let answer = file_calls::read_plan(
             self.head[ROWS] as usize,
             self.head[COLUMNS] as usize,
-            self.offsets,
-            self.columns,
+            &self.rows(),
             self.bytes,
             lent(&mut index, self.head[INDEX_LEN]),
         );
@@ -110,8 +117,7 @@ impl Case<'_> {
         let answer = file_calls::write_plan(
             self.head[ROWS] as usize,
             self.head[COLUMNS] as usize,
-            self.offsets,
-            self.columns,
+            &self.rows(),
             lent(&mut index, self.head[INDEX_LEN]),
             lent(&mut file, self.head[LENT_BYTES]),
         );

@@ -2,7 +2,7 @@
 use mathlib.Core.Path.{◌≡◌, refl, sym, ap, ap₂, ◌∙◌, subst}
 use mathlib.Core.Bool.{Bool, true, false, cond, false≢true}
 use mathlib.Core.List.{List, [], ◌++◌, append_assoc, append-nil}
-use Prim.Native.Nat.{ℕ, zero, suc, ◌+◌, ◌-◌, ◌*◌, ◌/◌, ◌<◌, ◌≤◌}
+use Prim.Native.Nat.{ℕ, zero, suc, ◌+◌, ◌*◌, ◌/◌, ◌<◌, ◌≤◌}
 use native.Mathlib.Omega.{arith}
 use native.Mathlib.Numerals.{add-one}
 use lib.Dec.{leb}
@@ -12,6 +12,7 @@ use Rattle.std.specs.Int.{w32, from_le_bytes}
 use Rattle.std.specs.Simd.{first_chunks}
 use Rattle.record.specs.Little.{le2, le4}
 use Rattle.base.specs.Cat.{join, Wrote}
+use Rattle.base.specs.Numbers.{cut}
 use Rattle.base.proofs.Write.{then_written, same_text}
 use Rattle.plan_file.specs.Records.{Entry, kind_at, body_at, rest_at, first_at, starts_whole, Cut, short, whole, also, records_of}
 use Rattle.plan_file.specs.declared.Meaning.{Meaning}
@@ -113,32 +114,32 @@ module _ (t : Table) where
         (sym (append-nil w.front) ∙ sym (ap (λ (l : List (List ℕ)). w.front ++ join l) (ap (lists_in t) (drop_of_length-le file {i = at} h) ∙ lists_none)) ∙ sym w.both)
         w.wrote
 
-    module _ (new : List ℕ) (at to : ℕ) (w : Copying file old new at to) (more : at < length file) (size : ℕ) (is : size ≡ le4 file at)
-        (kind : ℕ) (has : kind ≡ le2 file (at + 4)) (m : Meaning) (means : m ≡ t kind) where
-      abbrev body_cut : List ℕ
-      body_cut = take (at + 4 + size - (at + 6)) (drop (at + 6) file)
+    module _ (new : List ℕ) (at to : ℕ) (w : Copying file old new at to) (more : at < length file) where
+      -- the next record's words
+      abbrev words_there : List ℕ
+      words_there = given_words (t (le2 file (at + 4))) (cut (at + 6) (at + 4 + le4 file at) file)
 
-      -- the next record's words come next
-      next_words : join (lists_in t file) ≡ (w.front ++ given_words m body_cut) ++ join (lists_in t (drop (at + 4 + size) file))
+      -- they come next
+      next_words : join (lists_in t file) ≡ (w.front ++ words_there) ++ join (lists_in t (drop (at + 4 + le4 file at) file))
       next_words =
           w.both
           ∙ ap (λ (l : List ℕ). w.front ++ l)
           (ap join (lists_first (drop at file) (some_left t file at w.good more) (both_parts t file at w.good more).0 (both_parts t file at w.good more).1)
           ∙ join_given (t (kind_at (drop at file))) (body_at (drop at file)) (lists_in t (rest_at (drop at file)))
           ∙ ap₂ (λ (x y : List ℕ). x ++ join (lists_in t y))
-          (ap₂ given_words (sym (meant t file at w.good more kind has m means)) (sym (body_there t file at w.good more size is)))
-          (rest_there t file at w.good more size is))
-          ∙ sym (append_assoc w.front (given_words m body_cut) (join (lists_in t (drop (at + 4 + size) file))))
+          (ap₂ given_words (sym (meant t file at w.good more (le2 file (at + 4)) refl (t (le2 file (at + 4))) refl)) (sym (body_there t file at w.good more (le4 file at) refl)))
+          (rest_there t file at w.good more (le4 file at) refl))
+          ∙ sym (append_assoc w.front words_there (join (lists_in t (drop (at + 4 + le4 file at) file))))
 
-      pub next_fits : (n : ℕ) → length (join (lists_in t file)) ≤ n → to + length (given_words m body_cut) ≤ n
+      pub next_fits : (n : ℕ) → length (join (lists_in t file)) ≤ n → to + length words_there ≤ n
       next_fits n h =
-          omega (arith, ap length next_words, length-append (w.front ++ given_words m body_cut) (join (lists_in t (drop (at + 4 + size) file))), length-append w.front (given_words m body_cut), w.wrote.next, h)
+          omega (arith, ap length next_words, length-append (w.front ++ words_there) (join (lists_in t (drop (at + 4 + le4 file at) file))), length-append w.front words_there, w.wrote.next, h)
 
-      pub copying_on : (next : List ℕ) (r : ℕ) → Wrote new next to (given_words m body_cut) r → Copying file old next (at + 4 + size) r
+      pub copying_on : (next : List ℕ) (r : ℕ) → Wrote new next to words_there r → Copying file old next (at + 4 + le4 file at) r
       copying_on next r p = record {
-        within = within_there t file at w.good more size is;
-        good = good_there t file at w.good more size is;
-        front = w.front ++ given_words m body_cut;
+        within = within_there t file at w.good more (le4 file at) refl;
+        good = good_there t file at w.good more (le4 file at) refl;
+        front = w.front ++ words_there;
         both = next_words;
         wrote = then_written w.wrote p;
       }

@@ -20,8 +20,6 @@ use Rattle.pair_lists.proofs.Through.{over, over_snoc, over_kept, part_kept, ent
 use Rattle.pair_lists.proofs.Turns.{Turned, turned_from, turn_count, turn_room, turn_few, turn_next, turned_end, one_more, empty}
 use Rattle.file_numbers.specs.Agree.{agree}
 use Rattle.file_numbers.proofs.Agrees.{agree_none, agree_more, agree_not}
-use Rattle.file_lists.specs.Sizes.{Stands}
-use Rattle.std.specs.Prelude.{Some}
 
 -- in row i, after q of its stored pairs: the writer's turn with a memory that nobody has, and what was compared
 pub record Met (off cols p : List ℕ) (w : Which) (i : ℕ) (s : List ℕ) (start at n₀ n q : ℕ) : Type 0 where
@@ -58,13 +56,13 @@ module _ (off cols : List ℕ) (m : ℕ) (p : List ℕ) (ready : Ready off cols 
       pub met_few : i < 256 → t - get_or lindptr i 0 ≤ 256
       met_few q = turn_few off cols m p ready lindptr lindices v w i hi t j lo up e [] u.none start at n₀ n u.turned q
 
-      pub met_next : (x r : ℕ) → x ≡ weight (shape off cols) w i j → x ≤ 16384 → Stands s at (f j) (Some r) → Met off cols p w i s start r n₀ (n + x) (t + 1 - get_or lindptr i 0)
-      met_next x r q z h = record {
+      pub met_next : (x r : ℕ) → x ≡ weight (shape off cols) w i j → x ≤ 16384 → r ≡ at + length (f j) → agree s at (f j) ≡ true → Met off cols p w i s start r n₀ (n + x) (t + 1 - get_or lindptr i 0)
+      met_next x r q z h d = record {
         none = sets u.none at (f j);
-        turned = turn_next off cols m p ready lindptr lindices v w i hi t j lo up e [] u.none start at n₀ n u.turned (sets u.none at (f j)) x r q z (record { is = refl; next = h.0 });
+        turned = turn_next off cols m p ready lindptr lindices v w i hi t j lo up e [] u.none start at n₀ n u.turned (sets u.none at (f j)) x r q z (record { is = refl; next = h });
         says =
             ap (agree s start) (ap (λ (y : List ℕ). over y f) (one_more off cols m p ready lindptr lindices v w i hi t j lo up e) ∙ over_snoc (take (t - get_or lindptr i 0) l) j f)
-            ∙ agree_more s start at (over (take (t - get_or lindptr i 0) l) f) (f j) u.turned.wrote.next u.says h.1;
+            ∙ agree_more s start at (over (take (t - get_or lindptr i 0) l) f) (f j) u.turned.wrote.next u.says d;
       }
 
       pub met_not : agree s at (f j) ≡ false → agree s start (cat (i + 1) f) ≡ false

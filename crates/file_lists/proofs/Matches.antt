@@ -13,7 +13,7 @@ use Rattle.base.proofs.Write.{cat_room}
 use Rattle.csr.specs.Csr.{RowOf}
 use Rattle.csr.specs.Pattern.{has, row}
 use Rattle.csr.proofs.Has.{has_at}
-use Rattle.csr.proofs.Rows.{row_of, row_long, in_row_lem, entry_at, entry_below}
+use Rattle.csr.proofs.RowParts.{row_of, row_long, in_row_lem, entry_at, entry_below}
 use Rattle.lists.specs.Lists.{shape, holds, entry, column, by_what}
 use Rattle.lists.specs.declared.What.{What}
 use Rattle.lists.specs.declared.Side.TheVariants.{Matrix}

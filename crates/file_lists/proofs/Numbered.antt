@@ -13,9 +13,8 @@ use Rattle.lists.proofs.Few.{few_stored, few_shared, few_products}
 use Rattle.layout.specs.declared.Plan.{Plan}
 use Rattle.layout.specs.Layout.{top_word}
 use Rattle.layout.specs.Lists.{sizes_of, words_at}
-use Rattle.transpose.specs.Bins.{Grid, Room, cols_of}
-use Rattle.transpose.proofs.Grids.{accepted_grid}
-use Rattle.pair_lists.proofs.Lists.{rows_grid}
+use Rattle.transpose.specs.Bins.{Room, cols_of}
+use Rattle.transpose.specs.declared.SparseRows.{SparseRows}
 use Rattle.lists.specs.declared.Side.{Side}
 use Rattle.transpose.proofs.Count.{cols_are}
 use Rattle.pair_lists.specs.Kept.{Rows}
@@ -47,25 +46,22 @@ factor_side : (off cols : List ℕ) (m n : ℕ) (p : List ℕ) → Ready off col
 factor_side off cols m n p ready lindptr lindices v Ends = ends_same off cols m p ready lindptr lindices v
 factor_side off cols m n p ready lindptr lindices v (Entries w) = cols_are lindptr lindices m m w ∙ columns_same off cols m p ready lindptr lindices v w
 
--- a side's offsets e and its width k
-pub record Sided (off cols : List ℕ) (m n : ℕ) (lindptr lindices : List ℕ) (side : Side) (part : Part) (e : List ℕ) (k : ℕ) : Type 0 where
-  pub grid : Grid e (cols_of side cols lindices) m k
-  pub fits : (s : List ℕ) → Room m n s → k < length s
-  pub list : side_list e (cols_of side cols lindices) m k part ≡ of_kind (shape off cols) m n (Columns side part)
+-- the rows of a side are narrower than a memory with a word for each row and each column, and one more; their list is the side's
+pub record Sided (off cols : List ℕ) (m n : ℕ) (side : Side) (part : Part) (rows : SparseRows) : Type 0 where
+  pub fits : (s : List ℕ) → Room m n s → rows.n < length s
+  pub list : side_list rows.offsets.now (cols_of rows.columns) rows.m rows.n part ≡ of_kind (shape off cols) m n (Columns side part)
 
-module _ {off cols : List ℕ} {plan : Plan} {p lindptr lindices : List ℕ} (known : Known off cols plan p lindptr lindices) (part : Part) where
-  pub factor_sided : (side : Side) (e : List ℕ) (k : ℕ) → side ≡ Factor → e ≡ lindptr → k ≡ plan.m → Sided off cols plan.m plan.n lindptr lindices side part e k
-  factor_sided side e k x y z = rw (x, y, z) (record {
-    grid = rows_grid (bit p) lindptr lindices plan.m known.rows;
-    fits = λ s r. r.rows;
-    list = factor_side off cols plan.m plan.n p known.ready lindptr lindices known.rows part;
+module _ {off cols : List ℕ} {plan : Plan} {p lindptr lindices : List ℕ} (known : Known off cols plan p lindptr lindices) (part : Part) (rows made : SparseRows) (is : rows ≡ made) where
+  pub factor_sided : (side : Side) → side ≡ Factor → made.m ≡ plan.m → made.n ≡ plan.m → made.offsets.now ≡ lindptr → cols_of made.columns ≡ lindices → Sided off cols plan.m plan.n side part rows
+  factor_sided side s x y u v = rw (is, s) (record {
+    fits = λ l r. omega (arith, y, r.rows);
+    list = rw (x, y, u, v) (factor_side off cols plan.m plan.n p known.ready lindptr lindices known.rows part);
   })
 
-  pub matrix_sided : (side : Side) (e : List ℕ) (k : ℕ) → side ≡ Matrix → e ≡ off → k ≡ plan.n → Sided off cols plan.m plan.n lindptr lindices side part e k
-  matrix_sided side e k x y z = rw (x, y, z) (record {
-    grid = accepted_grid off cols plan.m plan.n known.accepted;
-    fits = λ s r. r.columns;
-    list = matrix_side off cols plan.m plan.n part;
+  pub matrix_sided : (side : Side) → side ≡ Matrix → made.m ≡ plan.m → made.n ≡ plan.n → made.offsets.now ≡ off → cols_of made.columns ≡ cols → Sided off cols plan.m plan.n side part rows
+  matrix_sided side s x y u v = rw (is, s) (record {
+    fits = λ l r. omega (arith, y, r.columns);
+    list = rw (x, y, u, v) (matrix_side off cols plan.m plan.n part);
   })
 
 -- ---- the sizes of the lists

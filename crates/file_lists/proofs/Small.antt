@@ -1,16 +1,15 @@
--- What a pair adds to a list is short, what was just written to the front of a memory, and words compared. Assumes nothing.
-use mathlib.Core.Path.{◌≡◌, refl, sym, ap, ap₂, ◌∙◌, subst}
-use mathlib.Core.Bool.{Bool, true, false, ◌&&◌}
-use mathlib.Core.List.{List, [], ◌∷◌}
-use Prim.Native.Nat.{ℕ, suc, ◌+◌, ◌<◌, ◌≤◌}
+-- What a pair adds to a list is short, and what was just written to the front of a memory. Assumes nothing.
+use mathlib.Core.Path.{◌≡◌, refl, ap, ap₂, ◌∙◌}
+use mathlib.Core.Bool.{Bool, ◌&&◌}
+use mathlib.Core.List.{List}
+use Prim.Native.Nat.{ℕ, suc, ◌<◌, ◌≤◌}
 use native.Mathlib.Omega.{arith}
 use lib.Dec.{eqb}
-use lib.ListN.{length, get_or, take, drop, length-map}
+use lib.ListN.{length, take, drop, length-map}
 use lib.Seq.{take_at}
 use Rattle.base.specs.Cat.{kept, pick, Wrote}
-use Rattle.std.specs.Prelude.{Option, Some, None}
+use Rattle.std.specs.Prelude.{Option}
 use Rattle.std.specs.Bool.{then_some}
-use Rattle.base.proofs.Bools.{and_true}
 use Rattle.base.proofs.Sums.{one_le, count_le}
 use Rattle.base.proofs.Write.{length_pick}
 use Rattle.csr.specs.Pattern.{has, row}
@@ -24,8 +23,7 @@ use Rattle.lists.proofs.Whole.{as_written}
 use Rattle.transpose.specs.Bins.{Grid, Room}
 use Rattle.pair_lists.specs.Kept as rows
 use Rattle.pair_lists.proofs.Lists.{kept_short}
-use Rattle.file_numbers.specs.Agree.{agree}
-use Rattle.file_lists.specs.Sizes.{PieceRoom, Stands}
+use Rattle.file_lists.specs.Sizes.{PieceRoom}
 
 pub pick_le : (t : Bool) (x : ℕ) → length (pick t x) ≤ 1
 pick_le t x = omega (arith, length_pick t x, one_le t)
@@ -75,27 +73,3 @@ pub head_front : (w : Which) (a b : List ℕ) (t : Bool) (o : Option ℕ) (r : �
 head_front w a b t o r e f h v =
     let z : kept o ≡ pick (begins w) 0 = ap kept f ∙ ap (λ (x : Bool). pick x 0) e in
     (omega (arith, v.next, ap length z), front a b (kept o) r (omega (arith, ap length z, pick_le (begins w) 0)) v ∙ z)
-
--- ---- words compared
-
--- a list by another name
-pub stands_as : (s : List ℕ) (at : ℕ) (l k : List ℕ) (r : Option ℕ) → l ≡ k → Stands s at l r → Stands s at k r
-stands_as s at l k r e v = subst (λ (x : List ℕ). Stands s at x r) e v
-
-pub stands_if : (s : List ℕ) (at : ℕ) (l : List ℕ) (t : Bool) (end : ℕ) → t ≡ agree s at l → end ≡ at + length l → Stands s at l (then_some t end)
-stands_if s at l true end e q = (q, sym e)
-stands_if s at l false end e q = sym e
-
-module _ (s : List ℕ) (at : ℕ) (o : Option ℕ) where
-  pub word_room : (x : ℕ) → o ≡ Some x → at + length (kept o) ≤ length s → at < length s
-  word_room x e h = omega (arith, ap (λ (p : Option ℕ). length (kept p)) e)
-
-  pub word_stands : (x y : ℕ) → o ≡ Some x → y ≡ get_or s at 0 → Stands s at (kept o) (then_some (eqb y x) (at + 1))
-  unfolding agree
-  word_stands x y e h =
-      stands_as s at (x ∷ []) (kept o) (then_some (eqb y x) (at + 1)) (ap kept (sym e))
-      (stands_if s at (x ∷ []) (eqb y x) (at + 1) (ap (λ (z : ℕ). eqb z x) h ∙ sym (and_true (eqb (get_or s at 0) x))) refl)
-
-  pub no_word_stands : o ≡ None → Stands s at (kept o) (Some at)
-  unfolding agree
-  no_word_stands e = stands_as s at [] (kept o) (Some at) (ap kept (sym e)) (omega arith, refl)

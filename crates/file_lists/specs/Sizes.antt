@@ -1,10 +1,9 @@
 -- Room for what a pair adds to a list, and the sixteen lists by what they are. Definitions only.
-use Rattle.std.specs.Prelude.{◌≡◌, true, false, List, ℕ, ◌+◌, ◌<◌, ◌≤◌, length, Option, Some, None}
+use Rattle.std.specs.Prelude.{List, ℕ, ◌<◌, ◌≤◌, length}
 use Rattle.csr.specs.Pattern.{row}
 use Rattle.lists.specs.Lists.{Shape, shape, list_of, ends_of, columns_of}
 use Rattle.lists.specs.declared.Side.{Side}
 use Rattle.lists.specs.declared.Side.TheVariants.{Factor, Matrix}
-use Rattle.file_numbers.specs.Agree.{agree}
 use Rattle.file_lists.specs.Matched.{entries_of}
 use Rattle.file_lists.specs.declared.Part.{Part}
 use Rattle.file_lists.specs.declared.Part.TheVariants.{Ends, Entries}
@@ -15,11 +14,6 @@ use Rattle.file_lists.specs.declared.Kind.TheVariants.{Pairs, Columns}
 pub record PieceRoom (off cols : List ℕ) (i : ℕ) (made : List ℕ) : Type 0 where
   pub rows : i < length made
   pub columns : length (row off cols i) ≤ length made
-
--- a list was compared with the numbers from place `at` on: the place after it, or nothing where they differ
-abbrev pub Stands : List ℕ → ℕ → List ℕ → Option ℕ → Type 0
-Stands s at l (Some end) = (end ≡ at + length l) × (agree s at l ≡ true)
-Stands s at l None = agree s at l ≡ false
 
 -- ends or entries
 abbrev pub side_list : List ℕ → List ℕ → ℕ → ℕ → Part → List ℕ

@@ -1,11 +1,13 @@
 -- The verdict of questions 14 to 16 from the three answers. Assumes nothing.
-use mathlib.Core.Path.{◌≡◌, refl, sym, ap, ◌∙◌}
+use mathlib.Core.Path.{◌≡◌, refl, sym, ap, ◌∙◌, subst}
 use mathlib.Core.Bool.{Bool, true, false}
 use mathlib.Core.List.{List}
 use Prim.Native.Nat.{ℕ}
 use native.Mathlib.Omega.{arith}
+use Rattle.std.specs.Prelude.{Option, Some, None, MatchOption}
+use Rattle.file_walk.specs.declared.walk.WholeFile.{WholeFile}
 use Rattle.csr.specs.Verdict.{Verdict, passed, told, refused, ask, and_then}
-use Rattle.plan_file.specs.Tables.{Table}
+use Rattle.plan_file.specs.Tables.{Table, wide}
 use Rattle.plan_file.specs.Verdicts.{whole_file, ordered_file, matrixs_file, file_verdict}
 use Rattle.plan_file.proofs.Files.{one_by_one}
 use lib.ListN.{length}
@@ -33,6 +35,15 @@ passes (refused q p l) w e = let z : ◌≡◌ {A = ℕ} 0 1 = cc in absurd (ome
 pub sized_of : {off cols : List ℕ} {m n s : ℕ} {p : Plan} → Accepted off cols m n → p ≡ plan_of m n s (length cols) (count_e off cols m) (count_s off cols m) (count_d off cols m) → Sized off cols p
 sized_of ok e = rw e (record { accepted = ok; counts = record { stored = refl; shared = refl; products = refl }; entries = refl })
 
+-- ---- a file's answer at 14
+module _ (file : List ℕ) (o : Option WholeFile) (says : MatchOption o (whole_file wide file ≡ false) (λ w. (whole_file wide file ≡ true) × (w.bytes.now ≡ file))) where
+  pub cut_short : o ≡ None → whole_file wide file ≡ false
+  cut_short e = subst (λ (x : Option WholeFile). MatchOption x (whole_file wide file ≡ false) (λ w. (whole_file wide file ≡ true) × (w.bytes.now ≡ file))) e says
+
+  pub is_whole : (w : WholeFile) → o ≡ Some w → (whole_file wide file ≡ true) × (w.bytes.now ≡ file)
+  is_whole w e = subst (λ (x : Option WholeFile). MatchOption x (whole_file wide file ≡ false) (λ v. (whole_file wide file ≡ true) × (v.bytes.now ≡ file))) e says
+
+-- ---- the three answers
 module _ (t : Table) (lists : ℕ → List ℕ) (file : List ℕ) where
   pub says_14 : whole_file t file ≡ false → refused 14 0 0 ≡ file_verdict t lists file
   says_14 a = sym (one_by_one t lists file ∙ ap (λ (b : Bool). ask b (ask (ordered_file t 1 file) (ask (matrixs_file t lists file) passed (refused 16 0 0)) (refused 15 0 0)) (refused 14 0 0)) a)

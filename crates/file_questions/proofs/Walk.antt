@@ -2,44 +2,24 @@
 use mathlib.Core.Path.{◌≡◌, refl, sym, ap, ap₂, ◌∙◌}
 use mathlib.Core.Bool.{Bool, true, false, cond, ◌&&◌}
 use mathlib.Core.List.{List, []}
-use Prim.Native.Nat.{ℕ, ◌+◌, ◌-◌, ◌<◌, ◌≤◌}
-use native.Mathlib.Omega.{arith}
-use borrow.Author.Tests.{leb-true}
-use lib.Dec.{leb}
-use lib.ListN.{length, take, drop, drop_of_length-le}
+use Prim.Native.Nat.{ℕ, ◌+◌, ◌<◌, ◌≤◌}
+use lib.ListN.{length, drop, drop_of_length-le}
 use Rattle.record.specs.Little.{le2, le4}
-use Rattle.transpose.specs.Bins.{Room}
-use Rattle.base.proofs.Bools.{and_out}
+use Rattle.base.specs.Numbers.{cut}
 use Rattle.plan_file.specs.Records.{Entry, kind_at, body_at, rest_at, first_at, starts_whole, Cut, short, whole, also, records_of}
 use Rattle.plan_file.specs.declared.Meaning.{Meaning}
-use Rattle.plan_file.specs.declared.Meaning.TheVariants.{Listed, Note, Neither}
-use Rattle.plan_file.specs.Tables.{Table, first_note, is_list, wide}
+use Rattle.plan_file.specs.declared.Meaning.TheVariants.{Listed}
+use Rattle.plan_file.specs.Tables.{Table}
 use Rattle.plan_file.specs.Verdicts.{same, whole_file, is_matrixs, are_matrixs, matrixs_cut, matrixs_file}
 use Rattle.plan_file.proofs.Parse.{records_first}
 use Rattle.file_walk.proofs.Walks.{some_left, both_parts, meant, body_there, rest_there, good_there, within_there}
 use Rattle.file_numbers.specs.Agree.{numbers_of}
-use Rattle.file_questions.specs.Takes.{Takes}
-
--- a memory of the same length has the same room
-pub room_kept : (m n : ℕ) (a b : List ℕ) → length b ≡ length a → Room m n a → Room m n b
-room_kept m n a b e r = record { rows = omega (arith, r.rows); columns = omega (arith, r.columns) }
 
 -- ---- one record
 
 pub listed_is : (lists : ℕ → List ℕ) (m : Meaning) (body : List ℕ) (k w : ℕ) (r : Bool) → m ≡ Listed k w → w ≡ 4 → r ≡ same (numbers_of body) (lists k) → r ≡ is_matrixs lists m body
 unfolding numbers_of
 listed_is lists m body k w r e b h = h ∙ ap (λ (x : ℕ). is_matrixs lists (Listed k x) body) (sym b) ∙ ap (λ (q : Meaning). is_matrixs lists q body) (sym e)
-
-list_in : (k : ℕ) → is_list k ≡ true → (1 ≤ k) × (k ≤ 16)
-list_in k e = let b = and_out (leb 1 k) (leb k 16) e in (leb-true 1 k b.0, leb-true k 16 b.1)
-
-pub takes_wide : (kind : ℕ) → Takes (wide kind)
-takes_wide kind = go (leb first_note kind) (is_list kind) refl
-  where
-    go : (a b : Bool) → is_list kind ≡ b → Takes (cond a Note (cond b (Listed kind 4) Neither))
-    go true b e = tt
-    go false true e = let h = list_in kind e in (h.0, h.1, refl)
-    go false false e = tt
 
 -- ---- the walk
 
@@ -70,29 +50,25 @@ module _ (t : Table) (lists : ℕ → List ℕ) where
     pub left : matrixs_file t lists (drop at file) ≡ matrixs_file t lists file
 
   module _ (file : List ℕ) where
-    pub asking_none : whole_file t file ≡ true → Asking file 0
-    asking_none e = record { within = omega arith; good = e; left = refl }
-
     pub asking_all : (at : ℕ) → length file ≤ at → Asking file at → true ≡ matrixs_file t lists file
     asking_all at h w = sym matrixs_none ∙ sym (ap (matrixs_file t lists) (drop_of_length-le file {i = at} h)) ∙ w.left
 
-    module _ (at : ℕ) (w : Asking file at) (more : at < length file) (size : ℕ) (is : size ≡ le4 file at)
-        (kind : ℕ) (has : kind ≡ le2 file (at + 4)) (m : Meaning) (means : m ≡ t kind) (b : Bool)
-        (said : b ≡ is_matrixs lists m (take (at + 4 + size - (at + 6)) (drop (at + 6) file))) where
+    module _ (at : ℕ) (w : Asking file at) (more : at < length file) (m : Meaning) (means : m ≡ t (le2 file (at + 4)))
+        (body : List ℕ) (stands : body ≡ cut (at + 6) (at + 4 + le4 file at) file) (b : Bool) (said : b ≡ is_matrixs lists m body) where
       onward : b && matrixs_file t lists (rest_at (drop at file)) ≡ matrixs_file t lists file
       onward =
           ap (λ (x : Bool). x && matrixs_file t lists (rest_at (drop at file)))
-          (said ∙ ap₂ (is_matrixs lists) (meant t file at w.good more kind has m means) (body_there t file at w.good more size is))
+          (said ∙ ap₂ (is_matrixs lists) (meant t file at w.good more (le2 file (at + 4)) refl m means) (stands ∙ body_there t file at w.good more (le4 file at) refl))
           ∙ sym (matrixs_first (drop at file) (some_left t file at w.good more) (both_parts t file at w.good more).0) ∙ w.left
 
       pub asking_no : b ≡ false → false ≡ matrixs_file t lists file
       asking_no e = sym (ap (λ (x : Bool). x && matrixs_file t lists (rest_at (drop at file))) e) ∙ onward
 
-      pub asking_on : b ≡ true → Asking file (at + 4 + size)
-      asking_on e = record {
-        within = within_there t file at w.good more size is;
-        good = good_there t file at w.good more size is;
+      pub asking_on : b ≡ true → (end : ℕ) → end ≡ at + 4 + le4 file at → Asking file end
+      asking_on e end q = rw q (record {
+        within = within_there t file at w.good more (le4 file at) refl;
+        good = good_there t file at w.good more (le4 file at) refl;
         left =
-            ap (matrixs_file t lists) (sym (rest_there t file at w.good more size is))
+            ap (matrixs_file t lists) (sym (rest_there t file at w.good more (le4 file at) refl))
             ∙ sym (ap (λ (x : Bool). x && matrixs_file t lists (rest_at (drop at file))) e) ∙ onward;
-      }
+      })

@@ -1,47 +1,60 @@
 // Questions 1 to 5 and 14 to 16 of a matrix and a file, each asked of the whole file before the next. No memory is lent for them.
 #![tactic(auto)]
 
-ghost use Rattle.std.specs.Prelude.{◌≡◌};
-ghost use Rattle.csr.specs.Csr.{Accepted};
+ghost use Rattle.std.specs.Prelude.{◌≡◌, IfOk};
 ghost use Rattle.csr.specs.Questions.{first_no};
 ghost use Rattle.csr.specs.Verdict.{told_asked, and_then};
 ghost use Rattle.plan_file.specs.Matrix.{matrix_lists};
 ghost use Rattle.plan_file.specs.Tables.{wide};
 ghost use Rattle.plan_file.specs.Verdicts.{file_verdict};
+ghost use Rattle.file_questions.specs.Sized.{counted_plan};
 
 mod sixteen;
 
-use csr::Refusal;
+use csr::{Matrix, Refusal, Rows};
+use file_walk::WholeFile;
+use layout::Plan;
 
-// 14 to 16, of a matrix that is accepted.
-fn ask_three(m: usize, n: usize, off: &[u32], cols: &[u32], file: &[u8]) -> Result<(), Refusal>
-    requires { Accepted off.now cols.now m n }
-    ensures { told_asked result ≡ file_verdict wide (matrix_lists off.now cols.now m n) file.now }
+// What is known after the yeses: the matrix, the sizes of its plan, with no slack rows, and the file.
+#[derive(Clone, Copy)]
+pub struct Asked<'a> {
+    pub matrix: Matrix<'a>,
+    pub plan: Plan,
+    pub file: WholeFile<'a>,
+    ghost counted: { plan ≡ counted_plan matrix },
+}
+
+// 14 to 16, of a matrix and a file.
+fn ask_three<'a>(matrix: &Matrix<'a>, file: &'a [u8]) -> Result<Asked<'a>, Refusal>
+    ensures verdict { told_asked result ≡ file_verdict wide (matrix_lists matrix.now.rows.offsets.now matrix.now.rows.columns.now matrix.now.m matrix.now.n) file.now }
+    ensures given { IfOk result (λ r. (r.matrix ≡ matrix.now) × (r.file.bytes.now ≡ file.now)) }
 {
-    if !file_walk::is_whole(file) {
-        return Err(Refusal::CutShort);
-    }
-    if !file_walk::is_ordered(file) {
+    let whole = file_walk::whole(file).ok_or(Refusal::CutShort)?;
+    if !file_walk::is_ordered(whole) {
         return Err(Refusal::OutOfOrder);
     }
-    let plan = counts::plan_sizes(m, n, 0, off, cols);
-    if !sixteen::is_plan(file, off, cols, plan) {
+    let plan = counts::plan_sizes(matrix, 0);
+    if !sixteen::is_plan(whole, matrix, plan) {
         return Err(Refusal::OtherLists);
     }
-    Ok(())
+    Ok(Asked {
+        matrix: *matrix,
+        plan,
+        file: whole,
+    })
 }
 
 // Questions 1 to 5, of a matrix with so many values, and 14 to 16. Any numbers, any lists.
-pub fn ask(
+pub fn ask<'a>(
     m: usize,
     n: usize,
-    offsets: &[u32],
-    columns: &[u32],
+    rows: &Rows<'a>,
     values: usize,
-    file: &[u8],
-) -> Result<(), Refusal>
-    ensures { told_asked result ≡ and_then (first_no m n offsets.now columns.now values) (file_verdict wide (matrix_lists offsets.now columns.now m n) file.now) }
+    file: &'a [u8],
+) -> Result<Asked<'a>, Refusal>
+    ensures verdict { told_asked result ≡ and_then (first_no m n rows.now.offsets.now rows.now.columns.now values) (file_verdict wide (matrix_lists rows.now.offsets.now rows.now.columns.now m n) file.now) }
+    ensures given { IfOk result (λ r. (r.matrix.m ≡ m) × (r.matrix.n ≡ n) × (r.matrix.rows ≡ rows.now) × (r.file.bytes.now ≡ file.now)) }
 {
-    csr::ask(m, n, offsets, columns, values)?;
-    ask_three(m, n, offsets, columns, file)
+    let matrix = csr::ask(m, n, rows, values)?;
+    ask_three(&matrix, file)
 }

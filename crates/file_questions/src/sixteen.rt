@@ -1,75 +1,59 @@
 // Question 16, asked of a whole file. Nothing that is lent is written.
-ghost use Rattle.std.specs.Prelude.{◌≡◌, true};
+ghost use Rattle.std.specs.Prelude.{◌≡◌};
 ghost use Rattle.transpose.specs.Bins.{Room};
+ghost use Rattle.pattern.specs.Ready.{Ready};
 ghost use Rattle.ipm_common.specs.Plan.{Enough};
 ghost use Rattle.plan_file.specs.Matrix.{matrix_lists};
 ghost use Rattle.plan_file.specs.Tables.{wide};
-ghost use Rattle.plan_file.specs.Verdicts.{is_matrixs, whole_file, matrixs_file};
-ghost use Rattle.file_lists.specs.Known.{Known};
-ghost use Rattle.file_questions.specs.Sized.{Sized};
+ghost use Rattle.plan_file.specs.Verdicts.{is_matrixs, matrixs_file};
+ghost use Rattle.file_questions.specs.Sized.{Sized, counted_plan};
 ghost use Rattle.file_questions.specs.Takes.{Takes};
 
+use csr::Matrix;
+use file_lists::Expected;
+use file_walk::WholeFile;
 use ipm_common::{FEW_BINS, FEW_PAIRS, FEW_STARTS, MAX_BINS, MAX_PAIRS, MAX_STARTS};
 use layout::Plan;
+use pair_lists::{FactorRows, Source};
+use pattern::WORDS;
 use plan_file::Meaning;
 
-// What is asked of one record. What the three memories hold after is open, as in `file_lists::is_list`.
+// What is asked of one record. What the memories hold after is open, as in `file_lists`.
 fn is_record(
+    expected: &Expected<'_>,
     meaning: Meaning,
     body: &[u8],
-    off: &[u32],
-    cols: &[u32],
-    plan: Plan,
-    p: &[u64],
-    lindptr: &[u32],
-    lindices: &[u8],
     next: &mut [u32],
     again: &mut [u32],
     made: &mut [u32],
 ) -> bool
-    requires { Takes meaning × Known off.now cols.now plan p.now lindptr.now lindices.now × Room plan.m plan.n next.old × Room plan.m plan.n again.old × Room plan.m plan.n made.old }
-    ensures { result ≡ is_matrixs (matrix_lists off.now cols.now plan.m plan.n) meaning body.now }
+    requires { Takes meaning × Room expected.now.plan.m expected.now.plan.n next.old × Room expected.now.plan.m expected.now.plan.n again.old × Room expected.now.plan.m expected.now.plan.n made.old }
+    ensures { result ≡ is_matrixs (matrix_lists expected.now.source.rows.offsets.now expected.now.source.rows.columns.now expected.now.plan.m expected.now.plan.n) meaning body.now }
 {
+    // The arms do different things: there is no one step to hand over.
     match meaning {
-        Meaning::Listed(k, _) => file_lists::is_list(
-            k, body, off, cols, plan, p, lindptr, lindices, next, again, made,
-        ),
+        Meaning::Listed(k, _) => expected.is_list(k, body, next, again, made),
         Meaning::Note | Meaning::Neither => true,
     }
 }
 
-// And of the whole file, after a yes at 14.
+// And of the whole file.
 fn is_file(
-    file: &[u8],
-    off: &[u32],
-    cols: &[u32],
-    plan: Plan,
-    p: &[u64],
-    lindptr: &[u32],
-    lindices: &[u8],
+    expected: &Expected<'_>,
+    file: WholeFile<'_>,
     next: &mut [u32],
     again: &mut [u32],
     made: &mut [u32],
 ) -> bool
-    requires { (whole_file wide file.now ≡ true) × Known off.now cols.now plan p.now lindptr.now lindices.now × Room plan.m plan.n next.old × Room plan.m plan.n again.old × Room plan.m plan.n made.old }
-    ensures { result ≡ matrixs_file wide (matrix_lists off.now cols.now plan.m plan.n) file.now }
+    requires { Room expected.now.plan.m expected.now.plan.n next.old × Room expected.now.plan.m expected.now.plan.n again.old × Room expected.now.plan.m expected.now.plan.n made.old }
+    ensures { result ≡ matrixs_file wide (matrix_lists expected.now.source.rows.offsets.now expected.now.source.rows.columns.now expected.now.plan.m expected.now.plan.n) file.entry.bytes.now }
 {
+    let bytes = file.bytes;
     let mut at = 0;
-    while at < file.len() {
-        let r = file_walk::record_at(file, at);
-        if !is_record(
-            r.meaning,
-            &file[r.body..r.end],
-            off,
-            cols,
-            plan,
-            p,
-            lindptr,
-            lindices,
-            next,
-            again,
-            made,
-        ) {
+    // The lengths of the records stand in the file: the walk has no index to count.
+    while at < bytes.len() {
+        let r = file_walk::record_at(bytes, at);
+        if !is_record(expected, r.meaning, r.body, next, again, made) {
             return false;
         }
         at = r.end;
@@ -77,37 +61,46 @@ fn is_file(
     true
 }
 
-// In memories of such lengths.
+// By the factor's pattern, in memories of such lengths.
 fn is_plan_in<const STARTS: usize, const PAIRS: usize, const BINS: usize>(
-    file: &[u8],
-    off: &[u32],
-    cols: &[u32],
+    file: WholeFile<'_>,
+    matrix: &Matrix<'_>,
     plan: Plan,
+    p: &[u64; WORDS],
 ) -> bool
-    requires { (whole_file wide file.now ≡ true) × Sized off.now cols.now plan × Enough plan.m plan.n STARTS PAIRS BINS }
-    ensures { result ≡ matrixs_file wide (matrix_lists off.now cols.now plan.m plan.n) file.now }
+    requires { Sized matrix.now.rows.offsets.now matrix.now.rows.columns.now plan × (matrix.now.m ≡ plan.m) × (matrix.now.n ≡ plan.n) × Ready matrix.now.rows.offsets.now matrix.now.rows.columns.now matrix.now.m p.now × Enough matrix.now.m matrix.now.n STARTS PAIRS BINS }
+    ensures { result ≡ matrixs_file wide (matrix_lists matrix.now.rows.offsets.now matrix.now.rows.columns.now matrix.now.m matrix.now.n) file.entry.bytes.now }
 {
-    let mut p = [0u64; pattern::WORDS];
     let mut lindptr = [0u32; STARTS];
     let mut lindices = [0u8; PAIRS];
     let mut made = [0u32; BINS];
     let mut next = [0u32; BINS];
     let mut again = [0u32; BINS];
-    pattern::pattern(off, cols, plan.m, &mut p);
-    pair_lists::list_rows(&p, plan.m, &mut lindptr, &mut lindices);
-    is_file(
-        file, off, cols, plan, &p, &lindptr, &lindices, &mut next, &mut again, &mut made,
-    )
+    pair_lists::list_rows(p, matrix.m, &mut lindptr, &mut lindices);
+    let source = Source {
+        m: matrix.m,
+        n: matrix.n,
+        rows: matrix.rows,
+        factor: FactorRows {
+            p,
+            lindptr: &lindptr,
+            lindices: &lindices,
+        },
+    };
+    let expected = Expected { source, plan };
+    is_file(&expected, file, &mut next, &mut again, &mut made)
 }
 
-// Question 16 of a matrix and the sizes of its plan, and of a file that got a yes at 14.
-pub fn is_plan(file: &[u8], off: &[u32], cols: &[u32], plan: Plan) -> bool
-    requires { (whole_file wide file.now ≡ true) × Sized off.now cols.now plan }
-    ensures { result ≡ matrixs_file wide (matrix_lists off.now cols.now plan.m plan.n) file.now }
+// Question 16 of a matrix, the sizes of its plan and a file.
+pub fn is_plan(file: WholeFile<'_>, matrix: &Matrix<'_>, plan: Plan) -> bool
+    requires { plan ≡ counted_plan matrix.now }
+    ensures { result ≡ matrixs_file wide (matrix_lists matrix.now.rows.offsets.now matrix.now.rows.columns.now matrix.now.m matrix.now.n) file.entry.bytes.now }
 {
-    if plan.m <= Plan::FEW_ROWS && plan.n <= Plan::FEW_COLUMNS {
-        is_plan_in::<FEW_STARTS, FEW_PAIRS, FEW_BINS>(file, off, cols, plan)
+    let mut p = [0u64; WORDS];
+    pattern::pattern(&matrix.rows, matrix.m, &mut p);
+    if matrix.m <= Plan::FEW_ROWS && matrix.n <= Plan::FEW_COLUMNS {
+        is_plan_in::<FEW_STARTS, FEW_PAIRS, FEW_BINS>(file, matrix, plan, &p)
     } else {
-        is_plan_in::<MAX_STARTS, MAX_PAIRS, MAX_BINS>(file, off, cols, plan)
+        is_plan_in::<MAX_STARTS, MAX_PAIRS, MAX_BINS>(file, matrix, plan, &p)
     }
 }

@@ -9,6 +9,7 @@ use lib.Dec.{eqb}
 use lib.ListN.{length, take, drop, length-drop, drop_of_length-le}
 use lib.Seq.{drop-drop}
 use Rattle.record.specs.Little.{le2, le4}
+use Rattle.base.specs.Numbers.{cut}
 use Rattle.base.proofs.Bools.{and_in, and_out}
 use Rattle.plan_file.specs.Bytes.{number}
 use Rattle.plan_file.specs.Records.{Entry, length_at, kind_at, body_at, rest_at, first_at, starts_whole, Cut, short, whole, also, records_of}
@@ -18,12 +19,17 @@ use Rattle.plan_file.specs.Tables.{Table}
 use Rattle.plan_file.specs.Verdicts.{whole_body, whole_bodies, whole_cut, whole_file, is_next, after, in_order, ordered_cut, ordered_file}
 use Rattle.plan_file.proofs.Little.{le2_is, le4_is}
 use Rattle.file_walk.specs.Headed.{Headed}
-use Rattle.plan_file.proofs.Parse.{records_first, no_length, no_room, Starts, starts_out, body_length}
+use Rattle.plan_file.proofs.Parse.{records_first, no_length, no_room, Starts, starts_out}
 
 -- ---- the record's fields by their places
 
 pub kind_is : (s : List ℕ) (at : ℕ) → at + 4 + 2 ≤ length s → le2 s (at + 4) ≡ kind_at (drop at s)
 kind_is s at h = le2_is s (at + 4) h ∙ ap (λ (l : List ℕ). number (take 2 l)) (sym (drop-drop 4 at s))
+
+body_is : (s : List ℕ) (at size : ℕ) → size ≡ length_at (drop at s) → cut (at + 6) (at + 4 + size) s ≡ body_at (drop at s)
+body_is s at size e =
+    let z : at + 4 + size - (at + 6) ≡ length_at (drop at s) - 2 = omega (arith, e) in
+    ap₂ (λ (n : ℕ) (l : List ℕ). take n l) z (sym (drop-drop 6 at s))
 
 -- ---- whether a record starts there
 
@@ -116,7 +122,7 @@ module _ (t : Table) where
       pub stopped : starts_whole (drop at file) ≡ false → false ≡ whole_file t file
       stopped e = sym (rw e at first) ∙ w.left
 
-      module _ (begins : starts_whole (drop at file) ≡ true) (b : Bool) (said : b ≡ whole_body (t (le2 file (at + 4))) (at + 4 + le4 file at - (at + 6))) where
+      module _ (begins : starts_whole (drop at file) ≡ true) (b : Bool) (said : b ≡ whole_body (t (le2 file (at + 4))) (length (cut (at + 6) (at + 4 + le4 file at) file))) where
         there : Headed file at
         there = headed_at file at begins
 
@@ -124,9 +130,7 @@ module _ (t : Table) where
         long = sym (le4_is file at there.four)
 
         same : b ≡ whole_body (t (kind_at (drop at file))) (length (body_at (drop at file)))
-        same =
-            let n : at + 4 + le4 file at - (at + 6) ≡ length (body_at (drop at file)) = omega (arith, body_length (drop at file) (starts_out (drop at file) begins), long) in
-            said ∙ ap₂ (λ (k n : ℕ). whole_body (t k) n) (kind_is file at there.six) n
+        same = said ∙ ap₂ (λ (k n : ℕ). whole_body (t k) n) (kind_is file at there.six) (ap length (body_is file at (le4 file at) (sym long)))
 
         goes : b && whole_file t (rest_at (drop at file)) ≡ whole_file t file
         goes = ap (λ (x : Bool). x && whole_file t (rest_at (drop at file))) same ∙ sym (rw begins at first) ∙ w.left
@@ -166,10 +170,8 @@ module _ (t : Table) (file : List ℕ) (at : ℕ) (good : whole_file t (drop at 
     sized = is ∙ le4_is file at headed.four
 
     -- its body, and where the next begins
-    pub body_there : take (at + 4 + size - (at + 6)) (drop (at + 6) file) ≡ body_at (drop at file)
-    body_there =
-        let z : at + 4 + size - (at + 6) ≡ length_at (drop at file) - 2 = omega (arith, sized) in
-        ap₂ (λ (n : ℕ) (l : List ℕ). take n l) z (sym (drop-drop 6 at file))
+    pub body_there : cut (at + 6) (at + 4 + size) file ≡ body_at (drop at file)
+    body_there = body_is file at size sized
 
     pub rest_there : rest_at (drop at file) ≡ drop (at + 4 + size) file
     rest_there = ap (λ (n : ℕ). drop n (drop 4 (drop at file))) (sym sized) ∙ ap (drop size) (drop-drop 4 at file) ∙ drop-drop size (at + 4) file

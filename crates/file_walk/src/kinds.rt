@@ -9,6 +9,7 @@ const FIRST_NOTE: usize = 0x8000;
 
 pub const LISTS: usize = 16;
 
+// Numbers: so the kinds stand in a file.
 const FIRST: usize = 1;
 
 // What a kind means: each list has numbers of four bytes.
@@ -27,6 +28,7 @@ pub fn is_whole_body(m: Meaning, size: usize) -> bool
     requires { 0 < width_of m }
     ensures { result ≡ whole_body m size }
 {
+    // An arm for each: no two do the same, so there is no step to hand over.
     match m {
         Meaning::Listed(_, width) => size % width == 0,
         Meaning::Note => true,
@@ -39,6 +41,7 @@ pub fn next_after(m: Meaning, next: usize) -> Option<usize>
     requires { next ≤ 17 }
     ensures { MatchOption result (is_next m next ≡ false) (λ r. (is_next m next ≡ true) × (r ≡ after m next)) }
 {
+    // An arm for each: no two do the same, so there is no step to hand over.
     match m {
         Meaning::Listed(list, _) if list == next => Some(next + 1),
         Meaning::Note => Some(next),

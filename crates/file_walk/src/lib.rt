@@ -4,4 +4,4 @@
 mod kinds;
 mod walk;
 
-pub use walk::{Record, is_ordered, is_whole, record_at};
+pub use walk::{Record, WholeFile, is_ordered, is_whole, record_at, whole};

@@ -1,25 +1,26 @@
 -- Numbers written one after the other. Assumes nothing.
 use mathlib.Core.Path.{◌≡◌, refl, sym, ap, ◌∙◌}
 use mathlib.Core.List.{List, [], ◌∷◌, ◌++◌, append_assoc, append-nil}
-use Prim.Native.Nat.{ℕ, ◌+◌, ◌-◌, ◌*◌, ◌/◌, ◌<◌, ◌≤◌}
+use Prim.Native.Nat.{ℕ, ◌+◌, ◌*◌, ◌/◌, ◌%◌, ◌<◌}
 use native.Mathlib.Omega.{arith}
 use native.Mathlib.Numerals.{add-one}
 use native.Mathlib.Nat.{mul-suc}
 use Rattle.std.specs.Int.{w16, w32, to_le_bytes}
-use borrow.Rule.Slice.PartMut.{put_mid}
-use lib.ListN.{length, get_or, take, drop, length-append}
-use lib.Seq.{take-suc, take_all, drop-drop}
-use Rattle.std.proofs.lemmas.List.Edits.{sets-eq}
+use lib.ListN.{length, get_or, take, length-append}
+use lib.Seq.{take-suc}
 use Rattle.base.specs.Cat.{Wrote}
 use Rattle.base.proofs.Write.{then_written, same_text}
 use Rattle.plan_file.specs.Bytes.{bytes_of, words}
 use Rattle.plan_file.specs.Records.{head_of, record_of}
 use Rattle.plan_file.proofs.Numbers.{length_words, length_bytes}
 
--- the bytes of numbers of two and of four bytes
-pub bytes_two : (x : ℕ) → to_le_bytes w16 x ≡ bytes_of 2 x
+-- the bytes of numbers of two and of four bytes: two bytes have a number's rest by 65536
+pub bytes_two : (x : ℕ) → to_le_bytes w16 (x % 65536) ≡ bytes_of 2 x
 unfolding bytes_of
-bytes_two x = refl
+bytes_two x =
+    let e : x % 65536 % 256 ≡ x % 256 = omega arith in
+    let f : x % 65536 / 256 % 256 ≡ x / 256 % 256 = omega arith in
+    rw (e, f)
 
 pub bytes_four : (x : ℕ) → to_le_bytes w32 x ≡ bytes_of 4 x
 unfolding bytes_of
@@ -27,13 +28,6 @@ bytes_four x =
     let e : x / 65536 ≡ x / 256 / 256 = omega arith in
     let f : x / 16777216 ≡ x / 256 / 256 / 256 = omega arith in
     rw (e, f)
-
--- a text copied to its part of a list
-pub copied : (a : List ℕ) (at n : ℕ) (s : List ℕ) → length s ≡ n → at + n ≤ length a → Wrote a (put_mid at (at + n - at) a s) at s (at + n)
-copied a at n s l h = record { is = sym (sets-eq s a at (omega arith) ∙ append_assoc (take at a) s (drop (at + length s) a) ∙ part (omega arith)); next = omega arith }
-  where
-    part : {k : ℕ} → k ≡ length s → take at a ++ (s ++ drop (at + length s) a) ≡ put_mid at k a s
-    part e = rw (e, drop-drop)
 
 words_append : (w : ℕ) (xs ys : List ℕ) → words w (xs ++ ys) ≡ words w xs ++ words w ys
 unfolding words
@@ -68,10 +62,6 @@ puts_more w old new next start xs k at r h p q = record {
   place = after_bytes w (get_or xs k 0) q ∙ omega (arith, p.place, mul-suc w k, ap (λ (j : ℕ). w * j) (add-one k));
   wrote = same_text (words_more w xs k h) (then_written p.wrote q);
 }
-
-pub puts_all : (w : ℕ) (old new : List ℕ) (start : ℕ) (xs : List ℕ) (k at : ℕ) → length xs ≤ k
-    → Puts w old new start xs k at → Wrote old new start (words w xs) at
-puts_all w old new start xs k at h p = same_text (ap (words w) (take_all k xs h)) p.wrote
 
 -- a record is its head and then its body
 pub wrote_record : {a b c : List ℕ} {at r s : ℕ} (w kind size : ℕ) (xs : List ℕ) → size ≡ w * length xs

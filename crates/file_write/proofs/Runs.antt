@@ -10,7 +10,7 @@ use Rattle.base.specs.Numbers.{cut}
 use Rattle.lists.proofs.Joined.{From, first_is, behind}
 use Rattle.plan_file.specs.Bytes.{words}
 use Rattle.plan_file.specs.Records.{record_of}
-use Rattle.plan_file.specs.Written.{Writer, wide_writer, written_from, written_file}
+use Rattle.plan_file.specs.Written.{Writer, wide_writer, written_from}
 use Rattle.plan_file.specs.Verdicts.{lists_from}
 use Rattle.plan_file.proofs.Numbers.{length_words}
 use Rattle.plan_file.proofs.Parse.{length_record}
@@ -62,9 +62,6 @@ module _ (lists : ℕ → List ℕ) (index : List ℕ) where
     place = refl;
     wrote = record { is = refl; next = refl };
   }
-
-  pub writing_all : (old new : List ℕ) (at from k : ℕ) → k ≡ 16 → Writing old new at from k → Wrote old new 0 (written_file wide_writer lists) at
-  writing_all old new at from k e s = same_text (ap (written_from wide_writer lists 1) e) s.wrote
 
   module _ (sizes : List ℕ) (bytes : ℕ) (w : Writable lists sizes index bytes) (old new : List ℕ) (at from k size : ℕ) (h : k < 16) (q : size ≡ get_or sizes k 0) (s : Writing old new at from k) where
     size_is : size ≡ length (lists (suc k))

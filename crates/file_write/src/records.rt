@@ -6,15 +6,8 @@ ghost use Rattle.plan_file.specs.Records.{head_of, record_of};
 
 use plan_file::{KIND_BYTES, WORD_BYTES};
 
-// Bytes, and the place after them.
-fn put<const N: usize>(file: &mut [u8], at: usize, bytes: [u8; N]) -> usize
-    requires { at + N ≤ length file.old }
-    ensures { Wrote file.old file.new at bytes.entry result }
-{
-    let end = at + N;
-    file[at..end].copy_from_slice(&bytes);
-    end
-}
+// The numbers that two bytes have.
+const SHORT: usize = 0x1_0000;
 
 // A list's numbers, of four bytes each.
 fn put_words(file: &mut [u8], start: usize, list: &[u32]) -> usize
@@ -23,24 +16,25 @@ fn put_words(file: &mut [u8], start: usize, list: &[u32]) -> usize
 {
     let mut at = start;
     for x in list {
-        at = put(file, at, x.to_le_bytes());
+        at = base::put_all(file, at, &x.to_le_bytes());
     }
     at
 }
 
 // A record's length and kind, for a body of so many bytes.
+// A kind is a number, as it stands in the file.
 fn put_head(file: &mut [u8], at: usize, size: usize, kind: usize) -> usize
-    requires { (at + 6 ≤ length file.old) × (2 + size < 2 ^ 32) × (kind < 2 ^ 16) }
+    requires { (at + 6 ≤ length file.old) × (2 + size < 2 ^ 32) }
     ensures { Wrote file.old file.new at (head_of size kind) result }
 {
     let length = (KIND_BYTES + size) as u32;
-    let next = put(file, at, length.to_le_bytes());
-    put(file, next, (kind as u16).to_le_bytes())
+    let next = base::put_all(file, at, &length.to_le_bytes());
+    base::put_all(file, next, &((kind % SHORT) as u16).to_le_bytes())
 }
 
 // The record of a list.
 pub fn put_record(file: &mut [u8], at: usize, kind: usize, list: &[u32]) -> usize
-    requires { (at + 6 + 4 * length list.now ≤ length file.old) × (2 + 4 * length list.now < 2 ^ 32) × (kind < 2 ^ 16) }
+    requires { (at + 6 + 4 * length list.now ≤ length file.old) × (2 + 4 * length list.now < 2 ^ 32) }
     ensures { Wrote file.old file.new at (record_of kind (words 4 list.now)) result }
 {
     let body = put_head(file, at, WORD_BYTES * list.len(), kind);

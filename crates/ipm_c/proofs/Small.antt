@@ -20,7 +20,7 @@ use Rattle.lanes.specs.Lists.{first}
 use Rattle.lanes.specs.Controls.{fractions_proper}
 use Rattle.lanes.specs.declared.Controls.{Controls}
 use Rattle.lanes.proofs.Lists.{first_le}
-use Rattle.ipm_common.specs.Plan.{room_verdict, plan_verdict}
+use Rattle.ipm_common.specs.Plan.{told_plan, room_verdict, plan_verdict}
 use Rattle.machine.specs.declared.Status.{Status}
 use Rattle.machine.specs.declared.Outcome.{Outcome}
 use Rattle.machine.specs.declared.Outcome.TheVariants.{Accepted as accepted_at, NoAt11 as no_at11, NoAt12 as no_at12}
@@ -29,7 +29,7 @@ use Rattle.machine.specs.Demand3.{Buffers}
 use Rattle.ipm_simd.specs.declared.Lengths.{Lengths}
 use Rattle.csr.specs.declared.Refusal.{Refusal}
 use Rattle.ipm_simd.specs.declared.Solution.{Solution}
-use Rattle.std.specs.Prelude.{Option, Some, None, Result}
+use Rattle.std.specs.Prelude.{Option, Some, None, Result, Ok, Err}
 use Rattle.ipm_simd.specs.Solve.{Given, controls_of, call, price_count, lengths_of, told_solve, Solved, outcome_verdict, lengths_right, lengths_verdict, memory_verdict, if_filed, matrix_verdict, begun, solve_verdict}
 use Rattle.ipm_simd.proofs.Questions.{lengths_passed}
 use Rattle.ipm_c.specs.Packed.{packed, Small, SolvedInOne}
@@ -39,7 +39,7 @@ use Rattle.plan_file.specs.Tables.{wide}
 use Rattle.plan_file.specs.Verdicts.{file_verdict, whole_file, ordered_file, matrixs_file}
 use Rattle.plan_file.proofs.Files.{one_by_one}
 use Rattle.file_questions.proofs.Three.{passes}
-use Rattle.file_calls.specs.Calls.{file_bytes, rooms_verdict, write_verdict, read_verdict}
+use Rattle.file_calls.specs.Calls.{told_write, file_bytes, rooms_verdict, write_verdict, read_verdict}
 
 small_ask : (t : Bool) (v w : Verdict) → (t ≡ true → Small v) → Small w → Small (ask t v w)
 small_ask true v w h g = h refl
@@ -208,3 +208,12 @@ in_one s e = record {
   buffers = s.buffers;
   demand3 = λ h. let d = s.demand3 h in (d.0, e ∙ ap packed d.1, d.2);
 }
+
+-- whether a call tells words or bytes, the one number is the same
+pub packed_alike : (r : Result ℕ Refusal) → packed (told_plan r) ≡ packed (told_write r)
+packed_alike (Ok k) = refl
+packed_alike (Err e) = refl
+
+pub small_alike : (r : Result ℕ Refusal) → Small (told_write r) → Small (told_plan r)
+small_alike (Ok k) h = h
+small_alike (Err e) h = h

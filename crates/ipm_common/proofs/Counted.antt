@@ -59,3 +59,7 @@ module _ (off cols : List ℕ) (m : ℕ) (p lindptr lindices : List ℕ) (ready 
       sum_ext m (λ i. sum (suc i) (λ j. common (row lindptr lindices i) (row lindptr lindices j))) (λ i. sum (suc i) (λ j. sum 256 (λ k. one (bit p i k && bit p j k))))
       (λ i l. sum_ext (suc i) (λ j. common (row lindptr lindices i) (row lindptr lindices j)) (λ j. sum 256 (λ k. one (bit p i k && bit p j k))) (λ j h. pair i j l (omega arith)))
       ∙ count_d_lem off cols p m v.few ready.rows
+
+-- what pairs of rows share, of rows that are the same
+pub pairs_as : {off off' cols cols' : List ℕ} {m m' n n' : ℕ} → (m ≡ m') × (n ≡ n') × (off ≡ off') × (cols ≡ cols') → count_s off cols m ≡ count_s off' cols' m'
+pairs_as e = rw (e.0, e.2, e.3) refl

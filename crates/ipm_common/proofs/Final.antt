@@ -1,5 +1,5 @@
 -- The sixteen lists together. Assumes nothing.
-use mathlib.Core.Path.{◌≡◌, sym, ap, ◌∙◌}
+use mathlib.Core.Path.{◌≡◌, refl, sym, ap, ◌∙◌}
 use mathlib.Core.List.{List, ◌++◌}
 use Prim.Native.Nat.{ℕ, ◌+◌, ◌*◌, ◌<◌, ◌≤◌}
 use native.Mathlib.Omega.{arith}
@@ -30,6 +30,10 @@ module _ (off cols : List ℕ) (m n : ℕ) (p lindptr lindices : List ℕ) (read
   plan_wrote a b c d s t u x y z =
       wrote_as a d 0 u _ _ (sym (plan_parts (shape off cols) m n))
       (three a b c d 0 s t u _ _ _ x (wrote_as b c s t _ _ (side_same off cols m p ready lindptr lindices v) y) z)
+
+-- the lists of a side, of rows that are the same
+pub side_as : {off off' cols cols' : List ℕ} {m m' n n' : ℕ} → (m ≡ m') × (n ≡ n') × (off ≡ off') × (cols ≡ cols') → side_in off cols m n ≡ side_in off' cols' m' n'
+side_as e = rw (e.0, e.1, e.2, e.3) refl
 
 -- W, from E, S and D
 pub words_are : (off cols : List ℕ) (m n e s d : ℕ) → Tallied off cols m e s d → 5 * e + 3 * s + 2 * d + 3 * m + n + 2 * length cols + 5 ≡ size_w off cols m n

@@ -14,6 +14,7 @@ fn read_full<R: Read>(input: &mut R, buffer: &mut [u8]) -> io::Result<usize>
     ensures { IfOk result (λ n. n ≤ length buffer.new) }
 {
     let mut done = 0;
+    // Goes on by what a read gives.
     while done < buffer.len() {
         let n = input.read(&mut buffer[done..])?;
         if n == 0 {

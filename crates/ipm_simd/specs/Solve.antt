@@ -19,6 +19,7 @@ use Rattle.machine.specs.Outcome.{largest_limit, Call, solved}
 use Rattle.machine.specs.Demand3.{Buffers, leaves, Demand3}
 use Rattle.machine.specs.Work.{problem_of}
 use Rattle.ipm_simd.specs.declared.Lengths.{Lengths}
+use Rattle.ipm_simd.specs.declared.Problem.{Problem}
 use Rattle.csr.specs.declared.Refusal.{Refusal}
 use Rattle.ipm_simd.specs.declared.Solution.{Solution}
 
@@ -57,6 +58,10 @@ given m n s offsets columns values b c tolerances k =
       damping = k.damping;
       file = None;
     }
+
+-- by what the program is handed
+abbrev pub given_of : Problem → Controls → Given
+given_of p k = given p.m p.n p.s p.rows.offsets.now p.rows.columns.now p.values.now p.b.now p.c.now p.tolerances.now k
 
 -- the same, where a file is lent or not
 abbrev pub with_file : Option (List ℕ) → Given → Given

@@ -1,25 +1,25 @@
 // Four linear programs over one matrix, solved lane by lane: the public call.
 #![tactic(auto)]
 
-ghost use Rattle.std.specs.Prelude.{◌≡◌, ◌&&◌, ◌++◌, ℕ, ◌<◌, ◌≤◌, leb, length, drop, replicate, option_map};
-ghost use Rattle.csr.specs.Csr.{Accepted, max_stored};
+ghost use Rattle.std.specs.Prelude.{◌≡◌, ◌&&◌, ℕ, ◌<◌, ◌≤◌, leb, length, IfOk, option_map};
+ghost use Rattle.csr.specs.Csr.{max_stored};
 ghost use Rattle.csr.specs.Verdict.{told_asked, and_then};
-ghost use Rattle.lanes.specs.Arithmetic.{null};
-ghost use Rattle.lanes.specs.Controls.{controls};
 ghost use Rattle.machine.specs.declared.Outcome.TheVariants.{NoAt11};
 ghost use Rattle.machine.specs.Outcome.{largest_limit};
 ghost use Rattle.memory.specs.Planned.{Planned};
-ghost use Rattle.ipm_simd.specs.Solve.{given, with_file, lent, told_solve, outcome_verdict, lengths_right, lengths_verdict, if_filed, Solved};
+ghost use Rattle.ipm_simd.specs.Solve.{given_of, with_file, lent, told_solve, outcome_verdict, lengths_right, lengths_verdict, if_filed, Solved};
 ghost use Rattle.ipm_simd.specs.Parts.{Asked10, Ends, Continued};
 ghost use Rattle.csr.specs.Questions.{max_rows, max_columns, first_no};
 ghost use Rattle.plan_file.specs.Matrix.{matrix_lists};
 ghost use Rattle.plan_file.specs.Tables.{wide};
 ghost use Rattle.plan_file.specs.Verdicts.{file_verdict};
 
-use csr::Refusal;
+use csr::{Matrix, Refusal, Rows};
 use lanes::Controls;
 use layout::{Block, LANES, Plan};
 use machine::Outcome;
+use memory::Task;
+use sparse::ByRow;
 
 // The tolerances of the lanes: primal, dual, optimality.
 const TOLERANCES: usize = 3 * LANES;
@@ -97,14 +97,6 @@ fn ask_lengths(
     Ok(())
 }
 
-// +0.0 in the first k numbers.
-fn clear_front(work: &mut [f64], k: usize)
-    requires { k ≤ length work.old }
-    ensures { work.new ≡ replicate k null ++ drop k work.old }
-{
-    work[..k].fill(0.0);
-}
-
 // The answer, where y has so many numbers.
 fn answer(outcome: Outcome, prices: usize) -> Result<Solution, Refusal>
     requires { (k l : ℕ) → outcome ≡ NoAt11 k l → l < 4 }
@@ -117,120 +109,111 @@ fn answer(outcome: Outcome, prices: usize) -> Result<Solution, Refusal>
     }
 }
 
+// Four linear programs over one matrix: m rows, n columns and s slack rows, the matrix with its values, and b, c and the tolerances of all lanes.
+#[derive(Clone, Copy)]
+pub struct Problem<'a> {
+    pub m: usize,
+    pub n: usize,
+    pub s: usize,
+    pub rows: Rows<'a>,
+    pub values: &'a [f64],
+    pub b: &'a [f64],
+    pub c: &'a [f64],
+    pub tolerances: &'a [f64],
+}
+
 // The tests, the outputs and the clearing, after the yeses and the plan.
+// The buffers are parameters of their own, here and below: tried as a struct of `&mut`, whose fields the check does not know at the end by name, nor that they kept their length.
 fn solve_planned(
     plan: Plan,
-    offsets: &[u32],
-    columns: &[u32],
-    values: &[f64],
-    b: &[f64],
-    c: &[f64],
-    tolerances: &[f64],
+    problem: &Problem<'_>,
     controls: Controls,
     output: &mut [f64],
     prices: &mut [f64],
     index: &[u32],
     work: &mut [f64],
 ) -> Result<Solution, Refusal>
-    requires { Planned offsets.now columns.now values.now plan index.now × Asked10 (given plan.m plan.n plan.s offsets.now columns.now values.now b.now c.now tolerances.now controls) (lent output.old prices.old index.now work.old) plan.stored plan.shared plan.products }
-    ensures { Ends (given plan.m plan.n plan.s offsets.now columns.now values.now b.now c.now tolerances.now controls) plan output.old prices.old work.old (lent output.new prices.new index.now work.new) result }
+    requires { Planned problem.now.rows.offsets.now problem.now.rows.columns.now problem.now.values.now plan index.now × (problem.now.m ≡ plan.m) × (problem.now.n ≡ plan.n) × (problem.now.s ≡ plan.s) × Asked10 (given_of problem.now controls) (lent output.old prices.old index.now work.old) plan.stored plan.shared plan.products }
+    ensures { Ends (given_of problem.now controls) plan output.old prices.old work.old (lent output.new prices.new index.now work.new) result }
 {
     let room = plan.numbers(LANES);
-    let block = Block {
-        total: LANES,
-        first: 0,
+    let task = Task {
+        rows: ByRow {
+            off: problem.rows.offsets,
+            cols: problem.rows.columns,
+            vals: problem.values,
+        },
+        lists: plan.lists(index),
+        b: problem.b,
+        c: problem.c,
+        tolerances: problem.tolerances,
+        block: Block {
+            total: LANES,
+            first: 0,
+        },
     };
-    let outcome = run::run(
-        offsets, columns, values, index, plan, b, c, tolerances, block, work, LANES, controls,
-    );
+    let outcome = run::run(&task, work, LANES, controls);
     outputs::write_outputs(outcome, plan, LANES, output, prices, work);
-    clear_front(work, room);
+    base::fill_front(work, room, 0.0);
     answer(outcome, prices.len())
 }
 
 // Questions 6 to 10 and 13 of a matrix that has passed 1 to 5, and the solve. The plan is written once all of them got a yes.
 fn solve_accepted(
-    m: usize,
-    n: usize,
-    s: usize,
-    offsets: &[u32],
-    columns: &[u32],
-    values: &[f64],
-    b: &[f64],
-    c: &[f64],
-    tolerances: &[f64],
+    matrix: &Matrix<'_>,
+    problem: &Problem<'_>,
     controls: Controls,
     output: &mut [f64],
     prices: &mut [f64],
     index: &mut [u32],
     work: &mut [f64],
 ) -> Result<Solution, Refusal>
-    requires { Accepted offsets.now columns.now m n × (length values.now ≡ length columns.now) }
-    ensures { Continued (given m n s offsets.now columns.now values.now b.now c.now tolerances.now controls) (lent output.old prices.old index.old work.old) (lent output.new prices.new index.new work.new) result }
+    requires { (matrix.now.m ≡ problem.now.m) × (matrix.now.n ≡ problem.now.n) × (matrix.now.rows ≡ problem.now.rows) × (length problem.now.values.now ≡ length problem.now.rows.columns.now) }
+    ensures { Continued (given_of problem.now controls) (lent output.old prices.old index.old work.old) (lent output.new prices.new index.new work.new) result }
 {
     let lengths = Lengths {
         index: index.len(),
-        b: b.len(),
-        c: c.len(),
-        tolerances: tolerances.len(),
+        b: problem.b.len(),
+        c: problem.c.len(),
+        tolerances: problem.tolerances.len(),
         output: output.len(),
         prices: prices.len(),
         work: work.len(),
     };
-    let plan = counts::plan_sizes(m, n, s, offsets, columns);
+    let plan = counts::plan_sizes(matrix, problem.s);
     ask_lengths(plan.words(), plan, lengths, controls)?;
-    ipm_common::plan_accepted(m, n, offsets, columns, index)?;
-    solve_planned(
-        plan, offsets, columns, values, b, c, tolerances, controls, output, prices, index, work,
-    )
+    ipm_common::plan_accepted(matrix, index)?;
+    solve_planned(plan, problem, controls, output, prices, index, work)
 }
 
 // Questions 1 to 5, of a matrix with so many values, and 14 to 16, of a file that is lent.
-fn ask_matrix(
-    m: usize,
-    n: usize,
-    offsets: &[u32],
-    columns: &[u32],
-    values: usize,
-    file: Option<&[u8]>,
-) -> Result<(), Refusal>
-    ensures { told_asked result ≡ and_then (first_no m n offsets.now columns.now values) (if_filed (option_map (λ f. f.now) file.entry) (file_verdict wide (matrix_lists offsets.now columns.now m n))) }
+fn ask_matrix<'a>(problem: &Problem<'a>, file: Option<&'a [u8]>) -> Result<Matrix<'a>, Refusal>
+    ensures verdict { told_asked result ≡ and_then (first_no problem.now.m problem.now.n problem.now.rows.offsets.now problem.now.rows.columns.now (length problem.now.values.now)) (if_filed (option_map (λ f. f.now) file.entry) (file_verdict wide (matrix_lists problem.now.rows.offsets.now problem.now.rows.columns.now problem.now.m problem.now.n))) }
+    ensures matrix { IfOk result (λ M. (M.m ≡ problem.now.m) × (M.n ≡ problem.now.n) × (M.rows ≡ problem.now.rows)) }
 {
+    let Problem { m, n, rows, .. } = *problem;
+    let values = problem.values.len();
     match file {
-        Some(file) => file_questions::ask(m, n, offsets, columns, values, file),
-        None => csr::ask(m, n, offsets, columns, values),
+        Some(file) => {
+            let asked = file_questions::ask(m, n, &rows, values, file)?;
+            Ok(asked.matrix)
+        }
+        None => csr::ask(m, n, &rows, values),
     }
 }
 
 // Solve four linear programs. A plan's file is looked at where one is lent. Any numbers, any lists, any floats, any bytes.
 pub fn solve(
-    m: usize,
-    n: usize,
-    s: usize,
-    offsets: &[u32],
-    columns: &[u32],
-    values: &[f64],
-    b: &[f64],
-    c: &[f64],
-    tolerances: &[f64],
-    limit: usize,
-    centring: f64,
-    damping: f64,
+    problem: &Problem<'_>,
+    controls: Controls,
     file: Option<&[u8]>,
     output: &mut [f64],
     prices: &mut [f64],
     index: &mut [u32],
     work: &mut [f64],
 ) -> Result<Solution, Refusal>
-    ensures { Solved (with_file (option_map (λ f. f.now) file.entry) (given m n s offsets.now columns.now values.now b.now c.now tolerances.now (controls limit centring damping))) (lent output.old prices.old index.old work.old) (lent output.new prices.new index.new work.new) result }
+    ensures { Solved (with_file (option_map (λ f. f.now) file.entry) (given_of problem.now controls)) (lent output.old prices.old index.old work.old) (lent output.new prices.new index.new work.new) result }
 {
-    let controls = Controls {
-        limit,
-        centring,
-        damping,
-    };
-    ask_matrix(m, n, offsets, columns, values.len(), file)?;
-    solve_accepted(
-        m, n, s, offsets, columns, values, b, c, tolerances, controls, output, prices, index, work,
-    )
+    let matrix = ask_matrix(problem, file)?;
+    solve_accepted(&matrix, problem, controls, output, prices, index, work)
 }

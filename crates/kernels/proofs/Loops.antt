@@ -82,9 +82,6 @@ three_turn {width} {o} {p} {q} {i} {n} A B C {old} {new} {w1} {w2} {w3} {a} {b} 
     k3 : Kept width o (3 * n) old w3
     k3 = rw e3 (kept_put k2 (q + i) c (omega (arith, ep, eq)) (omega (arith, ep, eq)))
 
-pub three : {width o p q i n : ℕ} (A B C : ℕ → ℕ → Float) {old new : List Float} → Three width o p q i n A B C old new → i ≡ n → FillsThree width o p q n (λ l. vec n (A l)) (λ l. vec n (B l)) (λ l. vec n (C l)) old new
-three {width} {o} {p} {q} {i} {n} A B C {old} {new} w e = let w' : Three width o p q n n A B C old new = rw e at w in record { kept = w'.kept; first = w'.first.within; second = w'.second.within; third = w'.third.within }
-
 -- ---- the updates
 
 abbrev pub moved_lane : ℕ → ℕ → ℕ → ℕ → List Float → List Float → ℕ → ℕ → Float

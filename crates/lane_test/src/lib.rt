@@ -9,8 +9,7 @@ ghost use Rattle.lanes.specs.Region.{reg};
 ghost use Rattle.sparse.specs.Parts.{Rows, Cols};
 ghost use Rattle.machine.specs.Machine.{Settings};
 ghost use Rattle.machine.specs.declared.Status.TheVariants.{Spoilt};
-ghost use Rattle.memory.specs.Numbers.{Lent};
-ghost use Rattle.memory.specs.Planned.{Planned, problem_in, data_in};
+ghost use Rattle.memory.specs.Tasks.{TaskLent, task_problem, task_data};
 ghost use Rattle.layout.specs.Layout.{l_in};
 ghost use Rattle.lane_test.specs.Measures.{judged, Measured, Judges, primal_tol, dual_tol, gap_tol, judged_lane};
 ghost use Rattle.kernels.specs.Kernels.{Laid, Within, w_in, slack_y};
@@ -21,6 +20,7 @@ use kernels::{dot_product, squares_and_products};
 use lanes::{add4, div4, mul4, one4, root4, splat};
 use layout::{Block, Plan, Regions};
 use machine::Status;
+use memory::Task;
 use residuals::{dual_squares, primal_squares};
 
 fn vector_norm(work: &[f64], width: usize, o: usize, k: usize) -> [f64; 4]
@@ -148,32 +148,22 @@ fn judge4(
 
 // The test: of each lane, what its numbers yield, given what `measure` says of them and the divisors of R and of Q.
 pub fn test(
-    off: &[u32],
-    cols: &[u32],
-    vals: &[f64],
-    index: &[u32],
-    plan: Plan,
-    b: &[f64],
-    c: &[f64],
-    tol: &[f64],
-    block: Block,
+    task: &Task<'_>,
     work: &[f64],
     width: usize,
     sums: Measures,
     rdiv: [f64; 4],
     qdiv: [f64; 4],
 ) -> [Status; 4]
-    requires { Planned off.now cols.now vals.now plan index.now × Lent block width plan.m plan.n plan.s b.now c.now tol.now × (l_in plan ≤ room width work.now) }
-    ensures { (H : Settings) → Judges width (problem_in plan off.now cols.now vals.now) H (data_in plan block b.now c.now tol.now) work.now sums.nx sums.ny sums.g sums.mu rdiv qdiv result }
+    requires { TaskLent width task.now × (l_in task.now.lists.plan ≤ room width work.now) }
+    ensures { (H : Settings) → Judges width (task_problem task.now) H (task_data task.now task.now.tolerances.now) work.now sums.nx sums.ny sums.g sums.mu rdiv qdiv result }
 {
     let Measures { nx, ny, g, mu } = sums;
-    let mem = plan.regions();
-    let atindptr = plan.atindptr(index);
-    let atindices = plan.atindices(index);
-    let atmap = plan.atmap(index);
-    let primal = primal_squares(off, cols, vals, b, block, work, width, mem);
-    let dual = dual_squares(atindptr, atindices, atmap, vals, c, block, work, width, mem);
+    let mem = task.lists.plan.regions();
+    let block = task.block;
+    let primal = primal_squares(&task.rows, task.b, block, work, width, mem);
+    let dual = dual_squares(&task.columns(), task.c, block, work, width, mem);
     let r = root_over(primal, rdiv);
     let q = root_over(dual, qdiv);
-    judge4(r, q, gap_in(g, nx, ny), mu, tol, block, width)
+    judge4(r, q, gap_in(g, nx, ny), mu, task.tolerances, block, width)
 }

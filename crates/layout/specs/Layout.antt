@@ -42,6 +42,7 @@ regions_of m n s =
     }
 
 -- the largest number of 64 bits
+-- asked of a plan in clauses: a plan of any numbers can be made
 abbrev pub top_word : ℕ
 top_word = 18446744073709551615
 

@@ -1,5 +1,5 @@
 -- The lists of the index memory: where each begins. The names are the Rust's fields, and the last three are the matrix's columns. Definitions only.
-use Rattle.std.specs.Prelude.{List, [], ◌∷◌, ℕ, ◌+◌, ◌*◌, ◌≤◌, length}
+use Rattle.std.specs.Prelude.{◌≡◌, List, [], ◌∷◌, ℕ, ◌+◌, ◌*◌, ◌≤◌, length}
 use Rattle.base.specs.Numbers.{cut}
 use Rattle.layout.specs.declared.Plan.{Plan}
 use Rattle.layout.specs.declared.Starts.{Starts}
@@ -170,3 +170,23 @@ atmap_in p index = cut (atmap_at p) (words_at p) index
 pub record Indexed (p : Plan) (index : List ℕ) : Type 0 where
   pub room : words_at p ≤ length index
   pub fits : 4 * words_at p ≤ top_word
+
+-- lists that are a plan's in an index memory
+pub record Listed (p : Plan) (index anorm_indptr anorm_indptr_i anorm_indptr_j anorm_indices ldecomp_indptr ldecomp_indptr_i ldecomp_indptr_j lindptr ldiag_indptr lindices ltindptr ltindices ltmap atindptr atindices atmap : List ℕ) : Type 0 where
+  pub indexed : Indexed p index
+  pub anorm_indptr_is : anorm_indptr ≡ anorm_indptr_in p index
+  pub anorm_indptr_i_is : anorm_indptr_i ≡ anorm_indptr_i_in p index
+  pub anorm_indptr_j_is : anorm_indptr_j ≡ anorm_indptr_j_in p index
+  pub anorm_indices_is : anorm_indices ≡ anorm_indices_in p index
+  pub ldecomp_indptr_is : ldecomp_indptr ≡ ldecomp_indptr_in p index
+  pub ldecomp_indptr_i_is : ldecomp_indptr_i ≡ ldecomp_indptr_i_in p index
+  pub ldecomp_indptr_j_is : ldecomp_indptr_j ≡ ldecomp_indptr_j_in p index
+  pub lindptr_is : lindptr ≡ lindptr_in p index
+  pub ldiag_indptr_is : ldiag_indptr ≡ ldiag_indptr_in p index
+  pub lindices_is : lindices ≡ lindices_in p index
+  pub ltindptr_is : ltindptr ≡ ltindptr_in p index
+  pub ltindices_is : ltindices ≡ ltindices_in p index
+  pub ltmap_is : ltmap ≡ ltmap_in p index
+  pub atindptr_is : atindptr ≡ atindptr_in p index
+  pub atindices_is : atindices ≡ atindices_in p index
+  pub atmap_is : atmap ≡ atmap_in p index

@@ -1,10 +1,10 @@
 // The plan of a solve by value, and the layout of its two memories: where each region of the working memory and each list of the index memory begins.
 #![tactic(auto)]
 
-ghost use Rattle.std.specs.Prelude.{◌≡◌, ◌*◌, ◌≤◌, length};
-ghost use Rattle.base.specs.Numbers.{cut};
+ghost use Rattle.std.specs.Prelude.{◌≡◌, ◌≤◌};
+ghost use Rattle.base.proofs.Facts.{facts};
 ghost use Rattle.layout.specs.Layout.{plan_of, l_in, top_in, numbers_of, regions_of, top_word};
-ghost use Rattle.layout.specs.Lists.{starts_of, sizes_of, words_at, anorm_indptr_in, anorm_indptr_i_in, anorm_indptr_j_in, anorm_indices_in, ldecomp_indptr_in, ldecomp_indptr_i_in, ldecomp_indptr_j_in, lindptr_in, ldiag_indptr_in, lindices_in, ltindptr_in, ltindices_in, ltmap_in, atindptr_in, atindices_in, atmap_in, Indexed};
+ghost use Rattle.layout.specs.Lists.{starts_of, sizes_of, words_at, Indexed, Listed};
 
 // The lanes of a call.
 pub const LANES: usize = 4;
@@ -69,12 +69,44 @@ struct Starts {
     words: usize,
 }
 
-// The elements from a to e - 1.
-fn between(s: &[u32], a: usize, e: usize) -> &[u32]
-    requires { (a ≤ e) × (e ≤ length s.now) × (4 * a ≤ top_word) }
-    ensures { result.now ≡ cut a e s.now }
-{
-    &s[a..e]
+// The lists of the index memory, by the Rust's names, with the plan whose lists they are and the memory that they stand in.
+#[derive(Clone, Copy)]
+pub struct Lists<'a> {
+    pub plan: Plan,
+    pub index: &'a [u32],
+    // The shared columns of entry e stand from number e of this list to number e + 1.
+    pub anorm_indptr: &'a [u32],
+    // Of each shared column, where the row's value stands.
+    pub anorm_indptr_i: &'a [u32],
+    // Of each shared column, where the column's row has its value.
+    pub anorm_indptr_j: &'a [u32],
+    // Of each shared column, which it is.
+    pub anorm_indices: &'a [u32],
+    // The products of entry e stand from number e of this list to number e + 1.
+    pub ldecomp_indptr: &'a [u32],
+    // Of each product, its first entry.
+    pub ldecomp_indptr_i: &'a [u32],
+    // Of each product, its second entry.
+    pub ldecomp_indptr_j: &'a [u32],
+    // Row i of the factor stands from number i of this list to number i + 1.
+    pub lindptr: &'a [u32],
+    // Where each row's diagonal entry stands.
+    pub ldiag_indptr: &'a [u32],
+    // Each entry's column.
+    pub lindices: &'a [u32],
+    // Column j of the factor stands from number j of this list to number j + 1.
+    pub ltindptr: &'a [u32],
+    // The rows of each column.
+    pub ltindices: &'a [u32],
+    // Where those entries stand in the factor.
+    pub ltmap: &'a [u32],
+    // Column e of the matrix stands from number e of this list to number e + 1.
+    pub atindptr: &'a [u32],
+    // The rows of each column.
+    pub atindices: &'a [u32],
+    // Where those entries stand in the matrix's values.
+    pub atmap: &'a [u32],
+    ghost listed: { Listed plan index.now anorm_indptr.now anorm_indptr_i.now anorm_indptr_j.now anorm_indices.now ldecomp_indptr.now ldecomp_indptr_i.now ldecomp_indptr_j.now lindptr.now ldiag_indptr.now lindices.now ltindptr.now ltindices.now ltmap.now atindptr.now atindices.now atmap.now } by { Prim.hlevel facts },
 }
 
 impl Plan {
@@ -235,151 +267,34 @@ impl Plan {
         requires { words_at self ≤ top_word }
         ensures { result ≡ words_at self }
     {
-        let at = self.starts();
-        at.words
+        self.starts().words
     }
 
-    // The shared columns of entry e stand from number e of this list to number e + 1.
-    pub fn anorm_indptr(self, index: &[u32]) -> &[u32]
+    // The lists of a plan in the index memory.
+    pub fn lists(self, index: &[u32]) -> Lists<'_>
         requires { Indexed self index.now }
-        ensures { result.now ≡ anorm_indptr_in self index.now }
+        ensures { (result.plan ≡ self) × (result.index.now ≡ index.now) }
     {
         let at = self.starts();
-        between(index, at.anorm_indptr, at.anorm_indptr_i)
-    }
-
-    // Of each shared column, where the row's value stands.
-    pub fn anorm_indptr_i(self, index: &[u32]) -> &[u32]
-        requires { Indexed self index.now }
-        ensures { result.now ≡ anorm_indptr_i_in self index.now }
-    {
-        let at = self.starts();
-        between(index, at.anorm_indptr_i, at.anorm_indptr_j)
-    }
-
-    // Of each shared column, where the column's row has its value.
-    pub fn anorm_indptr_j(self, index: &[u32]) -> &[u32]
-        requires { Indexed self index.now }
-        ensures { result.now ≡ anorm_indptr_j_in self index.now }
-    {
-        let at = self.starts();
-        between(index, at.anorm_indptr_j, at.anorm_indices)
-    }
-
-    // Of each shared column, which it is.
-    pub fn anorm_indices(self, index: &[u32]) -> &[u32]
-        requires { Indexed self index.now }
-        ensures { result.now ≡ anorm_indices_in self index.now }
-    {
-        let at = self.starts();
-        between(index, at.anorm_indices, at.ldecomp_indptr)
-    }
-
-    // The products of entry e stand from number e of this list to number e + 1.
-    pub fn ldecomp_indptr(self, index: &[u32]) -> &[u32]
-        requires { Indexed self index.now }
-        ensures { result.now ≡ ldecomp_indptr_in self index.now }
-    {
-        let at = self.starts();
-        between(index, at.ldecomp_indptr, at.ldecomp_indptr_i)
-    }
-
-    // Of each product, its first entry.
-    pub fn ldecomp_indptr_i(self, index: &[u32]) -> &[u32]
-        requires { Indexed self index.now }
-        ensures { result.now ≡ ldecomp_indptr_i_in self index.now }
-    {
-        let at = self.starts();
-        between(index, at.ldecomp_indptr_i, at.ldecomp_indptr_j)
-    }
-
-    // Of each product, its second entry.
-    pub fn ldecomp_indptr_j(self, index: &[u32]) -> &[u32]
-        requires { Indexed self index.now }
-        ensures { result.now ≡ ldecomp_indptr_j_in self index.now }
-    {
-        let at = self.starts();
-        between(index, at.ldecomp_indptr_j, at.lindptr)
-    }
-
-    // Row i of the factor stands from number i of this list to number i + 1.
-    pub fn lindptr(self, index: &[u32]) -> &[u32]
-        requires { Indexed self index.now }
-        ensures { result.now ≡ lindptr_in self index.now }
-    {
-        let at = self.starts();
-        between(index, at.lindptr, at.ldiag_indptr)
-    }
-
-    // Where each row's diagonal entry stands.
-    pub fn ldiag_indptr(self, index: &[u32]) -> &[u32]
-        requires { Indexed self index.now }
-        ensures { result.now ≡ ldiag_indptr_in self index.now }
-    {
-        let at = self.starts();
-        between(index, at.ldiag_indptr, at.lindices)
-    }
-
-    // Each entry's column.
-    pub fn lindices(self, index: &[u32]) -> &[u32]
-        requires { Indexed self index.now }
-        ensures { result.now ≡ lindices_in self index.now }
-    {
-        let at = self.starts();
-        between(index, at.lindices, at.ltindptr)
-    }
-
-    // Column j of the factor stands from number j of this list to number j + 1.
-    pub fn ltindptr(self, index: &[u32]) -> &[u32]
-        requires { Indexed self index.now }
-        ensures { result.now ≡ ltindptr_in self index.now }
-    {
-        let at = self.starts();
-        between(index, at.ltindptr, at.ltindices)
-    }
-
-    // The rows of each column.
-    pub fn ltindices(self, index: &[u32]) -> &[u32]
-        requires { Indexed self index.now }
-        ensures { result.now ≡ ltindices_in self index.now }
-    {
-        let at = self.starts();
-        between(index, at.ltindices, at.ltmap)
-    }
-
-    // Where those entries stand in the factor.
-    pub fn ltmap(self, index: &[u32]) -> &[u32]
-        requires { Indexed self index.now }
-        ensures { result.now ≡ ltmap_in self index.now }
-    {
-        let at = self.starts();
-        between(index, at.ltmap, at.atindptr)
-    }
-
-    // Column e of the matrix stands from number e of this list to number e + 1.
-    pub fn atindptr(self, index: &[u32]) -> &[u32]
-        requires { Indexed self index.now }
-        ensures { result.now ≡ atindptr_in self index.now }
-    {
-        let at = self.starts();
-        between(index, at.atindptr, at.atindices)
-    }
-
-    // The rows of each column.
-    pub fn atindices(self, index: &[u32]) -> &[u32]
-        requires { Indexed self index.now }
-        ensures { result.now ≡ atindices_in self index.now }
-    {
-        let at = self.starts();
-        between(index, at.atindices, at.atmap)
-    }
-
-    // Where those entries stand in the matrix's values.
-    pub fn atmap(self, index: &[u32]) -> &[u32]
-        requires { Indexed self index.now }
-        ensures { result.now ≡ atmap_in self index.now }
-    {
-        let at = self.starts();
-        between(index, at.atmap, at.words)
+        Lists {
+            plan: self,
+            index,
+            anorm_indptr: &index[at.anorm_indptr..at.anorm_indptr_i],
+            anorm_indptr_i: &index[at.anorm_indptr_i..at.anorm_indptr_j],
+            anorm_indptr_j: &index[at.anorm_indptr_j..at.anorm_indices],
+            anorm_indices: &index[at.anorm_indices..at.ldecomp_indptr],
+            ldecomp_indptr: &index[at.ldecomp_indptr..at.ldecomp_indptr_i],
+            ldecomp_indptr_i: &index[at.ldecomp_indptr_i..at.ldecomp_indptr_j],
+            ldecomp_indptr_j: &index[at.ldecomp_indptr_j..at.lindptr],
+            lindptr: &index[at.lindptr..at.ldiag_indptr],
+            ldiag_indptr: &index[at.ldiag_indptr..at.lindices],
+            lindices: &index[at.lindices..at.ltindptr],
+            ltindptr: &index[at.ltindptr..at.ltindices],
+            ltindices: &index[at.ltindices..at.ltmap],
+            ltmap: &index[at.ltmap..at.atindptr],
+            atindptr: &index[at.atindptr..at.atindices],
+            atindices: &index[at.atindices..at.atmap],
+            atmap: &index[at.atmap..at.words],
+        }
     }
 }

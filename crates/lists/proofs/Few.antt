@@ -13,7 +13,7 @@ use Rattle.csr.specs.Pattern.{row}
 use Rattle.csr.specs.Csr.{Csr}
 use Rattle.csr.specs.Counts.{common, is_stored, count_e, count_s, count_d}
 use Rattle.csr.proofs.Has.{common_le, common_second}
-use Rattle.csr.proofs.Rows.{rows_le}
+use Rattle.csr.proofs.RowParts.{rows_le}
 
 -- ---- pairs j ≤ i of m rows, and triples k < j ≤ i
 

@@ -14,7 +14,7 @@ use Rattle.base.specs.Numbers.{Below, Rising}
 use Rattle.base.specs.Sums.{sum, one}
 use Rattle.csr.specs.Counts.{common, is_stored, count_e, count_s, count_d, size_w}
 use Rattle.base.proofs.Sums.{sum_ext, sum_add, sum_zero, sum_plus, sum_swap, sum_ones, sum_once}
-use Rattle.csr.proofs.Rows.{row_length}
+use Rattle.csr.proofs.RowParts.{row_length}
 use Rattle.base.specs.Cat.{cat, pick, pairs}
 use Rattle.csr.specs.Csr.{Accepted}
 use Rattle.lists.specs.Lists.{shape, weight, lplace, place, before, piece, list_of, shared, products, holds, entry, in_column, column, column_ends, columns, ends_of, columns_of, side_of, ten_of, plan_of, field}

@@ -14,7 +14,7 @@ use Rattle.machine.specs.Machine.{Problem, holds, entry}
 use Rattle.machine.proofs.Walks.{walk, walk_more, each_walk}
 use Rattle.lanes.proofs.Lists.{fold_same}
 use Rattle.base.specs.Numbers.{find}
-use Rattle.csr.proofs.Rows.{row_length, row_at}
+use Rattle.csr.proofs.RowParts.{row_length, row_at}
 
 -- a walk through a list, as a loop over its places
 walk_take : (es : List ℕ) (f : ℕ → Float → Float) (v : Float) (k : ℕ) → k ≤ length es → walk (take k es) f v ≡ fold k (λ j r. f (get_or es j 0) r) v

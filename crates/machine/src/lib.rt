@@ -23,6 +23,7 @@ pub enum Outcome {
 }
 
 impl Status {
+    // By kind alone: a step's mu is not compared, so no derive says this.
     pub fn is_spoilt(self) -> bool
         ensures { result ≡ is_spoilt self }
     {

@@ -1,3 +1,4 @@
 pub mod Numbers
 pub mod Planned
 pub mod Calls
+pub mod Tasks

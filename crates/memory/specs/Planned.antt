@@ -1,5 +1,5 @@
 -- An index memory that begins with the plan of a matrix. Definitions only.
-use Rattle.std.specs.Prelude.{◌≡◌, List, ◌++◌, ℕ, ◌≤◌, length, Float}
+use Rattle.std.specs.Prelude.{◌≡◌, List, ◌++◌, ℕ, ◌≤◌, length, take, Float}
 use Rattle.csr.specs.Csr.{Accepted}
 use Rattle.csr.specs.Counts.{Counted}
 use Rattle.lists.specs.Lists.{plan_words}
@@ -25,6 +25,15 @@ pub record Planned (off cols : List ℕ) (vals : List Float) (p : Plan) (index :
   pub counts : Counted off cols p.m p.stored p.shared p.products
   pub rest : List ℕ
   pub plan : index ≡ plan_words off cols p.m p.n ++ rest
+
+-- the same, said without the rest of the memory
+pub record PlanIn (off cols : List ℕ) (vals : List Float) (p : Plan) (index : List ℕ) : Type 0 where
+  pub ok : Accepted off cols p.m p.n
+  pub values : length vals ≡ length cols
+  pub entries : p.t ≡ length cols
+  pub slack : p.s ≤ p.m
+  pub counts : Counted off cols p.m p.stored p.shared p.products
+  pub plan : take (length (plan_words off cols p.m p.n)) index ≡ plan_words off cols p.m p.n
 
 -- the same, of a matrix that is not named
 pub record Begins (vals : List Float) (p : Plan) (index : List ℕ) : Type 0 where

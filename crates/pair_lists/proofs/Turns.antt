@@ -13,7 +13,7 @@ use Rattle.base.specs.Cat.{cat, pick, pairs, Wrote}
 use Rattle.lists.specs.Lists.{Shape, shape, weight, piece, before, list_of, begins}
 use Rattle.csr.specs.Csr.{RowOf}
 use Rattle.csr.specs.Pattern.{row}
-use Rattle.csr.proofs.Rows.{row_length, row_of}
+use Rattle.csr.proofs.RowParts.{row_length, row_of}
 use Rattle.transpose.specs.Bins.{Grid}
 use Rattle.shared_columns.specs.Marked.{MarkedOver}
 use Rattle.shared_columns.proofs.Marks.{over_next}

@@ -3,25 +3,30 @@
 
 ghost use Rattle.std.specs.Prelude.{◌≡◌, true, false, suc, ◌+◌, ◌-◌, ◌<◌, ◌≤◌, ◌∷◌, length, get_or};
 ghost use Rattle.std.proofs.lemmas.List.Edits.{sets};
-ghost use Rattle.pattern.specs.Word.{bit, pattern_words};
+ghost use Rattle.pattern.specs.Word.{bit};
 ghost use Rattle.base.specs.Sums.{sum};
 ghost use Rattle.base.specs.Cat.{Wrote, cat};
 ghost use Rattle.base.specs.Numbers.{Below};
+ghost use Rattle.base.proofs.Facts.{facts};
+ghost use Rattle.transpose.specs.Bins.{cols_of};
 ghost use Rattle.lists.specs.Lists.{shape, walk_of, piece, weight, list_of, ten_of};
-ghost use Rattle.pair_lists.specs.Kept.{kept, kept_rows, row_ends, Rows, places_of, marks_read, diagonal_only};
+ghost use Rattle.pair_lists.specs.Kept.{kept, kept_rows, row_ends, Rows as RowsOf, places_of, marks_read, diagonal_only};
 ghost use Rattle.pair_lists.specs.Listing.{Listing, Unmarked, RowReady, RowListing, InRow, Counting, AtPair};
 ghost use Rattle.shared_columns.specs.Marked.{MarkedOver};
 ghost use Rattle.csr.specs.Csr.{RowOf, max_places};
 ghost use Rattle.csr.specs.Pattern.{row};
 ghost use Rattle.csr.specs.Questions.{max_rows, max_entries};
 
-use base::{keep, put, store, word_at};
+use base::{keep, put};
+use csr::Rows;
 use lists::{Take, Which};
+use pattern::WORDS;
 use shared_columns::{count_shared, mark_row, put_shared};
+use transpose::{Columns, SparseRows};
 
 // Row i of the pattern as a list of bytes.
-fn list_row(p: &[u64], i: usize, lindices: &mut [u8], start: usize) -> usize
-    requires { (length p.now ≡ pattern_words) × (i < max_rows) × (start + i + 1 ≤ length lindices.old) }
+fn list_row(p: &[u64; WORDS], i: usize, lindices: &mut [u8], start: usize) -> usize
+    requires { (i < max_rows) × (start + i + 1 ≤ length lindices.old) }
     ensures { Wrote lindices.old lindices.new start (kept (bit p.now i) (i + 1)) result }
 {
     let mut at = start;
@@ -32,23 +37,23 @@ fn list_row(p: &[u64], i: usize, lindices: &mut [u8], start: usize) -> usize
 }
 
 // The rows of the pattern as lists: their offsets and their columns.
-pub fn list_rows(p: &[u64], m: usize, lindptr: &mut [u32], lindices: &mut [u8])
-    requires { (length p.now ≡ pattern_words) × (m ≤ max_rows) × (m < length lindptr.old) × (sum m suc ≤ length lindices.old) × (length lindices.old ≤ max_places) }
-    ensures rows { Rows (bit p.now) lindptr.new lindices.new m }
+pub fn list_rows(p: &[u64; WORDS], m: usize, lindptr: &mut [u32], lindices: &mut [u8])
+    requires { (m ≤ max_rows) × (m < length lindptr.old) × (sum m suc ≤ length lindices.old) × (length lindices.old ≤ max_places) }
+    ensures rows { RowsOf (bit p.now) lindptr.new lindices.new m }
     ensures offsets { lindptr.new ≡ sets lindptr.old 0 (0 ∷ row_ends (bit p.now) m) }
     ensures columns { lindices.new ≡ sets lindices.old 0 (kept_rows (bit p.now) m) }
 {
-    store(lindptr, 0, 0);
+    lindptr[0] = 0;
     let mut at = 0;
     for i in 0..m {
         at = list_row(p, i, lindices, at);
-        store(lindptr, i + 1, at as u32);
+        lindptr[i + 1] = at as u32;
     }
 }
 
 // The places, from base on, of the numbers of a list that row q of the pattern holds.
-fn places(p: &[u64], q: usize, l: &[u8], base: u32, index: &mut [u32], start: usize) -> usize
-    requires { (length p.now ≡ pattern_words) × (q < max_rows) × Below max_rows l.now × (base + length l.now ≤ max_places) × (start + length (places_of (bit p.now q) base l.now) ≤ length index.old) }
+fn places(p: &[u64; WORDS], q: usize, l: &[u8], base: u32, index: &mut [u32], start: usize) -> usize
+    requires { (q < max_rows) × Below max_rows l.now × (base + length l.now ≤ max_places) × (start + length (places_of (bit p.now q) base l.now) ≤ length index.old) }
     ensures { Wrote index.old index.new start (places_of (bit p.now q) base l.now) result }
 {
     let mut at = start;
@@ -59,22 +64,23 @@ fn places(p: &[u64], q: usize, l: &[u8], base: u32, index: &mut [u32], start: us
     at
 }
 
-// What stands in row r before its entry at t, and in row q too, by its place.
-pub fn products(
-    p: &[u64],
-    lindptr: &[u32],
-    lindices: &[u8],
-    r: usize,
-    q: usize,
-    t: usize,
-    index: &mut [u32],
-    start: usize,
-) -> usize
-    requires { (length p.now ≡ pattern_words) × InRow (bit p.now) lindptr.now lindices.now r t × (q < max_rows) × (start + length (walk_of (bit p.now) r q (get_or lindices.now t 0) (get_or lindptr.now r 0)) ≤ length index.old) }
-    ensures { Wrote index.old index.new start (walk_of (bit p.now) r q (get_or lindices.now t 0) (get_or lindptr.now r 0)) result }
-{
-    let a = lindptr[r];
-    places(p, q, &lindices[a as usize..t], a, index, start)
+// The pattern of a factor as bits, and its rows as lists: row i's columns stand from number i of lindptr to number i + 1.
+#[derive(Clone, Copy)]
+pub struct FactorRows<'a> {
+    pub p: &'a [u64; WORDS],
+    pub lindptr: &'a [u32],
+    pub lindices: &'a [u8],
+}
+
+impl FactorRows<'_> {
+    // What stands in row r before its entry at t, and in row q too, by its place.
+    pub fn products(&self, r: usize, q: usize, t: usize, index: &mut [u32], start: usize) -> usize
+        requires { InRow (bit self.now.p.now) self.now.lindptr.now self.now.lindices.now r t × (q < max_rows) × (start + length (walk_of (bit self.now.p.now) r q (get_or self.now.lindices.now t 0) (get_or self.now.lindptr.now r 0)) ≤ length index.old) }
+        ensures { Wrote index.old index.new start (walk_of (bit self.now.p.now) r q (get_or self.now.lindices.now t 0) (get_or self.now.lindptr.now r 0)) result }
+    {
+        let a = self.lindptr[r];
+        places(self.p, q, &self.lindices[a as usize..t], a, index, start)
+    }
 }
 
 // Does a list read the marks of a row?
@@ -88,31 +94,31 @@ fn reads_marks(which: Which) -> bool
 }
 
 // Row i marked for a list that reads the marks.
-pub fn mark_for(which: Which, off: &[u32], cols: &[u32], i: usize, mark: &mut [u32])
-    requires { RowOf off.now cols.now i (length mark.old) }
-    ensures read { marks_read which ≡ true → MarkedOver mark.old mark.new (get_or off.now i 0) (row off.now cols.now i) }
+pub fn mark_for(which: Which, rows: &Rows<'_>, i: usize, mark: &mut [u32])
+    requires { RowOf rows.now.offsets.now rows.now.columns.now i (length mark.old) }
+    ensures read { marks_read which ≡ true → MarkedOver mark.old mark.new (get_or rows.now.offsets.now i 0) (row rows.now.offsets.now rows.now.columns.now i) }
     ensures unread { marks_read which ≡ false → mark.new ≡ mark.old }
 {
     if reads_marks(which) {
-        mark_row(off, cols, i, mark);
+        mark_row(rows, i, mark);
     }
 }
 
 // What a list of ends counts at (i, j). Row i is marked.
 pub fn weigh(
     which: Which,
-    off: &[u32],
-    cols: &[u32],
-    p: &[u64],
+    rows: &Rows<'_>,
+    p: &[u64; WORDS],
     mark: &[u32],
     i: usize,
     j: usize,
 ) -> u32
-    requires { RowReady which off.now cols.now p.now mark.now i × (j ≤ i) }
-    ensures { (result ≡ weight (shape off.now cols.now) which i j) × (result ≤ max_entries) }
+    requires { RowReady which rows.now.offsets.now rows.now.columns.now p.now mark.now i × (j ≤ i) }
+    ensures { (result ≡ weight (shape rows.now.offsets.now rows.now.columns.now) which i j) × (result ≤ max_entries) }
 {
+    // The arms do different things: there is no one step to hand over.
     match which {
-        Which::AnormIndptr => count_shared(off, cols, mark, i, j) as u32,
+        Which::AnormIndptr => count_shared(rows, mark, i, j) as u32,
         Which::LdecompIndptr => {
             let t = pattern::both_ones(p, i, j);
             if pattern::test(p, i, j) { t - 1 } else { t }
@@ -135,62 +141,90 @@ pub fn row_first(which: Which, lindptr: &[u32], i: usize) -> usize
     ensures first { diagonal_only which ≡ false → result ≡ get_or lindptr.now i 0 }
 {
     if on_diagonal(which) {
-        word_at(lindptr, i + 1) - 1
+        lindptr[i + 1] as usize - 1
     } else {
-        word_at(lindptr, i)
+        lindptr[i] as usize
     }
 }
 
 // Where a list goes on, and what it has counted.
 #[derive(Clone, Copy)]
-struct Spot {
-    at: usize,
-    n: u32,
+pub struct Spot {
+    pub at: usize,
+    pub n: u32,
 }
 
-// What the lists are written from: the matrix's rows, the pattern of its factor, and the factor's rows.
+// A stored pair of the factor: its row, its column, and its place among the stored.
 #[derive(Clone, Copy)]
-struct Source<'a> {
-    off: &'a [u32],
-    cols: &'a [u32],
-    p: &'a [u64],
-    lindptr: &'a [u32],
-    lindices: &'a [u8],
+pub struct Pair {
+    pub i: usize,
+    pub j: usize,
+    pub t: usize,
 }
 
-impl Source<'_> {
-    // What the stored pair (i, j) adds to a list. t is its place among the stored, n what the list has counted.
-    fn put_piece(
+// What the lists are written from: the matrix's m rows with n columns, and its factor's rows.
+#[derive(Clone, Copy)]
+pub struct Source<'a> {
+    pub m: usize,
+    pub n: usize,
+    pub rows: Rows<'a>,
+    pub factor: FactorRows<'a>,
+    ghost listing: { Listing rows.offsets.now rows.columns.now m factor.p.now factor.lindptr.now factor.lindices.now n } by { Prim.hlevel facts },
+}
+
+impl<'a> Source<'a> {
+    // The matrix's rows, as they are transposed.
+    pub fn matrix_rows(&self) -> SparseRows<'a>
+        ensures { (result.m ≡ self.now.m) × (result.n ≡ self.now.n) × (result.offsets.now ≡ self.now.rows.offsets.now) × (cols_of result.columns ≡ self.now.rows.columns.now) }
+    {
+        SparseRows {
+            m: self.m,
+            n: self.n,
+            offsets: self.rows.offsets,
+            columns: Columns::Words(self.rows.columns),
+        }
+    }
+
+    // And the factor's.
+    pub fn factor_rows(&self) -> SparseRows<'a>
+        ensures { (result.m ≡ self.now.m) × (result.n ≡ self.now.m) × (result.offsets.now ≡ self.now.factor.lindptr.now) × (cols_of result.columns ≡ self.now.factor.lindices.now) }
+    {
+        SparseRows {
+            m: self.m,
+            n: self.m,
+            offsets: self.factor.lindptr,
+            columns: Columns::Bytes(self.factor.lindices),
+        }
+    }
+
+    // What a stored pair adds to a list. n is what the list has counted.
+    // It stands in two loops, plan's and a file's: as a call in them a plan took up to 1.5 times its time.
+    #[inline(always)]
+    pub fn put_piece(
         &self,
         which: Which,
         mark: &[u32],
-        i: usize,
-        j: usize,
-        t: usize,
+        pair: Pair,
         n: u32,
         index: &mut [u32],
         at: usize,
     ) -> usize
-        requires { RowListing which self.now.off.now self.now.cols.now self.now.p.now self.now.lindptr.now self.now.lindices.now mark.now i × AtPair which self.now.off.now self.now.cols.now self.now.lindptr.now self.now.lindices.now i j t n × (at + length (piece (shape self.now.off.now self.now.cols.now) which i j) ≤ length index.old) }
-        ensures { Wrote index.old index.new at (piece (shape self.now.off.now self.now.cols.now) which i j) result }
+        requires { RowListing which self.now.rows.offsets.now self.now.rows.columns.now self.now.factor.p.now self.now.factor.lindptr.now self.now.factor.lindices.now mark.now pair.i × AtPair which self.now.rows.offsets.now self.now.rows.columns.now self.now.factor.lindptr.now self.now.factor.lindices.now pair.i pair.j pair.t n × (at + length (piece (shape self.now.rows.offsets.now self.now.rows.columns.now) which pair.i pair.j) ≤ length index.old) }
+        ensures { Wrote index.old index.new at (piece (shape self.now.rows.offsets.now self.now.rows.columns.now) which pair.i pair.j) result }
     {
-        let Self {
-            off,
-            cols,
-            p,
-            lindptr,
-            lindices,
-        } = *self;
+        let Pair { i, j, t } = pair;
+        let rows = &self.rows;
+        // The arms do different things: there is no one step to hand over.
         match which {
             Which::AnormIndptr => put(index, at, n),
-            Which::AnormIndptrI => put_shared(Take::Left, off, cols, mark, i, j, index, at),
-            Which::AnormIndptrJ => put_shared(Take::Right, off, cols, mark, i, j, index, at),
-            Which::AnormIndices => put_shared(Take::Column, off, cols, mark, i, j, index, at),
+            Which::AnormIndptrI => put_shared(Take::Left, rows, mark, i, j, index, at),
+            Which::AnormIndptrJ => put_shared(Take::Right, rows, mark, i, j, index, at),
+            Which::AnormIndices => put_shared(Take::Column, rows, mark, i, j, index, at),
             Which::LdecompIndptr => put(index, at, n),
-            Which::LdecompIndptrI => products(p, lindptr, lindices, i, j, t, index, at),
+            Which::LdecompIndptrI => self.factor.products(i, j, t, index, at),
             Which::LdecompIndptrJ => {
-                let last = word_at(lindptr, j + 1) - 1;
-                products(p, lindptr, lindices, j, i, last, index, at)
+                let last = self.factor.lindptr[j + 1] as usize - 1;
+                self.factor.products(j, i, last, index, at)
             }
             Which::Lindptr => keep(index, at, (j == i).then_some(t as u32 + 1)),
             Which::LdiagIndptr => keep(index, at, (j == i).then_some(t as u32)),
@@ -208,37 +242,49 @@ impl Source<'_> {
         index: &mut [u32],
         start: usize,
     ) -> Spot
-        requires { RowListing which self.now.off.now self.now.cols.now self.now.p.now self.now.lindptr.now self.now.lindices.now mark.now i × Counting which self.now.off.now self.now.cols.now i count × (start + length (cat (i + 1) (piece (shape self.now.off.now self.now.cols.now) which i)) ≤ length index.old) }
-        ensures { Wrote index.old index.new start (cat (i + 1) (piece (shape self.now.off.now self.now.cols.now) which i)) result.at × Counting which self.now.off.now self.now.cols.now (i + 1) result.n }
+        requires { RowListing which self.now.rows.offsets.now self.now.rows.columns.now self.now.factor.p.now self.now.factor.lindptr.now self.now.factor.lindices.now mark.now i × Counting which self.now.rows.offsets.now self.now.rows.columns.now i count × (start + length (cat (i + 1) (piece (shape self.now.rows.offsets.now self.now.rows.columns.now) which i)) ≤ length index.old) }
+        ensures { Wrote index.old index.new start (cat (i + 1) (piece (shape self.now.rows.offsets.now self.now.rows.columns.now) which i)) result.at × Counting which self.now.rows.offsets.now self.now.rows.columns.now (i + 1) result.n }
     {
+        let FactorRows {
+            p,
+            lindptr,
+            lindices,
+        } = self.factor;
         let mut at = start;
         let mut n = count;
-        let end = self.lindptr[i + 1] as usize;
-        for t in row_first(which, self.lindptr, i)..end {
-            let j = self.lindices[t] as usize;
-            n += weigh(which, self.off, self.cols, self.p, mark, i, j);
-            at = self.put_piece(which, mark, i, j, t, n, index, at);
+        let end = lindptr[i + 1] as usize;
+        for t in row_first(which, lindptr, i)..end {
+            let j = lindices[t] as usize;
+            n += weigh(which, &self.rows, p, mark, i, j);
+            at = self.put_piece(which, mark, Pair { i, j, t }, n, index, at);
         }
         Spot { at, n }
     }
 
-    // One of the ten lists that are written pair by pair, for m rows.
-    fn fill(
-        &self,
-        which: Which,
-        m: usize,
-        mark: &mut [u32],
-        index: &mut [u32],
-        start: usize,
-    ) -> usize
-        requires { Unmarked self.now.off.now self.now.cols.now m self.now.p.now self.now.lindptr.now self.now.lindices.now mark.old × (start + length (list_of (shape self.now.off.now self.now.cols.now) which m) ≤ length index.old) }
-        ensures { Wrote index.old index.new start (list_of (shape self.now.off.now self.now.cols.now) which m) result }
+    // One of the ten lists that are written pair by pair.
+    fn fill(&self, which: Which, mark: &mut [u32], index: &mut [u32], start: usize) -> usize
+        requires { Unmarked self.now.rows.offsets.now self.now.rows.columns.now self.now.m self.now.factor.p.now self.now.factor.lindptr.now self.now.factor.lindices.now mark.old × (start + length (list_of (shape self.now.rows.offsets.now self.now.rows.columns.now) which self.now.m) ≤ length index.old) }
+        ensures { Wrote index.old index.new start (list_of (shape self.now.rows.offsets.now self.now.rows.columns.now) which self.now.m) result }
     {
         let mut at = keep(index, start, lists::has_head(which).then_some(0));
         let mut n = 0;
-        for i in 0..m {
-            mark_for(which, self.off, self.cols, i, mark);
+        for i in 0..self.m {
+            mark_for(which, &self.rows, i, mark);
             Spot { at, n } = self.fill_row(which, mark, i, n, index, at);
+        }
+        at
+    }
+
+    // The ten lists of pairs, one after the other.
+    // What the marks are after is open: each list clears them first.
+    pub fn put_ten(&self, mark: &mut [u32], index: &mut [u32], start: usize) -> usize
+        requires { (start + length (ten_of (shape self.now.rows.offsets.now self.now.rows.columns.now) self.now.m 10) ≤ length index.old) × (self.now.n ≤ length mark.old) }
+        ensures { Wrote index.old index.new start (ten_of (shape self.now.rows.offsets.now self.now.rows.columns.now) self.now.m 10) result }
+    {
+        let mut at = start;
+        for k in 0..LISTS {
+            base::fill_front(mark, self.n, 0);
+            at = self.fill(lists::which_field(k), mark, index, at);
         }
         at
     }
@@ -246,35 +292,3 @@ impl Source<'_> {
 
 // How many lists are written pair by pair.
 const LISTS: usize = 10;
-
-// The ten lists of pairs, one after the other.
-// What the marks are after is open: each list clears them first.
-pub fn put_ten(
-    off: &[u32],
-    cols: &[u32],
-    m: usize,
-    p: &[u64],
-    lindptr: &[u32],
-    lindices: &[u8],
-    wide: usize,
-    mark: &mut [u32],
-    index: &mut [u32],
-    start: usize,
-) -> usize
-    requires { Listing off.now cols.now m p.now lindptr.now lindices.now wide × (start + length (ten_of (shape off.now cols.now) m 10) ≤ length index.old) × (wide ≤ length mark.old) }
-    ensures { Wrote index.old index.new start (ten_of (shape off.now cols.now) m 10) result }
-{
-    let source = Source {
-        off,
-        cols,
-        p,
-        lindptr,
-        lindices,
-    };
-    let mut at = start;
-    for k in 0..LISTS {
-        base::clear(mark, wide);
-        at = source.fill(lists::which_field(k), m, mark, index, at);
-    }
-    at
-}

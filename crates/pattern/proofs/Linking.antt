@@ -1,15 +1,14 @@
 -- Laws of a row seeded with its links. Assumes nothing.
 use mathlib.Core.Path.{◌≡◌, refl, sym, ap, ap₂, ◌∙◌}
-use mathlib.Core.Logic.{◌≢◌}
 use mathlib.Core.Bool.{Bool, true, false, cond, ◌&&◌, ◌||◌}
 use mathlib.Core.List.{List, [], ◌∷◌, ◌++◌}
-use Prim.Native.Nat.{ℕ, zero, suc, ◌+◌, ◌-◌, ◌<◌, ◌≤◌}
+use Prim.Native.Nat.{ℕ, zero, suc, ◌+◌, ◌<◌, ◌≤◌}
 use native.Mathlib.Omega.{arith}
 use native.Mathlib.Decide.{ℕ_discrete, dec_lt}
 use native.Mathlib.Numerals.{add-one}
 use lib.Dec.{eqb, ltb, leb}
-use lib.ListN.{length, get_or, set, take, replicate}
-use lib.Seq.{take-suc, take-length, get_or-set_same, get_or-set_other}
+use lib.ListN.{length, get_or, take, replicate}
+use lib.Seq.{take-suc, take-length}
 use borrow.Author.Tests.{ne_eqb, eq-eqb, lt-ltb, le-ltb, lt-leb}
 use Rattle.csr.specs.Pattern.{has, row, neighbours, stored}
 use Rattle.csr.proofs.Rule.{stored_diag}
@@ -27,49 +26,11 @@ linked_last F [] e j = or_nil (eqb (F e) (suc j))
 linked_last F (x ∷ xs) e j =
     ap (λ (t : Bool). eqb (F x) (suc j) || t) (linked_last F xs e j) ∙ sym (or_assoc (eqb (F x) (suc j)) (linked F xs j) (eqb (F e) (suc j)))
 
--- ---- `link`
-
-module _ (first : List ℕ) (e i : ℕ) (he : e < length first) where
-  -- the column had no row
-  pub link_new : get_or first e 0 ≡ 0 → (x : ℕ) → get_or (set first e (i + 1)) x 0 ≡ cond (eqb x e) (or_else (get_or first e 0) (i + 1)) (get_or first x 0)
-  link_new z x = go (ℕ_discrete x e)
-    where
-      go : Dec (x ≡ e) → get_or (set first e (i + 1)) x 0 ≡ cond (eqb x e) (or_else (get_or first e 0) (i + 1)) (get_or first x 0)
-      go (yes q) = rw (q, eq-eqb e e refl, z) (get_or-set_same first e (i + 1) 0 he)
-      go (no q) = rw (ne_eqb x e q) (get_or-set_other first e x (i + 1) 0 q)
-
-  some_stays : (f y : ℕ) → f ≢ 0 → or_else f y ≡ f
-  some_stays zero y n = absurd (n refl)
-  some_stays (suc f) y n = refl
-
-  pub link_old : get_or first e 0 ≢ 0 → (x : ℕ) → get_or first x 0 ≡ cond (eqb x e) (or_else (get_or first e 0) (i + 1)) (get_or first x 0)
-  link_old n x = go (ℕ_discrete x e)
-    where
-      go : Dec (x ≡ e) → get_or first x 0 ≡ cond (eqb x e) (or_else (get_or first e 0) (i + 1)) (get_or first x 0)
-      go (yes q) = rw (q, eq-eqb e e refl) (sym (some_stays (get_or first e 0) (i + 1) n))
-      go (no q) = rw (ne_eqb x e q)
-
-pub linked_none : (p : List ℕ) (i f : ℕ) → f ≡ 0 → Linked p p i f
-linked_none p i f z a b ha hb = sym (ap (λ (t : Bool). (eqb a i && t) || bit p a b) (ne_eqb f (suc b) (λ e. omega arith)) ∙ go (eqb a i))
-  where
-    go : (t : Bool) → (t && false) || bit p a b ≡ bit p a b
-    go true = refl
-    go false = refl
-
-pub linked_put : (p q : List ℕ) (i f : ℕ) → f ≢ 0 → Put p q i (f - 1) → Linked p q i f
-linked_put p q i f n u a b ha hb = u a b ha hb ∙ ap (λ (t : Bool). (eqb a i && t) || bit p a b) (go (ℕ_discrete b (f - 1)))
-  where
-    go : Dec (b ≡ f - 1) → eqb b (f - 1) ≡ eqb f (suc b)
-    go (yes e) = eq-eqb b (f - 1) e ∙ sym (eq-eqb f (suc b) (omega arith))
-    go (no e) = ne_eqb b (f - 1) e ∙ sym (ne_eqb f (suc b) (λ z. e (omega arith)))
-
 -- ---- a row, column by column
 
 module _ (off cols : List ℕ) (i : ℕ) where
   -- the links of the first q columns of row i are set, and their first rows noted
   pub record Linking (p₀ p first : List ℕ) (q : ℕ) : Type 0 where
-    pub words : length p ≡ 1024
-    pub long : length first ≡ 1024
     pub other : OtherRows p₀ p i
     pub below : (b : ℕ) → b < i → bit p i b ≡ linked (first_of off cols i) (take q (row off cols i)) b
     pub above : (b : ℕ) → i < b → b < 256 → bit p i b ≡ false
@@ -79,11 +40,9 @@ module _ (off cols : List ℕ) (i : ℕ) where
   else_none zero = refl
   else_none (suc x) = refl
 
-  pub linking_start : (p first : List ℕ) → i < 256 → length p ≡ 1024 → length first ≡ 1024 → Clear p i → Firsts first (first_of off cols i) → Linking p p first 0
+  pub linking_start : (p first : List ℕ) → i < 256 → Clear p i → Firsts first (first_of off cols i) → Linking p p first 0
   unfolding linked has
-  linking_start p first hi hp hf c f = record {
-    words = hp;
-    long = hf;
+  linking_start p first hi c f = record {
     other = λ a b _ _ _. refl;
     below = λ b l. c b (omega arith);
     above = λ b _ h. c b h;
@@ -117,7 +76,7 @@ module _ (off cols : List ℕ) (i : ℕ) where
   else_again (suc x) t = refl
 
   module _ {p₀ p first : List ℕ} {q : ℕ} (p' first' : List ℕ) (e : ℕ) (v : Linking p₀ p first q) (hi : i < 256) (hq : q < length (row off cols i))
-      (is : e ≡ get_or (row off cols i) q 0) (he : e < 1024) (len : length p' ≡ length p) (len' : length first' ≡ length first)
+      (is : e ≡ get_or (row off cols i) q 0) (he : e < 1024)
       (noted : (x : ℕ) → get_or first' x 0 ≡ cond (eqb x e) (or_else (get_or first e 0) (i + 1)) (get_or first x 0))
       (set-bits : Linked p p' i (get_or first e 0)) where
     longer : take (q + 1) (row off cols i) ≡ take q (row off cols i) ++ (e ∷ [])
@@ -128,8 +87,6 @@ module _ (off cols : List ℕ) (i : ℕ) where
 
     pub linking_turn : Linking p₀ p' first' (q + 1)
     linking_turn = record {
-      words = len ∙ v.words;
-      long = len' ∙ v.long;
       other = λ a b ha hb n. set-bits a b ha hb ∙ rw (ne_eqb a i n) (v.other a b ha hb n);
       below = λ b l.
           in_row_lem b (omega arith)
@@ -186,9 +143,6 @@ module _ (off cols : List ℕ) (i : ℕ) where
 pub firsts_start : (off cols : List ℕ) → Firsts (replicate 1024 0) (first_of off cols 0)
 unfolding first_of
 firsts_start off cols e h = zeros 1024 e
-
-pub firsts_long : length (replicate {A = ℕ} 1024 0) ≡ 1024
-firsts_long = refl
 
 -- what is stored by links is what is stored
 pub done_links : (off cols p : List ℕ) (i : ℕ) → Done (links off cols) p i → Done (neighbours off cols) p i

@@ -1,10 +1,10 @@
 -- Laws of the whole pattern and of its counts. Assumes nothing.
-use mathlib.Core.Path.{◌≡◌, refl, sym, ap, ap₂, ◌∙◌, subst}
+use mathlib.Core.Path.{◌≡◌, refl, sym, ap, ap₂, ◌∙◌}
 use mathlib.Core.Bool.{Bool, false, ◌&&◌}
 use mathlib.Core.List.{List}
 use Prim.Native.Nat.{ℕ, zero, suc, ◌+◌, ◌*◌, ◌/◌, ◌%◌, ◌<◌, ◌≤◌}
 use native.Mathlib.Omega.{arith}
-use native.Mathlib.Decide.{ℕ_discrete, dec_lt}
+use native.Mathlib.Decide.{dec_lt}
 use lib.Dec.{leb, ltb}
 use lib.ListN.{length, get_or, replicate}
 use borrow.Author.Tests.{le-leb, lt-leb, lt-ltb, le-ltb}
@@ -14,24 +14,11 @@ use Rattle.csr.specs.Questions.{max_entries}
 use Rattle.csr.proofs.Rule.{stored_diag}
 use Rattle.base.specs.Sums.{sum, one}
 use Rattle.csr.specs.Counts.{is_stored, count_e, count_d}
-use Rattle.pattern.specs.Word.{pattern_words, bit, digit, Done, Whole, OtherRows, row_ones, Clear}
+use Rattle.pattern.specs.Word.{pattern_words, bit, digit, Done, Whole, row_ones, Clear}
 use Rattle.pattern.specs.Ready.{Ready}
 use Rattle.base.proofs.Sums.{sum_ext, sum_plus, sum_cut}
 use Rattle.pattern.proofs.Digits.{digit_zero}
 use Rattle.base.proofs.Bools.{and_false, and_true}
-
--- ---- one more row
-
-module _ (nb : ℕ → ℕ → Bool) (p q r : List ℕ) (i : ℕ) (hi : i < 256) (o : OtherRows p q i) (o' : OtherRows q r i) where
-  pub rows_more : ((a : ℕ) → a < i → Done nb p a) → Done nb r i → (a : ℕ) → a < i + 1 → Done nb r a
-  rows_more d e a l = go (ℕ_discrete a i)
-    where
-      go : Dec (a ≡ i) → Done nb r a
-      go (yes q) = subst (λ (x : ℕ). Done nb r x) (sym q) e
-      go (no n) = λ b h. o' a b (omega arith) h n ∙ o a b (omega arith) h n ∙ d a (omega arith) b h
-
-  pub clear_less : ((a : ℕ) → i ≤ a → a < 256 → Clear p a) → (a : ℕ) → i + 1 ≤ a → a < 256 → Clear r a
-  clear_less f a l h b g = o' a b h g (λ e. omega arith) ∙ o a b h g (λ e. omega arith) ∙ f a (omega arith) h b g
 
 -- ---- all rows
 

@@ -5,6 +5,7 @@
 ghost use Rattle.std.specs.Prelude.{◌≡◌, ◌≤◌, length, IfOk};
 
 use cases::{Broken, Ran, begins_with, decode, run_all};
+use csr::Rows;
 use std::{fs, io};
 
 // What stands in the index memory before.
@@ -21,7 +22,12 @@ const PLAN_WORDS: usize = 4096;
 // One case, cut out: whether plan answers W and writes the words.
 fn planned(m: u32, n: u32, offsets: &[u32], columns: &[u32], words: &[u32]) -> bool {
     let mut index = [OLD; PLAN_WORDS];
-    ipm_common::plan(m as usize, n as usize, offsets, columns, &mut index) == Ok(words.len())
+    ipm_common::plan(
+        m as usize,
+        n as usize,
+        &Rows { offsets, columns },
+        &mut index,
+    ) == Ok(words.len())
         && begins_with(&index, words, OLD)
 }
 

@@ -15,7 +15,7 @@ use Rattle.base.proofs.Sums.{sum_le, sum_more, sum_swap, count_le}
 use Rattle.csr.specs.Pattern.{has, row}
 use Rattle.csr.specs.Csr.{Accepted}
 use Rattle.csr.specs.Counts.{count_e, count_s, count_d}
-use Rattle.csr.proofs.Rows.{row_length}
+use Rattle.csr.proofs.RowParts.{row_length}
 use Rattle.lists.specs.Lists.{shape, both, weight, lplace, place, before, piece, list_of, begins, shared, products, holds, entry, in_column, column, column_ends, columns, ends_of, columns_of, field}
 use Rattle.lists.specs.declared.Which.{Which}
 use Rattle.lists.specs.declared.Which.TheVariants.{AnormIndptr, AnormIndptrI, AnormIndptrJ, AnormIndices, LdecompIndptr, LdecompIndptrI, LdecompIndptrJ, Lindptr, LdiagIndptr, Lindices}

@@ -28,7 +28,7 @@ use Rattle.sparse.specs.Sparse.{Ranges}
 use Rattle.plan_laws.proofs.Parts.{cat_all, singles_at}
 use Rattle.base.proofs.Numbers.{cut_part}
 use Rattle.plan_laws.proofs.Picked.{picked, named, named_length, named_same, named_at, picked_rise, picked_has}
-use Rattle.csr.proofs.Rows.{row_length}
+use Rattle.csr.proofs.RowParts.{row_length}
 
 -- ---- any grid of m rows
 module _ (mem : ℕ → ℕ → Bool) (m n : ℕ) where

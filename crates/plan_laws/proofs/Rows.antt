@@ -13,7 +13,7 @@ use Rattle.machine.specs.Work.{problem_of}
 use Rattle.plan_laws.proofs.Picks.{between}
 use Rattle.plan_laws.specs.Meaning.{RowsOf}
 use Rattle.base.proofs.Numbers.{below_at}
-use Rattle.csr.proofs.Rows.{row_length, row_at}
+use Rattle.csr.proofs.RowParts.{row_length, row_at}
 
 module _ (off cols : List ℕ) (m n : ℕ) (ok : Accepted off cols m n) where
   row_below : (i : ℕ) → i < m → (k : ℕ) → get_or off i 0 ≤ k → k < get_or off (i + 1) 0 → get_or cols k 0 < n

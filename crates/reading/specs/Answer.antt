@@ -29,6 +29,7 @@ unfolding solve_verdict solve_buffers
 solve_text a B = verdict_text (solve_verdict a B) (solve_buffers a B).output a.n
 
 -- the most bytes that an answer takes
+-- asked in clauses: the buffer is the caller's, of any length
 abbrev pub answer_bytes : ℕ
 answer_bytes = accepted_bytes most_columns
 

@@ -7,12 +7,13 @@ ghost use Rattle.std.specs.Prelude.{◌≡◌, ◌*◌, ◌≤◌, length};
 ghost use Rattle.io.specs.Counts.{IsPrefixLen};
 ghost use Rattle.base.specs.Cat.{Wrote};
 ghost use Rattle.lanes.specs.Controls.{standard_controls};
-ghost use Rattle.ipm_simd.specs.Solve.{given, lent};
+ghost use Rattle.ipm_simd.specs.Solve.{given_of as problem_given, lent};
 ghost use Rattle.record.specs.Record.{m_of, n_of, most_rows, most_columns};
 ghost use Rattle.reading.specs.Parts.{Whole, Parts, parts_of};
 ghost use Rattle.reading.specs.Answer.{answer_bytes, solve_text, blank, given_of, lent_for, answer_text};
 
-use csr::Numbered;
+use csr::{Numbered, Rows};
+use ipm_simd::Problem;
 use lanes::Controls;
 use record::{LANES, OFFSETS_AT, RecordSizes, SHORT_BYTES, TOLERANCES};
 use record_memory::{
@@ -21,52 +22,28 @@ use record_memory::{
 
 // Solves with the centring and the damping of the Rust, and puts the text of the answer at the start of out. The text has no y, so its memory is made here.
 fn solve_text(
-    m: usize,
-    n: usize,
-    s: usize,
-    offsets: &[u32],
-    columns: &[u32],
-    values: &[f64],
-    b: &[f64],
-    c: &[f64],
-    tolerances: &[f64],
+    problem: &Problem<'_>,
     limit: usize,
     output: &mut [f64],
     index: &mut [u32],
     work: &mut [f64],
     out: &mut [u8],
 ) -> usize
-    requires { (m ≤ most_rows) × (n ≤ most_columns) × (length output.old ≡ 4 * n) × (answer_bytes ≤ length out.old) }
-    ensures { Wrote out.old out.new 0 (solve_text (given m n s offsets.now columns.now values.now b.now c.now tolerances.now (standard_controls limit)) (lent output.old (blank (4 * m)) index.old work.old)) result }
+    requires { (problem.now.m ≤ most_rows) × (problem.now.n ≤ most_columns) × (length output.old ≡ 4 * problem.now.n) × (answer_bytes ≤ length out.old) }
+    ensures { Wrote out.old out.new 0 (solve_text (problem_given problem.now (standard_controls limit)) (lent output.old (blank (4 * problem.now.m)) index.old work.old)) result }
 {
     let mut prices = filled::<f64, MOST_PRICES>(0.0);
-    let price_count = LANES * m;
-    let centring = Controls::CENTRING;
-    let damping = Controls::DAMPING;
-    let answer = ipm_simd::solve(
-        m,
-        n,
-        s,
-        offsets,
-        columns,
-        values,
-        b,
-        c,
-        tolerances,
+    let lent_prices = &mut prices[..LANES * problem.m];
+    let controls = Controls {
         limit,
-        centring,
-        damping,
-        None,
-        output,
-        &mut prices[..price_count],
-        index,
-        work,
-    );
-    match answer {
-        Ok(solution) => answer_text::put_accepted(out, solution.test, output, n),
+        centring: Controls::CENTRING,
+        damping: Controls::DAMPING,
+    };
+    match ipm_simd::solve(problem, controls, None, output, lent_prices, index, work) {
+        Ok(solution) => answer_text::put_accepted(out, solution.test, output, problem.n),
         Err(refusal) => {
             let no = Numbered::from(refusal);
-            answer_text::put_refused(out, no.question, no.place, no.lane)
+            answer_text::put_refused(out, no)
         }
     }
 }
@@ -92,22 +69,20 @@ fn solve_parts(
     let b = t + TOLERANCES;
     let c = b + LANES * m;
     let floats_end = c + LANES * n;
-    solve_text(
+    let problem = Problem {
         m,
         n,
-        sizes.s,
-        &shorts[..columns],
-        &shorts[columns..shorts_end],
-        &floats[..t],
-        &floats[b..c],
-        &floats[c..floats_end],
-        &floats[t..b],
-        sizes.limit,
-        output,
-        index,
-        work,
-        out,
-    )
+        s: sizes.s,
+        rows: Rows {
+            offsets: &shorts[..columns],
+            columns: &shorts[columns..shorts_end],
+        },
+        values: &floats[..t],
+        b: &floats[b..c],
+        c: &floats[c..floats_end],
+        tolerances: &floats[t..b],
+    };
+    solve_text(&problem, sizes.limit, output, index, work, out)
 }
 
 // The answer to a record that matches.

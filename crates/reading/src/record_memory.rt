@@ -35,6 +35,7 @@ pub const WORK_FLOATS: usize = LANES
     * (5 * MOST_COLUMNS + 3 * MOST_ROWS + 2 * MOST_ROWS + MOST_STORED);
 
 // N numbers, all of them x.
+// Fixed memories: the project has no heap.
 pub fn filled<T: Copy, const N: usize>(x: T) -> [T; N]
     ensures { result ≡ replicate N x }
 {

@@ -37,6 +37,7 @@ pub const SHORT_BYTES: usize = 2;
 
 const FLOAT_BYTES: usize = 8;
 
+// A number: so the kind stands in a record.
 const KIND: usize = 1;
 
 // Whether a record of these sizes is within the limits.

@@ -10,7 +10,7 @@ ghost use Rattle.residuals.specs.Residuals.{r_start, primal_sum, dual_sum};
 use entries::{get, get_lanes};
 use lanes::{add4, sub4, zero4};
 use layout::{Block, Regions};
-use sparse::{col_less, plus_in, row_less};
+use sparse::{ByColumn, ByRow, plus_in};
 
 #[tactic(auto, using(lanes::proofs::Regions::room_le))]
 fn r_start(b: &[f64], block: Block, work: &[f64], width: usize, mem: Regions, i: usize) -> [f64; 4]
@@ -28,22 +28,20 @@ fn r_start(b: &[f64], block: Block, work: &[f64], width: usize, mem: Regions, i:
 
 // The sums of squares of the primal residuals.
 pub fn primal_squares(
-    off: &[u32],
-    cols: &[u32],
-    vals: &[f64],
+    rows: &ByRow<'_>,
     b: &[f64],
     block: Block,
     work: &[f64],
     width: usize,
     mem: Regions,
 ) -> [f64; 4]
-    requires { Rows mem.m mem.n off.now cols.now vals.now × Laid width mem work.now × Within block width mem.m b.now }
-    ensures { On width result (primal_sum width mem off.now cols.now vals.now block b.now work.now) }
+    requires { Rows mem.m mem.n rows.now.off.now rows.now.cols.now rows.now.vals.now × Laid width mem work.now × Within block width mem.m b.now }
+    ensures { On width result (primal_sum width mem rows.now.off.now rows.now.cols.now rows.now.vals.now block b.now work.now) }
 {
     let mut acc = zero4();
     for i in 0..mem.m {
         let v = r_start(b, block, work, width, mem, i);
-        let r = row_less(off, cols, vals, work, width, mem.x, i, v);
+        let r = rows.less(work, width, mem.x, i, v);
         let t = plus_in(acc, r, r);
         acc = t;
     }
@@ -53,25 +51,22 @@ pub fn primal_squares(
 // The sums of squares of the dual residuals.
 #[tactic(auto, using(lanes::proofs::Regions::room_le))]
 pub fn dual_squares(
-    atindptr: &[u32],
-    atindices: &[u32],
-    atmap: &[u32],
-    vals: &[f64],
+    columns: &ByColumn<'_>,
     c: &[f64],
     block: Block,
     work: &[f64],
     width: usize,
     mem: Regions,
 ) -> [f64; 4]
-    requires { Cols mem.n mem.m atindptr.now atindices.now atmap.now vals.now × Laid width mem work.now × Within block width mem.n c.now }
-    ensures { On width result (dual_sum width mem atindptr.now atindices.now atmap.now vals.now block c.now work.now) }
+    requires { Cols mem.n mem.m columns.now.atindptr.now columns.now.atindices.now columns.now.atmap.now columns.now.vals.now × Laid width mem work.now × Within block width mem.n c.now }
+    ensures { On width result (dual_sum width mem columns.now.atindptr.now columns.now.atindices.now columns.now.atmap.now columns.now.vals.now block c.now work.now) }
 {
     let mut acc = zero4();
     for e in 0..mem.n {
         let a = get(work, mem.z + e, width);
         let g = get_lanes(c, block.total, e, block.first, width);
         let v = add4(a, g);
-        let q = col_less(atindptr, atindices, atmap, vals, work, width, mem.y, e, v);
+        let q = columns.less(work, width, mem.y, e, v);
         let t = plus_in(acc, q, q);
         acc = t;
     }

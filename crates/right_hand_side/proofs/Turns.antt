@@ -14,8 +14,8 @@ use Rattle.layout.specs.declared.Block.{Block}
 use Rattle.layout.specs.declared.Regions.{Regions}
 use Rattle.sparse.specs.Parts.{plus_row, plus_col}
 use Rattle.kernels.specs.Kernels.{Laid, x_in, tmp_in, y_in}
-use Rattle.kernels.proofs.Loops.{filled, Three, three_turn, three}
-use Rattle.right_hand_side.specs.RightHandSide.{v_start, over_lane, cost_lane, u_lane, f_lane, cost_at, u_at, f_at, RightU, RightF}
+use Rattle.kernels.proofs.Loops.{filled, Three, three_turn}
+use Rattle.right_hand_side.specs.RightHandSide.{v_start, over_lane, cost_lane, u_lane, f_lane, cost_at, u_at, f_at, RightF}
 
 -- ---- the right-hand side, by columns
 
@@ -65,9 +65,6 @@ module _ (width : ℕ) (mem : Regions) (atindptr atindices atmap : List ℕ) (va
 
         overs : On width q (λ l. over_lane width mem mu old l e)
         overs = over_now ex eq
-
-  pub right_end : {old new : List Float} {e : ℕ} → UpTo e old new → e ≡ mem.n → RightU width mem atindptr atindices atmap vals block c mu old new
-  right_end g z = three _ _ _ g z
 
 -- ---- f, by rows
 

@@ -13,7 +13,7 @@ ghost use Rattle.right_hand_side.specs.RightHandSide.{v_start, RightU, RightF};
 use entries::{get, get_lanes, put};
 use lanes::{add4, div4, mul4, neg4, sub4, zero4};
 use layout::{Block, Regions};
-use sparse::{col_plus, row_plus_two};
+use sparse::{ByColumn, ByRow};
 
 fn u_in(x: [f64; 4], cost: [f64; 4], over: [f64; 4], z: [f64; 4]) -> [f64; 4]
     ensures { result ≡ lanes (λ l. at x l ⊗ (at cost l ⊕ at over l) ⊘ at z l) }
@@ -45,10 +45,7 @@ fn v_start(work: &[f64], width: usize, mem: Regions, i: usize, mu: [f64; 4]) -> 
 // The reduced costs c − Aᵀy, mu/x and, of both, u.
 #[tactic(auto, using(lanes::proofs::Regions::room_le))]
 pub fn rhs_u(
-    atindptr: &[u32],
-    atindices: &[u32],
-    atmap: &[u32],
-    vals: &[f64],
+    columns: &ByColumn<'_>,
     c: &[f64],
     block: Block,
     work: &mut [f64],
@@ -56,14 +53,12 @@ pub fn rhs_u(
     mem: Regions,
     mu: [f64; 4],
 )
-    requires { Cols mem.n mem.m atindptr.now atindices.now atmap.now vals.now × Laid width mem work.old × Within block width mem.n c.now }
-    ensures { RightU width mem atindptr.now atindices.now atmap.now vals.now block c.now mu work.old work.new }
+    requires { Cols mem.n mem.m columns.now.atindptr.now columns.now.atindices.now columns.now.atmap.now columns.now.vals.now × Laid width mem work.old × Within block width mem.n c.now }
+    ensures { RightU width mem columns.now.atindptr.now columns.now.atindices.now columns.now.atmap.now columns.now.vals.now block c.now mu work.old work.new }
 {
     let zero = zero4();
     for e in 0..mem.n {
-        let a = col_plus(
-            atindptr, atindices, atmap, vals, work, width, mem.y, e, zero,
-        );
+        let a = columns.plus(work, width, mem.y, e, zero);
         let ce = get_lanes(c, block.total, e, block.first, width);
         let xe = get(work, mem.x + e, width);
         let ze = get(work, mem.z + e, width);
@@ -78,9 +73,7 @@ pub fn rhs_u(
 
 #[tactic(auto, using(lanes::proofs::Regions::room_le))]
 pub fn rhs_f(
-    off: &[u32],
-    cols: &[u32],
-    vals: &[f64],
+    rows: &ByRow<'_>,
     b: &[f64],
     block: Block,
     work: &mut [f64],
@@ -88,13 +81,13 @@ pub fn rhs_f(
     mem: Regions,
     mu: [f64; 4],
 )
-    requires { Rows mem.m mem.n off.now cols.now vals.now × Laid width mem work.old × Within block width mem.m b.now }
-    ensures { RightF width mem off.now cols.now vals.now block b.now mu work.old work.new }
+    requires { Rows mem.m mem.n rows.now.off.now rows.now.cols.now rows.now.vals.now × Laid width mem work.old × Within block width mem.m b.now }
+    ensures { RightF width mem rows.now.off.now rows.now.cols.now rows.now.vals.now block b.now mu work.old work.new }
 {
     let zero = zero4();
     for i in 0..mem.m {
         let q = v_start(work, width, mem, i, mu);
-        let sums = row_plus_two(off, cols, vals, work, width, mem.x, mem.tmp, i, q, zero);
+        let sums = rows.plus_two(work, width, mem.x, mem.tmp, i, q, zero);
         let p = sums.first;
         let a = sums.second;
         let be = get_lanes(b, block.total, i, block.first, width);

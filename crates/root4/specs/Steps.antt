@@ -25,6 +25,7 @@ abbrev pub LeftPatterns : Type 0
 LeftPatterns = (b : ℕ) → left_to_one_lane (of_bits binary64 b) ≡ not (ltb small_bits b && leb b infinity_bits)
 
 -- x is taken
+-- a clause: a type for such a float would make each use longer
 abbrev pub Ample : Float → Type 0
 Ample x = lt small x ≡ true
 

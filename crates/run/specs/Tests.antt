@@ -2,7 +2,6 @@
 use Rattle.std.specs.Prelude.{◌≡◌, cond, not, List, ℕ, ◌≤◌, ◌<◌, eqb, ltb, get_or, Float, Option, Some}
 use Rattle.std.specs.Bool.{then_some}
 use Rattle.lanes.specs.Lists.{first}
-use Rattle.lanes.specs.Lanes.{room as room_for}
 use Rattle.lanes.specs.Arithmetic.{◌⊕◌, norm, one}
 use Rattle.lanes.specs.declared.Controls.{Controls}
 use Rattle.machine.specs.Machine.{Problem, LaneData, Settings, State, lost, status}
@@ -14,20 +13,13 @@ use Rattle.machine.specs.Demand3.{Memory, Reads, AtTest}
 use Rattle.machine.specs.Work.{Says}
 use Rattle.layout.specs.declared.Block.{Block}
 use Rattle.layout.specs.declared.Plan.{Plan}
-use Rattle.memory.specs.Numbers.{Lent}
-use Rattle.memory.specs.Planned.{Planned, problem_in}
-use Rattle.layout.specs.Layout.{top_in}
+use Rattle.memory.specs.declared.Task.{Task}
+use Rattle.memory.specs.Planned.{problem_in}
 use Rattle.memory.specs.Calls.{call_in}
 use Rattle.lane_test.specs.declared.Measures.{Measures}
 use Rattle.lane_test.specs.Measures.{Measured}
 use Rattle.step.specs.Steps.{With}
 use Rattle.machine.specs.declared.Outcome.{Outcome}
-
--- what a run is lent: an index memory that begins with the plan, lists that have the block's lanes, and a working memory with room
-pub record Provided (plan : Plan) (block : Block) (width : ℕ) (off cols : List ℕ) (vals : List Float) (index : List ℕ) (b c tol work : List Float) : Type 0 where
-  pub planned : Planned off cols vals plan index
-  pub lent : Lent block width plan.m plan.n plan.s b c tol
-  pub room : top_in plan ≤ room_for width work
 
 -- the divisors are 1 + the norms of x and y
 pub record ByNorms (A : Problem) (H : Settings) : Type 0 where
@@ -42,6 +34,10 @@ MeasuredIn k plan width ws sums = Measured width plan.m plan.n plan.s k.centring
 abbrev pub ForLanes : (Call → Type 0) → Controls → Plan → Block → ℕ → List ℕ → List ℕ → List Float → List Float → List Float → List Float → Type 0
 ForLanes Claim k plan block width off cols vals b c tol =
     (H : Settings) → With k H → ByNorms (problem_in plan off cols vals) H → Claim (call_in H plan block width off cols vals b c tol)
+
+-- the same of what a block of lanes solves
+abbrev pub ForTask : (Call → Type 0) → Controls → Task → ℕ → Type 0
+ForTask Claim k t width = ForLanes Claim k t.lists.plan t.block width t.rows.off.now t.rows.cols.now t.rows.vals.now t.b.now t.c.now t.tolerances.now
 
 module _ (C : Call) where
   -- each lane has the numbers that its machine's test k reads; those of a lost machine are free, but its lane shows that it is spoilt

@@ -21,7 +21,8 @@ use Rattle.base.proofs.Maps.{map_join, map_pick}
 use Rattle.csr.proofs.Has.{has_last, find_lt}
 use Rattle.shared_columns.specs.Marked.{along_of, Marked, MarkedOver, RowMarked, hit}
 use Rattle.base.proofs.Bools.{or_nil, or_true}
-use Rattle.csr.proofs.Rows.{row_length}
+use Rattle.csr.specs.Csr.{RowOf}
+use Rattle.csr.proofs.RowParts.{row_length, row_long, in_row_lem, entry_at, entry_below}
 
 -- ---- along a list
 module _ (f : ℕ → ℕ → List ℕ) where
@@ -117,14 +118,14 @@ pub record Marking (old mark : List ℕ) (lo : ℕ) (xs : List ℕ) (q : ℕ) : 
   pub into : (c : ℕ) → has (take q xs) c ≡ true → get_or mark c 0 ≡ lo + find c xs + 1
   pub out : (c : ℕ) → has (take q xs) c ≡ false → get_or mark c 0 ≡ get_or old c 0
 
-pub marking_start : (mark : List ℕ) (lo : ℕ) (xs : List ℕ) → Marking mark mark lo xs 0
+marking_start : (mark : List ℕ) (lo : ℕ) (xs : List ℕ) → Marking mark mark lo xs 0
 unfolding has
 marking_start mark lo xs = record {
   into = λ c z. absurd (false≢true z);
   out = λ c z. refl;
 }
 
-pub marking_next : (old mark : List ℕ) (lo : ℕ) (xs : List ℕ) (q : ℕ) → Rising xs → q < length xs → get_or xs q 0 < length mark → Marking old mark lo xs q → Marking old (set mark (get_or xs q 0) (lo + q + 1)) lo xs (q + 1)
+marking_next : (old mark : List ℕ) (lo : ℕ) (xs : List ℕ) (q : ℕ) → Rising xs → q < length xs → get_or xs q 0 < length mark → Marking old mark lo xs q → Marking old (set mark (get_or xs q 0) (lo + q + 1)) lo xs (q + 1)
 marking_next old mark lo xs q up l long k = record {
   into = λ c h. in_go c h (ℕ_discrete c e);
   out = λ c h. out_go c h (ℕ_discrete c e);
@@ -153,6 +154,33 @@ marking_next old mark lo xs q up l long k = record {
     out_go : (c : ℕ) → has (take (q + 1) xs) c ≡ false → Dec (c ≡ e) → get_or (set mark e x) c 0 ≡ get_or old c 0
     out_go c h (yes d) = absurd (true≢false (sym (more c ∙ ap (λ (i : Bool). has (take q xs) c || i) (eq-eqb c e d) ∙ or_true (has (take q xs) c)) ∙ h))
     out_go c h (no d) = get_or-set_other mark e c x 0 d ∙ k.out c (sym (other c d) ∙ h)
+
+-- ---- row i marked, one entry after the other
+module _ (off cols : List ℕ) (i n : ℕ) (ok : RowOf off cols i n) where
+  pub row_start : (mark : List ℕ) (k : ℕ) → k ≡ get_or off i 0 → Marking mark mark (get_or off i 0) (row off cols i) (k - get_or off i 0)
+  row_start mark k e =
+      let z : 0 ≡ k - get_or off i 0 = omega arith in
+      subst (λ (y : ℕ). Marking mark mark (get_or off i 0) (row off cols i) y) z (marking_start mark (get_or off i 0) (row off cols i))
+
+  pub row_turn : (k e : ℕ) → get_or off i 0 ≤ k → k < get_or off (i + 1) 0 → e ≡ get_or cols k 0 → (old mark : List ℕ) → n ≤ length mark
+      → Marking old mark (get_or off i 0) (row off cols i) (k - get_or off i 0) → Marking old (set mark e (k + 1)) (get_or off i 0) (row off cols i) (k + 1 - get_or off i 0)
+  row_turn k e lo hk he old mark long p =
+      let z : k - get_or off i 0 + 1 ≡ k + 1 - get_or off i 0 = omega arith in
+      let w : get_or off i 0 + (k - get_or off i 0) + 1 ≡ k + 1 = omega arith in
+      let at : e ≡ get_or (row off cols i) (k - get_or off i 0) 0 = entry_at off cols i n ok k e lo hk he in
+      let below : e < n = entry_below off cols i n ok k e lo hk he in
+      subst (λ (y : ℕ). Marking old (set mark e (k + 1)) (get_or off i 0) (row off cols i) y) z
+      (subst (λ (y : ℕ). Marking old (set mark e y) (get_or off i 0) (row off cols i) (k - get_or off i 0 + 1)) w
+      (subst (λ (y : ℕ). Marking old (set mark y (get_or off i 0 + (k - get_or off i 0) + 1)) (get_or off i 0) (row off cols i) (k - get_or off i 0 + 1)) (sym at)
+      (marking_next old mark (get_or off i 0) (row off cols i) (k - get_or off i 0) ok.rising (in_row_lem off cols i n ok k e lo hk he) (omega (arith, at, below)) p)))
+
+  pub row_end : (k : ℕ) → get_or off (i + 1) 0 ≤ k → (old mark : List ℕ) → Marking old mark (get_or off i 0) (row off cols i) (k - get_or off i 0) → MarkedOver old mark (get_or off i 0) (row off cols i)
+  row_end k h old mark p =
+      let all : take (k - get_or off i 0) (row off cols i) ≡ row off cols i = take_all (k - get_or off i 0) (row off cols i) (omega (arith, row_long off cols i n ok)) in
+      record {
+        into = λ c z. p.into c (ap (λ (l : List ℕ). has l c) all ∙ z);
+        out = λ c z. p.out c (ap (λ (l : List ℕ). has l c) all ∙ z);
+      }
 
 -- ---- what marking a row says of marks that were low
 module _ (old mark : List ℕ) (lo : ℕ) (xs : List ℕ) (k : MarkedOver old mark lo xs) where

@@ -4,7 +4,6 @@ use mathlib.Core.Bool.{Bool, true, ◌&&◌}
 use mathlib.Core.List.{[], ◌∷◌}
 use Prim.Native.Nat.{ℕ, zero, suc, ◌+◌, ◌-◌, ◌*◌, ◌<◌, ◌≤◌}
 use native.Mathlib.Omega.{arith}
-use native.Mathlib.Nat.{mul-le-mul}
 use lib.ListN.{get_or, take, drop, replicate}
 use Rattle.csr.specs.Pattern.{row, neighbours, shares, has}
 use Rattle.csr.proofs.Rule.{stored_rule}
@@ -83,13 +82,3 @@ costliest m = record {
   most_e = λ off cols. omega (arith, full_e_lem m, stored_few off cols m);
   most_d = λ off cols. omega (arith, full_d_lem m, products_few off cols m);
 }
-
--- ---- the numbers are small
-pub square : (m : ℕ) → m ≤ 256 → m * m ≤ 65536
-square m h = mul-le-mul h h
-
-pub cubed : (m : ℕ) → m ≤ 256 → m * m * m ≤ 16777216
-cubed m h = mul-le-mul (square m h) h
-
-pub cube_more : (m : ℕ) → m ≤ m * m * m
-cube_more m = omega (arith, cube m)

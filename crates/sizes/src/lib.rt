@@ -2,10 +2,9 @@
 #![tactic(auto)]
 
 ghost use Rattle.std.specs.Prelude.{◌≡◌};
-ghost use Rattle.csr.specs.Csr.{Accepted};
 ghost use Rattle.sizes.specs.Sizes.{told_sizes, told_costliest, slack_verdict, sizes_verdict, costliest_verdict};
 
-use csr::Refusal;
+use csr::{Matrix, Refusal, Rows};
 use layout::LANES;
 
 // E, S, D, W and F.
@@ -26,20 +25,13 @@ pub struct MostCounts {
 }
 
 // Question 7, and the sizes of a matrix that is accepted.
-fn sizes_accepted(
-    m: usize,
-    n: usize,
-    s: usize,
-    offsets: &[u32],
-    columns: &[u32],
-) -> Result<MatrixSizes, Refusal>
-    requires { Accepted offsets.now columns.now m n }
-    ensures { told_sizes result ≡ slack_verdict m n s offsets.now columns.now }
+fn sizes_accepted(matrix: &Matrix<'_>, s: usize) -> Result<MatrixSizes, Refusal>
+    ensures { told_sizes result ≡ slack_verdict matrix.now.m matrix.now.n s matrix.now.rows.offsets.now matrix.now.rows.columns.now }
 {
-    if m < s {
+    if matrix.m < s {
         return Err(Refusal::SlackRows);
     }
-    let plan = counts::plan_sizes(m, n, s, offsets, columns);
+    let plan = counts::plan_sizes(matrix, s);
     let words = plan.words();
     let numbers = plan.numbers(LANES);
     Ok(MatrixSizes {
@@ -52,17 +44,11 @@ fn sizes_accepted(
 }
 
 // Questions 1 to 5 and 7, and after these E, S, D, W and F. Any numbers, any lists.
-pub fn sizes(
-    m: usize,
-    n: usize,
-    s: usize,
-    offsets: &[u32],
-    columns: &[u32],
-) -> Result<MatrixSizes, Refusal>
-    ensures { told_sizes result ≡ sizes_verdict m n s offsets.now columns.now }
+pub fn sizes(m: usize, n: usize, s: usize, rows: &Rows<'_>) -> Result<MatrixSizes, Refusal>
+    ensures { told_sizes result ≡ sizes_verdict m n s rows.now.offsets.now rows.now.columns.now }
 {
-    csr::ask(m, n, offsets, columns, columns.len())?;
-    sizes_accepted(m, n, s, offsets, columns)
+    let matrix = csr::ask(m, n, rows, rows.columns.len())?;
+    sizes_accepted(&matrix, s)
 }
 
 // Question 1, and after it E and D of m rows that share one column: no m rows have more of either.

@@ -27,13 +27,6 @@ module _ {off : List ℕ} {i size : ℕ} (P : Part off i size) where
       let b' : k < get_or off (i + 1) 0 - get_or off i 0 = omega (arith, span_length xs e) in
       rw (cut_at (get_or off i 0) (get_or off (i + 1) 0) xs k 0 b') (p (get_or off i 0 + k) (omega (arith, P.ends)))
 
-  -- turn k reads an entry within the memory
-  pub turn_fits : (list : List ℕ) {es : List ℕ} → length list ≡ size → es ≡ span off list i → {k : ℕ} → k < length es → {room : ℕ} (o : ℕ) → Fits room o list → o + get_or es k 0 < room
-  turn_fits list e ee {k} h o f =
-      let n : length _ ≡ length (span off list i) = ap length ee in
-      rw (ee, cut_at (get_or off i 0) (get_or off (i + 1) 0) list k 0 (omega (arith, span_length list e)))
-      (f (get_or off i 0 + k) (omega (arith, span_length list e, P.ends)))
-
 -- ---- what the matrix's ranges give a row and a column
 
 pub fits_in : {n size : ℕ} (o : ℕ) (es : List ℕ) → Names n es → o + n ≤ size → Fits size o es

@@ -27,6 +27,7 @@ pub record Rows (m n : ℕ) (off cols : List ℕ) (vals : List Float) : Type 0 w
   pub csr : Ranges m n off cols
   pub sizes : length vals ≡ length cols
 
+-- a clause: it ties the lists to sizes that the regions have
 pub record Cols (n m : ℕ) (atindptr atindices atmap : List ℕ) (vals : List Float) : Type 0 where
   pub csr : Ranges n m atindptr atindices
   pub sizes : length atmap ≡ length atindices

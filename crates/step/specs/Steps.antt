@@ -15,6 +15,7 @@ use Rattle.layout.specs.declared.Plan.{Plan}
 use Rattle.layout.specs.Layout.{y_at, dy_at, rhs_at, w_at, l_at, top_in}
 use Rattle.memory.specs.Numbers.{numbers_at, direction_at}
 use Rattle.memory.specs.Planned.{Planned, problem_in, data_in}
+use Rattle.memory.specs.declared.Task.{Task}
 
 -- a block's lanes are among those of b and c, which are as long as stated
 pub record Fed (k : Block) (width m n s : ℕ) (b c : List Float) : Type 0 where
@@ -145,3 +146,11 @@ pub record Fresh (width m n s : ℕ) (old new : List Float) : Type 0 where
       → l < width
       → numbers_at width m n s new l
       ≡ record { x = vec n (λ _. start_value); z = vec n (λ _. start_value); y = vec m (λ _. start_value); w = vec s (λ _. start_value) }
+
+-- ---- the same of what a block of lanes solves
+-- a clause: it ties the task to the width
+abbrev pub FedTask : ℕ → Task → Type 0
+FedTask width t = Fed t.block width t.lists.plan.m t.lists.plan.n t.lists.plan.s t.b.now t.c.now
+
+abbrev pub TaskStepTaken : Task → ℕ → List Status → List Float → Controls → List Float → List Float → Type 0
+TaskStepTaken t width statuses mu k old new = StepTaken t.lists.plan t.block width t.rows.off.now t.rows.cols.now t.rows.vals.now t.b.now t.c.now statuses mu k old new

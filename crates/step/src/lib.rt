@@ -8,87 +8,50 @@ ghost use Rattle.lanes.specs.Arithmetic.{◌⊘◌, null, one, smaller};
 ghost use Rattle.machine.specs.Machine.{Settings};
 ghost use Rattle.machine.specs.declared.Status.TheVariants.{Spoilt};
 ghost use Rattle.machine.specs.Outcome.{is_done};
-ghost use Rattle.memory.specs.Planned.{Planned, Begins, problem_in, data_in};
+ghost use Rattle.memory.specs.Planned.{Begins};
+ghost use Rattle.memory.specs.Tasks.{task_problem, task_data};
 ghost use Rattle.layout.specs.Layout.{l_in, top_in};
-ghost use Rattle.step.specs.Steps.{Fed, RightSide, ChangesFor, Directed, Advanced, Fresh, StepTaken};
+ghost use Rattle.step.specs.Steps.{FedTask, RightSide, ChangesFor, Directed, Advanced, Fresh, TaskStepTaken};
 
 use changes::{column_changes, slack_changes};
 use eliminate::factor_solve;
 use kernels::{vector_set, vector_update};
 use lanes::{Controls, LaneState, div4, larger4, one4, smaller4, splat};
-use layout::{Block, Plan};
+use layout::Plan;
 use machine::Status;
+use memory::Task;
 use right_hand_side::{rhs_f, rhs_u};
 use std::array;
 
 // The reduced costs and mu/x, in the regions of dx and dz; of them u, and of u f, the right-hand side.
-fn normal_eqn_rhs(
-    off: &[u32],
-    cols: &[u32],
-    vals: &[f64],
-    index: &[u32],
-    plan: Plan,
-    b: &[f64],
-    c: &[f64],
-    block: Block,
-    work: &mut [f64],
-    width: usize,
-    mu: [f64; 4],
-)
-    requires { Planned off.now cols.now vals.now plan index.now × Fed block width plan.m plan.n plan.s b.now c.now × (l_in plan ≤ room width work.old) }
-    ensures { (H : Settings) (tol : List Float) → RightSide width (problem_in plan off.now cols.now vals.now) H (data_in plan block b.now c.now tol) mu work.old work.new }
+fn normal_eqn_rhs(task: &Task<'_>, work: &mut [f64], width: usize, mu: [f64; 4])
+    requires { FedTask width task.now × (l_in task.now.lists.plan ≤ room width work.old) }
+    ensures { (H : Settings) (tol : List Float) → RightSide width (task_problem task.now) H (task_data task.now tol) mu work.old work.new }
 {
-    let mem = plan.regions();
-    let atindptr = plan.atindptr(index);
-    let atindices = plan.atindices(index);
-    let atmap = plan.atmap(index);
-    rhs_u(
-        atindptr, atindices, atmap, vals, c, block, work, width, mem, mu,
-    );
-    rhs_f(off, cols, vals, b, block, work, width, mem, mu);
+    let mem = task.lists.plan.regions();
+    rhs_u(&task.columns(), task.c, task.block, work, width, mem, mu);
+    rhs_f(&task.rows, task.b, task.block, work, width, mem, mu);
 }
 
 // dx, dz and dw, of the dy, the reduced costs and mu/x that are there, and theta.
-fn compute_dx_dz_dw(
-    vals: &[f64],
-    index: &[u32],
-    plan: Plan,
-    work: &mut [f64],
-    width: usize,
-    mu: [f64; 4],
-) -> [f64; 4]
-    requires { Begins vals.now plan index.now × (l_in plan ≤ room width work.old) × Width width }
-    ensures { ChangesFor width plan vals.now index.now mu work.old work.new result }
+fn compute_dx_dz_dw(task: &Task<'_>, work: &mut [f64], width: usize, mu: [f64; 4]) -> [f64; 4]
+    requires { Begins task.now.rows.vals.now task.now.lists.plan task.now.lists.index.now × (l_in task.now.lists.plan ≤ room width work.old) × Width width }
+    ensures { ChangesFor width task.now.lists.plan task.now.rows.vals.now task.now.lists.index.now mu work.old work.new result }
 {
-    let mem = plan.regions();
-    let atindptr = plan.atindptr(index);
-    let atindices = plan.atindices(index);
-    let atmap = plan.atmap(index);
-    let p = column_changes(atindptr, atindices, atmap, vals, work, width, mem, mu);
+    let mem = task.lists.plan.regions();
+    let p = column_changes(&task.columns(), work, width, mem, mu);
     let q = slack_changes(work, width, mem, mu);
     larger4(p, q)
 }
 
 // dx, dz, dy and dw, of the numbers as they are, and theta.
-fn directions(
-    off: &[u32],
-    cols: &[u32],
-    vals: &[f64],
-    index: &[u32],
-    plan: Plan,
-    b: &[f64],
-    c: &[f64],
-    block: Block,
-    work: &mut [f64],
-    width: usize,
-    mu: [f64; 4],
-) -> [f64; 4]
-    requires { Planned off.now cols.now vals.now plan index.now × Fed block width plan.m plan.n plan.s b.now c.now × (top_in plan ≤ room width work.old) }
-    ensures { (H : Settings) (tol : List Float) → Directed width (problem_in plan off.now cols.now vals.now) H (data_in plan block b.now c.now tol) (top_in plan) mu work.old work.new result }
+fn directions(task: &Task<'_>, work: &mut [f64], width: usize, mu: [f64; 4]) -> [f64; 4]
+    requires { FedTask width task.now × (top_in task.now.lists.plan ≤ room width work.old) }
+    ensures { (H : Settings) (tol : List Float) → Directed width (task_problem task.now) H (task_data task.now tol) (top_in task.now.lists.plan) mu work.old work.new result }
 {
-    normal_eqn_rhs(off, cols, vals, index, plan, b, c, block, work, width, mu);
-    factor_solve(work, width, vals, index, plan);
-    compute_dx_dz_dw(vals, index, plan, work, width, mu)
+    normal_eqn_rhs(task, work, width, mu);
+    factor_solve(work, width, task.rows.vals, &task.lists);
+    compute_dx_dz_dw(task, work, width, mu)
 }
 
 // h: the smaller of the damping over theta and 1.
@@ -99,6 +62,7 @@ fn step_length4(theta: [f64; 4], damping: f64) -> [f64; 4]
     smaller4(q, one4())
 }
 
+// The `bool` chooses between two numbers; an Option would have none of them.
 #[tactic(auto, using(lanes::proofs::Consts::null_bits))]
 fn pick1(done: bool, p: f64) -> f64
     ensures { result ≡ cond done null p }
@@ -155,24 +119,17 @@ fn lanes_done(statuses: [Status; 4]) -> [bool; 4]
 
 // The step that the statuses ask for: a done lane works its step out too, and its step length is 0. What dx, dz, tmp, dy, rhs, dw and the factor hold after is open: the next step writes them before it reads them.
 pub fn step_lanes(
-    off: &[u32],
-    cols: &[u32],
-    vals: &[f64],
-    index: &[u32],
-    plan: Plan,
-    b: &[f64],
-    c: &[f64],
-    block: Block,
+    task: &Task<'_>,
     work: &mut [f64],
     width: usize,
     statuses: [Status; 4],
     mu: [f64; 4],
     controls: Controls,
 )
-    requires { Planned off.now cols.now vals.now plan index.now × Fed block width plan.m plan.n plan.s b.now c.now × (top_in plan ≤ room width work.old) }
-    ensures { StepTaken plan block width off.now cols.now vals.now b.now c.now statuses mu controls work.old work.new }
+    requires { FedTask width task.now × (top_in task.now.lists.plan ≤ room width work.old) }
+    ensures { TaskStepTaken task.now width statuses mu controls work.old work.new }
 {
     let done = lanes_done(statuses);
-    let theta = directions(off, cols, vals, index, plan, b, c, block, work, width, mu);
-    advance(work, width, plan, theta, done, controls.damping);
+    let theta = directions(task, work, width, mu);
+    advance(work, width, task.lists.plan, theta, done, controls.damping);
 }

@@ -23,7 +23,7 @@ use Rattle.base.proofs.Front.{cleared_at}
 use Rattle.lists.proofs.Whole.{side_is, three, three_length}
 use Rattle.transpose.specs.Bins.{Bins, rows_of, room_of, Grid, EmptyBins, Uncounted, RowCounting, Scattering, Scattered, Starts, seen, ends_from, side_in}
 use Rattle.transpose.proofs.Fill.{one_more, absent_e, bins_whole}
-use Rattle.csr.proofs.Rows.{row_of, in_row_lem, entry_at, entry_below}
+use Rattle.csr.proofs.RowParts.{row_of, in_row_lem, entry_at, entry_below}
 use Rattle.base.proofs.Numbers.{below_more}
 use Rattle.base.proofs.Bools.{or_nil}
 use Rattle.csr.proofs.Has.{has_at, below_has}

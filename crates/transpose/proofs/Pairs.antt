@@ -15,7 +15,7 @@ use Rattle.lists.specs.Lists.{in_column}
 use Rattle.lists.specs.declared.What.TheVariants.{Numbers}
 use Rattle.transpose.specs.Bins.{seen}
 use Rattle.csr.specs.Csr.{RowOf}
-use Rattle.csr.proofs.Rows.{row_long, in_row_lem, entry_at}
+use Rattle.csr.proofs.RowParts.{row_long, in_row_lem, entry_at}
 use Rattle.transpose.proofs.Count.{column_long}
 use Rattle.base.proofs.Sums.{sum_zero, sum_plus}
 

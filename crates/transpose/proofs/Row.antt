@@ -17,7 +17,7 @@ use Rattle.transpose.specs.Bins.{Bins, rows_of, room_of, in_row, Outside, Scatte
 use Rattle.transpose.proofs.Fill.{turn, in_room, in_start, in_end, bins_ext}
 use Rattle.base.proofs.Sums.{sum_room}
 use Rattle.csr.specs.Csr.{RowOf}
-use Rattle.csr.proofs.Rows.{row_of, row_long, in_row_lem, entry_at, entry_below}
+use Rattle.csr.proofs.RowParts.{row_of, row_long, in_row_lem, entry_at, entry_below}
 
 place_of : (off cols : List ℕ) (i e k q : ℕ) → find e (row off cols i) ≡ q → k ≡ get_or off i 0 + q → k ≡ place (shape off cols) i e
 unfolding place

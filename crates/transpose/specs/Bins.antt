@@ -8,15 +8,16 @@ use Rattle.base.specs.Numbers.{Below}
 use Rattle.lists.specs.Lists.{shape, holds, entry, column, in_column, side_of}
 use Rattle.lists.specs.declared.What.{What}
 use Rattle.lists.specs.declared.What.TheVariants.{Numbers}
-use Rattle.lists.specs.declared.Side.{Side}
-use Rattle.lists.specs.declared.Side.TheVariants.{Factor, Matrix}
+use Rattle.transpose.specs.declared.Columns.{Columns}
+use Rattle.transpose.specs.declared.Columns.TheVariants.{Words, Bytes}
+use Rattle.lists.specs.declared.Side.TheVariants.{Matrix}
 use Rattle.base.specs.Sums.{sum, one}
 use Rattle.csr.specs.Questions.{max_rows, max_columns}
 
--- the columns of a side: the matrix's stand in words, the factor's in bytes
-abbrev pub cols_of : Side → List ℕ → List ℕ → List ℕ
-cols_of Factor cols bytes = bytes
-cols_of Matrix cols bytes = cols
+-- the columns, as numbers: the matrix's stand in words, the factor's in bytes
+abbrev pub cols_of : Columns → List ℕ
+cols_of (Words words) = words.now
+cols_of (Bytes bytes) = bytes.now
 
 -- a memory has a word for each row and one for each column, and one more
 pub record Room (m n : ℕ) (s : List ℕ) : Type 0 where

@@ -17,8 +17,8 @@ pub loop-e-preserved : goal.loop-e-preserved
 loop-e-preserved c =
     let h = c.loop-e-test.true in
     let W = c.requires.1.wide in
-    let done = columns_turn c.args.width c.args.mem c.args.atindptr.now c.args.atindices.now c.args.atmap.now c.args.vals.now c.args.mu c.requires.1 c.loop-e.invariant.done h (on W c.zero4-zero.ensures) (col_plus_reg c.requires.0 c.loop-e-test.true c.args.width c.loop-e.work c.args.mem.dy c.zero4-zero.result c.col_plus-da.ensures) c.get-d.ensures c.get-q.ensures c.get-xe.ensures c.get-ze.ensures (on W c.dx_in-dxe.ensures) (on W c.complement_in-dze.ensures) (on W c.ratio_in-t.ensures) c.put.ensures c.put-in-loop-e.ensures in
+    let done = columns_turn c.args.width c.args.mem c.args.columns.now.atindptr.now c.args.columns.now.atindices.now c.args.columns.now.atmap.now c.args.columns.now.vals.now c.args.mu c.requires.1 c.loop-e.invariant.done h (on W c.zero4-zero.ensures) (col_plus_reg c.requires.0 c.loop-e-test.true c.args.width c.loop-e.work c.args.mem.dy c.zero4-zero.result c.plus-da.ensures) c.get-d.ensures c.get-q.ensures c.get-xe.ensures c.get-ze.ensures (on W c.dx_in-dxe.ensures) (on W c.complement_in-dze.ensures) (on W c.ratio_in-t.ensures) c.put.ensures c.put-in-loop-e.ensures in
     record { laid = laid_room c.requires.1 (two_room done.written); done = done }
 
 pub returns : goal.returns
-returns c = columns_end c.args.width c.args.mem c.args.atindptr.now c.args.atindices.now c.args.atmap.now c.args.vals.now c.args.mu c.requires.1 c.loop-e.invariant.done (omega (arith, c.loop-e-test.false))
+returns c = columns_end c.args.width c.args.mem c.args.columns.now.atindptr.now c.args.columns.now.atindices.now c.args.columns.now.atmap.now c.args.columns.now.vals.now c.args.mu c.requires.1 c.loop-e.invariant.done (omega (arith, c.loop-e-test.false))

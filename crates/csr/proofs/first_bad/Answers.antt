@@ -1,16 +1,14 @@
 -- `csr::first_bad` meets its contract. Assumes nothing.
 use native.Mathlib.Omega.{arith}
-use borrow.Author.Tests.{tests}
-use Rattle.std.proofs.Common.{rules}
-use Rattle.std.proofs.iter.Serving.{serving}
-use Rattle.std.proofs.lemmas.Iterator.{YieldsList-from_range}
-use Rattle.std.proofs.lemmas.Iterator.Search.{find_from_yields_List}
-use Rattle.csr.proofs.First.{found}
+use Rattle.csr.proofs.First.{found_some, found_none}
 use Rattle.csr.proofs.Right.{part_of}
 use Rattle.csr.proofs.first_bad.Goals as goal
 
-pub find-requires-clause-callable : goal.find-requires-clause-callable
-find-requires-clause-callable c = grind (serving, part_of c.requires)
+pub row-requires : goal.row-requires
+row-requires c = part_of c.requires _ c.loop-i-test.true
+
+pub returns-then-is_bad : goal.returns-then-is_bad
+returns-then-is_bad c = found_some _ _ _ (omega arith) c.loop-i.invariant (cc)
 
 pub returns : goal.returns
-returns c = found _ _ _ (find_from_yields_List _ _ _ _ c.find.ensures.ran (YieldsList-from_range 0 c.args.m c.args.m (cc) (omega arith)) (λ x b q k. search (rules, tests)))
+returns c = found_none _ _ (λ k l. c.loop-i.invariant k (omega arith))

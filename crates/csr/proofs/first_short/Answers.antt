@@ -1,11 +1,11 @@
 -- `csr::first_short` meets its contract. Assumes nothing.
 use native.Mathlib.Omega.{arith}
-use borrow.Author.Tests.{tests}
-use Rattle.std.proofs.Common.{rules}
-use Rattle.std.proofs.lemmas.Iterator.{YieldsList-from_range}
-use Rattle.std.proofs.lemmas.Iterator.Search.{find_from_yields_List}
-use Rattle.csr.proofs.First.{found}
+use borrow.Author.Tests.{lt-ltb}
+use Rattle.csr.proofs.First.{found_some, found_none}
 use Rattle.csr.proofs.first_short.Goals as goal
 
+pub returns-then-offsets-k : goal.returns-then-offsets-k
+returns-then-offsets-k c = found_some _ _ _ (omega arith) c.loop-k.invariant (lt-ltb _ _ c.if-offsets-k.true)
+
 pub returns : goal.returns
-returns c = found _ _ _ (find_from_yields_List _ _ _ _ c.find.ensures.ran (YieldsList-from_range 0 c.args.m c.args.m (cc) (omega arith)) (λ x b q k. search (rules, tests)))
+returns c = found_none _ _ (λ k l. c.loop-k.invariant k (omega arith))

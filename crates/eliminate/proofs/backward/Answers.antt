@@ -16,7 +16,7 @@ put-requires c = rw c.regions-mem.ensures (c.requires.wide, omega (arith, c.requ
 pub loop-i-preserved : goal.loop-i-preserved
 loop-i-preserved c =
     let m = c.regions-mem.ensures in
-    falls_turn c.loop-i.invariant c.loop-i-test.true (rw m at c.loop-i.auto.i) (factor_apart c.args.plan) (omega (arith, c.requires.fits)) c.back_entry-u.ensures (rw m at c.put.ensures)
+    falls_turn c.loop-i.invariant c.loop-i-test.true (rw m at c.loop-i.auto.i) (factor_apart c.args.lists.now.plan) (omega (arith, c.requires.fits)) c.back_entry-u.ensures (rw m at c.put.ensures)
 
 pub returns : goal.returns
 returns c = falls_end c.loop-i.invariant c.loop-i-test.false

@@ -4,4 +4,4 @@ use Rattle.eliminate.proofs.Turns.{Falls}
 use Rattle.eliminate.proofs.backward.Given as goal
 
 abbrev pub invariant-loop-i : goal.invariant-loop-i
-invariant-loop-i l = Falls l.width (lindptr_in l.plan l.index) (ltindptr_in l.plan l.index) (ltindices_in l.plan l.index) (ltmap_in l.plan l.index) (dy_at l.plan.n l.plan.m) (l_in l.plan) l.plan.m l.plan.stored l.initial.work l.work l.i
+invariant-loop-i l = Falls l.width (lindptr_in l.lists.plan l.lists.index.now) (ltindptr_in l.lists.plan l.lists.index.now) (ltindices_in l.lists.plan l.lists.index.now) (ltmap_in l.lists.plan l.lists.index.now) (dy_at l.lists.plan.n l.lists.plan.m) (l_in l.lists.plan) l.lists.plan.m l.lists.plan.stored l.initial.work l.work l.i

@@ -5,7 +5,7 @@ use Rattle.file_copy.proofs.Copies.{Copying}
 use Rattle.file_copy.proofs.copy_plan.Given as goal
 
 abbrev pub invariant-loop-at : goal.invariant-loop-at
-invariant-loop-at l = Copying wide l.file l.initial.index l.index l.at l.to
+invariant-loop-at l = Copying wide l.bytes l.initial.index l.index l.at l.to
 
 abbrev pub decreases-loop-at : goal.decreases-loop-at
-decreases-loop-at l = length l.file - l.at
+decreases-loop-at l = length l.bytes - l.at

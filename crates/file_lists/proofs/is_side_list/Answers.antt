@@ -16,23 +16,23 @@ use Rattle.file_lists.proofs.is_side_list.Goals as goal
 
 pub is_same-requires : goal.is_same-requires
 is_same-requires c =
-    let a = c.args in
-    let list = side_list a.off.now (cols_of a.side a.cols.now a.bytes.now) a.m a.n in
-    (omega (arith, c.put_starts-words.ensures.ends.next, c.requires.4, ap (λ (p : Part). length (list p)) c.in-Ends.is), omega (arith, c.put_starts-words.ensures.ends.next, ends_long a.off.now (cols_of a.side a.cols.now a.bytes.now) a.m a.n, c.requires.3))
+    let rows = c.args.rows.now in
+    let list = side_list rows.offsets.now (cols_of rows.columns) rows.m rows.n in
+    (omega (arith, c.put_starts-words.ensures.ends.next, c.requires.3, ap (λ (p : Part). length (list p)) c.in-Ends.is), omega (arith, c.put_starts-words.ensures.ends.next, ends_long rows.offsets.now (cols_of rows.columns) rows.m rows.n, c.requires.2, c.put_starts-words.auto.made))
 
 pub match_rows-requires : goal.match_rows-requires
 match_rows-requires c =
-    let a = c.args in
-    let cols = cols_of a.side a.cols.now a.bytes.now in
-    (c.requires.0, omega (arith, c.requires.1), c.requires.4 ∙ ap (λ (p : Part). length (side_list a.off.now cols a.m a.n p)) c.in-Entries.is ∙ cols_long a.off.now cols a.m a.n _, c.put_starts-words.ensures.starts)
+    let rows = c.args.rows.now in
+    let cols = cols_of rows.columns in
+    (omega (arith, c.requires.0, c.put_starts-words.auto.next), c.requires.3 ∙ ap (λ (p : Part). length (side_list rows.offsets.now cols rows.m rows.n p)) c.in-Entries.is ∙ cols_long rows.offsets.now cols rows.m rows.n _, c.put_starts-words.ensures.starts)
 
 pub returns-in-Ends : goal.returns-in-Ends
 returns-in-Ends c =
-    let a = c.args in
-    let s = numbers_of a.body.now in
-    let cols = cols_of a.side a.cols.now a.bytes.now in
-    let list = side_list a.off.now cols a.m a.n in
+    let rows = c.args.rows.now in
+    let s = numbers_of c.args.body.now in
+    let cols = cols_of rows.columns in
+    let list = side_list rows.offsets.now cols rows.m rows.n in
     c.is_same.ensures
-    ∙ ap (agree s 0) (front _ _ _ _ (omega (arith, ends_long a.off.now cols a.m a.n, c.requires.3)) c.put_starts-words.ensures.ends)
-    ∙ agree_same s (ends_of (shape a.off.now cols) Matrix a.m a.n) (c.requires.4 ∙ ap (λ (p : Part). length (list p)) c.in-Ends.is)
+    ∙ ap (agree s 0) (front _ _ _ _ (omega (arith, ends_long rows.offsets.now cols rows.m rows.n, c.requires.2)) c.put_starts-words.ensures.ends)
+    ∙ agree_same s (ends_of (shape rows.offsets.now cols) Matrix rows.m rows.n) (c.requires.3 ∙ ap (λ (p : Part). length (list p)) c.in-Ends.is)
     ∙ ap (λ (p : Part). same s (list p)) (sym c.in-Ends.is)

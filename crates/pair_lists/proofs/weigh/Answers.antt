@@ -28,26 +28,26 @@ nothing off cols Lindices i j a d = refl
 pub overflow_sub-result : goal.overflow_sub-result
 overflow_sub-result c =
     let b = ap one (sym c.test.ensures ∙ c.if-test.true) in
-    omega (arith, b, both_weight c.args.off.now c.args.cols.now c.requires.0.m c.args.p.now c.requires.0.ready c.args.i c.args.j c.requires.0.inside c.requires.1, c.both_ones-t.ensures.0)
+    omega (arith, b, both_weight c.args.rows.now.offsets.now c.args.rows.now.columns.now c.requires.0.m c.args.p.now c.requires.0.ready c.args.i c.args.j c.requires.0.inside c.requires.1, c.both_ones-t.ensures.0)
 
 pub returns-in-AnormIndptr : goal.returns-in-AnormIndptr
 unfolding weight
 returns-in-AnormIndptr c = (
-  c.count_shared.ensures.0 ∙ ap (λ (w : Which). weight (shape c.args.off.now c.args.cols.now) w c.args.i c.args.j) (sym c.in-AnormIndptr.is),
+  c.count_shared.ensures.0 ∙ ap (λ (w : Which). weight (shape c.args.rows.now.offsets.now c.args.rows.now.columns.now) w c.args.i c.args.j) (sym c.in-AnormIndptr.is),
   omega (arith, c.count_shared.ensures.1, c.requires.0.ready.short),
 )
 
 pub returns-then-test : goal.returns-then-test
 returns-then-test c =
-    let e = ap (λ (w : Which). weight (shape c.args.off.now c.args.cols.now) w c.args.i c.args.j) c.in-LdecompIndptr.is in
+    let e = ap (λ (w : Which). weight (shape c.args.rows.now.offsets.now c.args.rows.now.columns.now) w c.args.i c.args.j) c.in-LdecompIndptr.is in
     let b = ap one (sym c.test.ensures ∙ c.if-test.true) in
-    (omega (arith, e, b, both_weight c.args.off.now c.args.cols.now c.requires.0.m c.args.p.now c.requires.0.ready c.args.i c.args.j c.requires.0.inside c.requires.1, c.both_ones-t.ensures.0), omega (arith, c.both_ones-t.ensures.1))
+    (omega (arith, e, b, both_weight c.args.rows.now.offsets.now c.args.rows.now.columns.now c.requires.0.m c.args.p.now c.requires.0.ready c.args.i c.args.j c.requires.0.inside c.requires.1, c.both_ones-t.ensures.0), omega (arith, c.both_ones-t.ensures.1))
 
 pub returns-else-test : goal.returns-else-test
 returns-else-test c =
-    let e = ap (λ (w : Which). weight (shape c.args.off.now c.args.cols.now) w c.args.i c.args.j) c.in-LdecompIndptr.is in
+    let e = ap (λ (w : Which). weight (shape c.args.rows.now.offsets.now c.args.rows.now.columns.now) w c.args.i c.args.j) c.in-LdecompIndptr.is in
     let b = ap one (sym c.test.ensures ∙ c.if-test.false) in
-    (omega (arith, e, b, both_weight c.args.off.now c.args.cols.now c.requires.0.m c.args.p.now c.requires.0.ready c.args.i c.args.j c.requires.0.inside c.requires.1, c.both_ones-t.ensures.0), omega (arith, c.both_ones-t.ensures.1))
+    (omega (arith, e, b, both_weight c.args.rows.now.offsets.now c.args.rows.now.columns.now c.requires.0.m c.args.p.now c.requires.0.ready c.args.i c.args.j c.requires.0.inside c.requires.1, c.both_ones-t.ensures.0), omega (arith, c.both_ones-t.ensures.1))
 
 pub returns-in_default : goal.returns-in_default
-returns-in_default c = (sym (nothing c.args.off.now c.args.cols.now c.args.which c.args.i c.args.j c.in_default.not-AnormIndptr c.in_default.not-LdecompIndptr), omega arith)
+returns-in_default c = (sym (nothing c.args.rows.now.offsets.now c.args.rows.now.columns.now c.args.which c.args.i c.args.j c.in_default.not-AnormIndptr c.in_default.not-LdecompIndptr), omega arith)

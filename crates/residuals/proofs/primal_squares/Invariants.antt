@@ -3,4 +3,4 @@ use Rattle.residuals.proofs.Turns.{primal_up_to}
 use Rattle.residuals.proofs.primal_squares.Given as goal
 
 abbrev pub invariant-loop-i : goal.invariant-loop-i
-invariant-loop-i l = On l.width l.acc (primal_up_to l.width l.mem l.off l.cols l.vals l.block l.b l.work l.i)
+invariant-loop-i l = On l.width l.acc (primal_up_to l.width l.mem l.rows.off.now l.rows.cols.now l.rows.vals.now l.block l.b l.work l.i)

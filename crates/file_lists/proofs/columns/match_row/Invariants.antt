@@ -7,5 +7,6 @@ use Rattle.file_lists.proofs.columns.match_row.Given as goal
 
 abbrev pub invariant-loop-k : goal.invariant-loop-k
 invariant-loop-k l =
-    let cols = cols_of l.side l.cols l.bytes in
-    Matched (numbers_of l.body) (entries_of l.off cols l.what l.m l.n) l.next l.n (room_of l.off cols l.m) (in_row l.off cols l.what l.i (l.k - get_or l.off l.i 0))
+    let off = l.rows.offsets.now in
+    let cols = cols_of l.rows.columns in
+    Matched (numbers_of l.body) (entries_of off cols l.what l.rows.m l.rows.n) l.next l.rows.n (room_of off cols l.rows.m) (in_row off cols l.what l.i (l.k - get_or off l.i 0))

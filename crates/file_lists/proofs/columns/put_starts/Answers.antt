@@ -4,23 +4,21 @@ use mathlib.Core.Path.{subst}
 use mathlib.Core.List.{List}
 use Prim.Native.Nat.{ℕ}
 use Rattle.base.specs.Cat.{Wrote}
-use Rattle.base.proofs.Front.{cleared_at}
 use Rattle.transpose.proofs.Count as law
 use Rattle.file_lists.proofs.columns.put_starts.Goals as goal
 
-pub count_rows-requires : goal.count_rows-requires
-count_rows-requires c = record { n = c.args.n; grid = c.requires.0; long = omega (arith, c.requires.1); clear = cleared_at _ _ _ _ _ c.clear.ensures }
-
 pub put_ends-requires : goal.put_ends-requires
 put_ends-requires c =
-    let a = c.args in
-    (omega (arith, c.requires.1), c.requires.2, c.requires.0.wide, law.tally_few _ _ a.m a.n c.requires.0 _ (law.tallied _ _ _ _ _ _ _ c.clear.ensures c.count_rows.ensures.0), omega (arith, c.requires.3))
+    let rows = c.args.rows.now in
+    (omega (arith, c.requires.0, c.count_rows.auto.next, c.fill_front.auto.list), c.requires.1, rows.grid.wide, law.tally_few _ _ rows.m rows.n rows.grid _ (law.tallied _ _ _ _ _ _ _ c.fill_front.ensures c.count_rows.ensures.0), omega (arith, c.requires.2))
 
-pub returns : goal.returns
-returns c =
-    let a = c.args in
-    let y = law.tallied _ _ a.m a.n _ _ _ c.clear.ensures c.count_rows.ensures.0 in
-    record {
-      ends = subst (λ (x : List ℕ). Wrote a.made.now c.put_ends.new.index 0 x c.put_ends.result) (law.ends_are _ _ _ _ _ y) c.put_ends.ensures.ends;
-      starts = law.starts_are _ _ _ _ _ _ a.n (omega arith) y c.put_ends.ensures.starts.0;
-    }
+pub returns-clause-ends : goal.returns-clause-ends
+returns-clause-ends c =
+    let rows = c.args.rows.now in
+    subst (λ (x : List ℕ). Wrote c.args.made.now c.put_ends.new.index 0 x c.put_ends.result)
+    (law.ends_are _ _ rows.m rows.n _ (law.tallied _ _ rows.m rows.n _ _ _ c.fill_front.ensures c.count_rows.ensures.0)) c.put_ends.ensures.ends
+
+pub returns-clause-starts : goal.returns-clause-starts
+returns-clause-starts c =
+    let rows = c.args.rows.now in
+    law.starts_are _ _ rows.m rows.n _ _ rows.n (omega arith) (law.tallied _ _ rows.m rows.n _ _ _ c.fill_front.ensures c.count_rows.ensures.0) c.put_ends.ensures.starts.0

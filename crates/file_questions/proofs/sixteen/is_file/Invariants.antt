@@ -6,7 +6,10 @@ use Rattle.file_questions.proofs.Walk.{Asking}
 use Rattle.file_questions.proofs.sixteen.is_file.Given as goal
 
 abbrev pub invariant-loop-at : goal.invariant-loop-at
-invariant-loop-at l = Asking wide (matrix_lists l.off l.cols l.plan.m l.plan.n) l.file l.at
+invariant-loop-at l =
+    let rows = l.expected.source.rows in
+    let plan = l.expected.plan in
+    Asking wide (matrix_lists rows.offsets.now rows.columns.now plan.m plan.n) l.bytes l.at
 
 abbrev pub decreases-loop-at : goal.decreases-loop-at
-decreases-loop-at l = length l.file - l.at
+decreases-loop-at l = length l.bytes - l.at

@@ -6,7 +6,7 @@ use Rattle.file_walk.proofs.Walks.{Ordered}
 use Rattle.file_walk.proofs.walk.is_ordered.Given as goal
 
 abbrev pub invariant-loop-at : goal.invariant-loop-at
-invariant-loop-at l = Ordered wide wide_most l.file l.at l.next
+invariant-loop-at l = Ordered wide wide_most l.bytes l.at l.next
 
 abbrev pub decreases-loop-at : goal.decreases-loop-at
-decreases-loop-at l = length l.file - l.at
+decreases-loop-at l = length l.bytes - l.at

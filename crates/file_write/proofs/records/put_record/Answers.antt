@@ -1,3 +1,4 @@
+-- `file_write::records::put_record` meets its contract. Assumes nothing.
 use mathlib.Core.Path.{refl}
 use native.Mathlib.Omega.{arith}
 use Rattle.base.proofs.Write.{same_long}

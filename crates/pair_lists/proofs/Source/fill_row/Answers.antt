@@ -11,8 +11,8 @@ row_first-t-requires c = (omega (arith, c.requires.0.at.inside, c.requires.0.row
 pub loop-t-init : goal.loop-t-init
 loop-t-init c = (turns.row_begins c.requires.0 c.row_first-t.ensures.last c.row_first-t.ensures.first c.args.index.now c.args.start c.args.count).2
 
-pub bounds-self-t : goal.bounds-self-t
-bounds-self-t c =
+pub bounds-lindices-t : goal.bounds-lindices-t
+bounds-lindices-t c =
     let s = turns.row_span c.requires.0 c.row_first-t.ensures.last c.row_first-t.ensures.first in
     turns.pair_in c.requires.0 (omega (arith, s.0)) (omega arith)
 
@@ -30,7 +30,7 @@ overflow_add-n c =
 pub put_piece-at-requires : goal.put_piece-at-requires
 put_piece-at-requires c =
     let s = turns.row_span c.requires.0 c.row_first-t.ensures.last c.row_first-t.ensures.first in
-    let lo : get_or c.args.self.now.lindptr.now c.args.i 0 ≤ c.loop-t.t = omega (arith, s.0) in
+    let lo : get_or c.args.self.now.factor.lindptr.now c.args.i 0 ≤ c.loop-t.t = omega (arith, s.0) in
     (c.requires.0, turns.pair_at c.requires.0 lo (omega arith) c.loop-t.invariant c.requires.1 c.weigh-n.ensures.0, turns.pair_room c.requires.0 lo (omega arith) c.loop-t.invariant (omega (arith, c.requires.2)))
 
 pub loop-t-preserved : goal.loop-t-preserved

@@ -1,6 +1,5 @@
 -- `pair_lists::Source::put_piece` meets its contract. Assumes nothing.
-use Prim.Native.Nat.{ℕ, ◌-◌}
-use mathlib.Core.Path.{sym, ap, ◌∙◌}
+use mathlib.Core.Path.{refl, sym, ap, ◌∙◌}
 use native.Mathlib.Omega.{arith}
 use lib.ListN.{length}
 use Rattle.base.specs.Cat.{kept}
@@ -35,28 +34,29 @@ put-requires-in-LdecompIndptr c = omega (arith, c.requires.2, ap length (law.of_
 
 pub products-requires : goal.products-requires
 products-requires c = (
-  c.requires.0.at.ready.words,
   record { m = c.requires.0.at.m; rows = c.requires.0.rows; inside = c.requires.0.at.inside; first = c.requires.1.first; last = c.requires.1.last },
   omega (arith, law.left c.requires.0 c.requires.1, (law.below c.requires.0 c.requires.1).1),
   omega (arith, c.requires.2, ap length (law.of_ldecomp_indptr_i c.requires.0 c.requires.1 c.in-LdecompIndptrI.is)),
 )
 
-pub overflow_add-j : goal.overflow_add-j
-overflow_add-j c = omega (arith, law.left c.requires.0 c.requires.1, (law.below c.requires.0 c.requires.1).1)
+pub overflow_add-last : goal.overflow_add-last
+overflow_add-last c = omega (arith, law.left c.requires.0 c.requires.1, (law.below c.requires.0 c.requires.1).1)
 
-pub word_at-last-requires : goal.word_at-last-requires
-word_at-last-requires c = omega (arith, (law.below c.requires.0 c.requires.1).0, c.requires.0.rows.offsets)
+pub offset_bounds-self-j : goal.offset_bounds-self-j
+offset_bounds-self-j c = omega (arith, law.left c.requires.0 c.requires.1, (law.below c.requires.0 c.requires.1).1)
+
+pub bounds-self-j : goal.bounds-self-j
+bounds-self-j c = omega (arith, (law.below c.requires.0 c.requires.1).0, c.requires.0.rows.offsets)
 
 pub overflow_sub-last : goal.overflow_sub-last
-overflow_sub-last c = omega (arith, (law.ends c.requires.0 c.requires.1).some, c.word_at-last.ensures)
+overflow_sub-last c = omega (arith, (law.ends c.requires.0 c.requires.1).some)
 
 pub products-requires-in-LdecompIndptrJ : goal.products-requires-in-LdecompIndptrJ
 products-requires-in-LdecompIndptrJ c =
     let l = law.ends c.requires.0 c.requires.1 in (
-      c.requires.0.at.ready.words,
-      record { m = c.requires.0.at.m; rows = c.requires.0.rows; inside = (law.below c.requires.0 c.requires.1).0; first = omega (arith, l.low, c.word_at-last.ensures); last = omega (arith, l.high, l.some, c.word_at-last.ensures) },
+      record { m = c.requires.0.at.m; rows = c.requires.0.rows; inside = (law.below c.requires.0 c.requires.1).0; first = omega (arith, l.low); last = omega (arith, l.high, l.some) },
       (law.below c.requires.0 c.requires.1).1,
-      omega (arith, c.requires.2, ap length (law.of_ldecomp_indptr_j c.requires.0 c.requires.1 c.in-LdecompIndptrJ.is (c.word_at-last.result - 1) (ap (λ (y : ℕ). y - 1) c.word_at-last.ensures))),
+      omega (arith, c.requires.2, ap length (law.of_ldecomp_indptr_j c.requires.0 c.requires.1 c.in-LdecompIndptrJ.is _ refl)),
     )
 
 pub overflow_cast-t : goal.overflow_cast-t
@@ -99,7 +99,7 @@ pub returns-in-LdecompIndptrI : goal.returns-in-LdecompIndptrI
 returns-in-LdecompIndptrI c = same_text (sym (law.of_ldecomp_indptr_i c.requires.0 c.requires.1 c.in-LdecompIndptrI.is)) c.products.ensures
 
 pub returns-in-LdecompIndptrJ : goal.returns-in-LdecompIndptrJ
-returns-in-LdecompIndptrJ c = same_text (sym (law.of_ldecomp_indptr_j c.requires.0 c.requires.1 c.in-LdecompIndptrJ.is (c.word_at-last.result - 1) (ap (λ (y : ℕ). y - 1) c.word_at-last.ensures))) c.products-in-LdecompIndptrJ.ensures
+returns-in-LdecompIndptrJ c = same_text (sym (law.of_ldecomp_indptr_j c.requires.0 c.requires.1 c.in-LdecompIndptrJ.is _ refl)) c.products-in-LdecompIndptrJ.ensures
 
 pub returns-in-Lindptr : goal.returns-in-Lindptr
 returns-in-Lindptr c = same_text (ap kept c.then_some.ensures ∙ sym (law.of_lindptr c.requires.0 c.requires.1 c.in-Lindptr.is)) c.keep.ensures
