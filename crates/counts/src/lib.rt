@@ -3,7 +3,7 @@
 
 ghost use Rattle.std.specs.Prelude.{◌≡◌, ◌+◌, ◌≤◌, ◌<◌, length, get_or, set};
 ghost use Rattle.layout.specs.Layout.{plan_of};
-ghost use Rattle.csr.specs.Csr.{max_places};
+ghost use Rattle.csr.specs.Csr.{Accepted, max_places};
 ghost use Rattle.csr.specs.Counts.{count_e, count_s, count_d, Counted};
 ghost use Rattle.csr.specs.Questions.{max_rows, max_columns};
 ghost use Rattle.pattern.specs.Links.{or_else};
@@ -125,27 +125,32 @@ impl<const ROWS: usize, const COLUMNS: usize> Notes<ROWS, COLUMNS> {
 }
 
 // E, S and D of a matrix that is accepted.
-fn count_accepted(matrix: &Matrix<'_>) -> Tally
-    ensures { Counted matrix.now.rows.offsets.now matrix.now.rows.columns.now matrix.now.m result.stored result.shared result.products }
+// By its parts: a `Matrix` would go through memory, which a call of a small one would feel (docs/SPEED.md).
+fn count_accepted(m: usize, n: usize, offsets: &[u32], columns: &[u32]) -> Tally
+    requires { Accepted offsets.now columns.now m n }
+    ensures { Counted offsets.now columns.now m result.stored result.shared result.products }
 {
-    if matrix.m <= Plan::FEW_ROWS && matrix.n <= Plan::FEW_COLUMNS {
-        Notes::<{ Plan::FEW_ROWS }, { Plan::FEW_COLUMNS }>::count(&matrix.rows, matrix.m)
+    let rows = Rows { offsets, columns };
+    if m <= Plan::FEW_ROWS && n <= Plan::FEW_COLUMNS {
+        Notes::<{ Plan::FEW_ROWS }, { Plan::FEW_COLUMNS }>::count(&rows, m)
     } else {
-        Notes::<{ Plan::MAX_ROWS }, { Plan::MAX_COLUMNS }>::count(&matrix.rows, matrix.m)
+        Notes::<{ Plan::MAX_ROWS }, { Plan::MAX_COLUMNS }>::count(&rows, m)
     }
 }
 
 // The sizes of the plan of a matrix that is accepted: one look at each entry of the matrix, one turn of a climb for each
 // entry of the factor below its diagonal.
+#[inline(always)]
 pub fn plan_sizes(matrix: &Matrix<'_>, s: usize) -> Plan
     ensures { result ≡ plan_of matrix.now.m matrix.now.n s (length matrix.now.rows.columns.now) (count_e matrix.now.rows.offsets.now matrix.now.rows.columns.now matrix.now.m) (count_s matrix.now.rows.offsets.now matrix.now.rows.columns.now matrix.now.m) (count_d matrix.now.rows.offsets.now matrix.now.rows.columns.now matrix.now.m) }
 {
-    let tally = count_accepted(matrix);
+    let Rows { offsets, columns } = matrix.rows;
+    let tally = count_accepted(matrix.m, matrix.n, offsets, columns);
     Plan::new(
         matrix.m,
         matrix.n,
         s,
-        matrix.rows.columns.len(),
+        columns.len(),
         tally.stored,
         tally.shared,
         tally.products,

@@ -172,10 +172,9 @@ pub fn rows_right(m: usize) -> bool
     (1..=layout::Plan::MAX_ROWS).contains(&m)
 }
 
-// Questions 1 to 5, in order, over any numbers and lists.
-pub fn ask<'a>(m: usize, n: usize, rows: &Rows<'a>, values: usize) -> Result<Matrix<'a>, Refusal>
-    ensures verdict { told_asked result ≡ first_no m n rows.now.offsets.now rows.now.columns.now values }
-    ensures matrix { IfOk result (λ M. (M.m ≡ m) × (M.n ≡ n) × (M.rows ≡ rows.now)) }
+// Questions 1 to 5, in order.
+fn ask_lists(m: usize, n: usize, rows: &Rows<'_>, values: usize) -> Result<(), Refusal>
+    ensures { told_asked result ≡ first_no m n rows.now.offsets.now rows.now.columns.now values }
 {
     if !rows_right(m) {
         return Err(Refusal::Rows);
@@ -192,5 +191,16 @@ pub fn ask<'a>(m: usize, n: usize, rows: &Rows<'a>, values: usize) -> Result<Mat
     if let Some(row) = first_bad(rows, m, n) {
         return Err(Refusal::ColumnOrder(row));
     }
+    Ok(())
+}
+
+// Questions 1 to 5, in order, over any numbers and lists.
+// Part of each caller, so that the matrix is not handed through memory: docs/SPEED.md.
+#[inline(always)]
+pub fn ask<'a>(m: usize, n: usize, rows: &Rows<'a>, values: usize) -> Result<Matrix<'a>, Refusal>
+    ensures verdict { told_asked result ≡ first_no m n rows.now.offsets.now rows.now.columns.now values }
+    ensures matrix { IfOk result (λ M. (M.m ≡ m) × (M.n ≡ n) × (M.rows ≡ rows.now)) }
+{
+    ask_lists(m, n, rows, values)?;
     Ok(Matrix { m, n, rows: *rows })
 }

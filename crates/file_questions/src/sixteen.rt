@@ -92,6 +92,8 @@ fn is_plan_in<const STARTS: usize, const PAIRS: usize, const BINS: usize>(
 }
 
 // Question 16 of a matrix, the sizes of its plan and a file.
+// Not part of its caller, so that these memories do not lie on the stack beside those that the sizes are counted in.
+#[inline(never)]
 pub fn is_plan(file: WholeFile<'_>, matrix: &Matrix<'_>, plan: Plan) -> bool
     requires { plan ≡ counted_plan matrix.now }
     ensures { result ≡ matrixs_file wide (matrix_lists matrix.now.rows.offsets.now matrix.now.rows.columns.now matrix.now.m matrix.now.n) file.entry.bytes.now }

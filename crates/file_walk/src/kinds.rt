@@ -28,7 +28,7 @@ pub fn is_whole_body(m: Meaning, size: usize) -> bool
     requires { 0 < width_of m }
     ensures { result ≡ whole_body m size }
 {
-    // An arm for each: no two do the same, so there is no step to hand over.
+    // An arm for each kind: there is no step to hand over.
     match m {
         Meaning::Listed(_, width) => size % width == 0,
         Meaning::Note => true,

@@ -79,6 +79,8 @@ fn words(m: usize, n: usize, t: usize, counts: Counts) -> usize
 }
 
 // Question 6, and the plan of a matrix, made in memories of such lengths.
+// Not part of its caller, so that these memories lie on the stack only while the plan is made.
+#[inline(never)]
 fn plan_in<const STARTS: usize, const PAIRS: usize, const BINS: usize>(
     matrix: &Matrix<'_>,
     index: &mut [u32],

@@ -1,4 +1,4 @@
-// Definitions and laws only: the index memory that begins with a plan, and the lanes' numbers in the working memory.
+// What a run is given; definitions and laws of the index memory that begins with a plan, and of the lanes' numbers in the working memory.
 #![tactic(auto)]
 
 ghost use Rattle.std.specs.Prelude.{◌≡◌};

@@ -2,7 +2,7 @@
 // number of bytes, its answer. Writes how many records gave their answer and how many did not.
 #![tactic(auto)]
 
-ghost use Rattle.std.specs.Prelude.{◌≤◌, length, IfOk};
+ghost use Rattle.std.specs.Prelude.{◌≡◌, ◌+◌, ◌≤◌, length, IfOk};
 
 use cases::{Broken, Ran, run_all};
 use std::{fs, io};
@@ -18,7 +18,7 @@ const MOST_CASES: u32 = 100_000;
 
 // The bytes whose number comes first, and those behind them.
 fn cut_part(s: &[u8]) -> Result<(&[u8], &[u8]), Broken>
-    ensures { IfOk result (λ parts. (length parts.0.now ≤ 4096) × (length parts.1.now ≤ length s.now)) }
+    ensures { IfOk result (λ parts. (length parts.0.now ≤ 4096) × (4 + length parts.0.now + length parts.1.now ≡ length s.now)) }
 {
     if s.len() < COUNT_BYTES {
         return Err(Broken);

@@ -107,6 +107,31 @@ pub fn put_ends(
     at
 }
 
+// The entries of row i, each counted in its column: how many columns it shares with the rows up to it.
+fn count_row(offsets: &[u32], columns: &Columns<'_>, i: usize, next: &mut [u32]) -> usize
+    requires { RowCounting offsets.now (cols_of columns.now) i next.old }
+    ensures { RowCounted offsets.now (cols_of columns.now) i next.old next.new result }
+{
+    let mut s: usize = 0;
+    for k in offsets[i] as usize..offsets[i + 1] as usize {
+        let e = columns.at(k);
+        s += step(next, e) + 1;
+    }
+    s
+}
+
+// How many entries each column of m rows has, and S. How many columns there are is not asked: some number above all of them.
+pub fn count_rows(offsets: &[u32], columns: &Columns<'_>, m: usize, next: &mut [u32]) -> usize
+    requires { Uncounted offsets.now (cols_of columns.now) m next.old }
+    ensures { ((c : ℕ) → get_or next.new c 0 ≡ get_or next.old c 0 + length (seen offsets.now (cols_of columns.now) m c)) × (result ≡ count_s offsets.now (cols_of columns.now) m) × (result ≤ max_rows * max_places) }
+{
+    let mut s: usize = 0;
+    for i in 0..m {
+        s += count_row(offsets, columns, i, next);
+    }
+    s
+}
+
 impl SparseRows<'_> {
     // The entries of row i, each into its column's bin.
     fn scatter_row(&self, what: What, i: usize, index: &mut [u32], next: &mut [u32], start: usize)
@@ -121,30 +146,12 @@ impl SparseRows<'_> {
         }
     }
 
-    // The entries of row i, each counted in its column: how many columns it shares with the rows up to it.
-    fn count_row(&self, i: usize, next: &mut [u32]) -> usize
-        requires { RowCounting self.now.offsets.now (cols_of self.now.columns) i next.old }
-        ensures { RowCounted self.now.offsets.now (cols_of self.now.columns) i next.old next.new result }
-    {
-        let columns = self.columns;
-        let mut s: usize = 0;
-        for k in self.offsets[i] as usize..self.offsets[i + 1] as usize {
-            let e = columns.at(k);
-            s += step(next, e) + 1;
-        }
-        s
-    }
-
     // How many entries each column has, and S.
     pub fn count_rows(&self, next: &mut [u32]) -> usize
         requires { Uncounted self.now.offsets.now (cols_of self.now.columns) self.now.m next.old }
         ensures { ((c : ℕ) → get_or next.new c 0 ≡ get_or next.old c 0 + length (seen self.now.offsets.now (cols_of self.now.columns) self.now.m c)) × (result ≡ count_s self.now.offsets.now (cols_of self.now.columns) self.now.m) × (result ≤ max_rows * max_places) }
     {
-        let mut s: usize = 0;
-        for i in 0..self.m {
-            s += self.count_row(i, next);
-        }
-        s
+        count_rows(self.offsets, &self.columns, self.m, next)
     }
 
     // The entries of all rows, each into its column's bin.

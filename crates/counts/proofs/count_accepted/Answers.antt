@@ -4,7 +4,7 @@ use Rattle.counts.proofs.Columns.{countable}
 use Rattle.counts.proofs.count_accepted.Goals as goal
 
 pub count-requires : goal.count-requires
-count-requires c = (countable 16 32 c.args.matrix.now.accepted (omega arith) (omega arith), omega arith, omega arith)
+count-requires c = (countable 16 32 c.requires (omega arith) (omega arith), omega arith, omega arith)
 
-pub count-requires-else-matrix-le-FEW_ROWS : goal.count-requires-else-matrix-le-FEW_ROWS
-count-requires-else-matrix-le-FEW_ROWS c = (countable 256 1024 c.args.matrix.now.accepted c.args.matrix.now.accepted.csr.few c.args.matrix.now.accepted.wide, omega arith, omega arith)
+pub count-requires-else-m-le-FEW_ROWS : goal.count-requires-else-m-le-FEW_ROWS
+count-requires-else-m-le-FEW_ROWS c = (countable 256 1024 c.requires c.requires.csr.few c.requires.wide, omega arith, omega arith)

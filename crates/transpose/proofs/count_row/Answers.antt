@@ -1,4 +1,4 @@
--- `transpose::SparseRows::count_row` meets its contract. Assumes nothing.
+-- `transpose::count_row` meets its contract. Assumes nothing.
 use Prim.Native.Nat.{ℕ, ◌<◌, ◌≤◌, ◌+◌, ◌-◌}
 use mathlib.Core.Path.{◌≡◌, refl, ap, ◌∙◌}
 use mathlib.Core.List.{List}
@@ -7,7 +7,7 @@ use lib.ListN.{get_or}
 use Rattle.csr.proofs.RowParts.{row_long}
 use Rattle.transpose.proofs.Count as law
 use Rattle.transpose.proofs.Pairs as pairs
-use Rattle.transpose.proofs.SparseRows.count_row.Goals as goal
+use Rattle.transpose.proofs.count_row.Goals as goal
 
 pub loop-k-init : goal.loop-k-init
 loop-k-init c = record {
@@ -23,8 +23,8 @@ step-requires c =
 
 pub loop-k-preserved : goal.loop-k-preserved
 loop-k-preserved c =
-    let lo : get_or c.args.self.now.offsets.now c.args.i 0 ≤ c.loop-k.k = omega arith in
-    let up : c.loop-k.k < get_or c.args.self.now.offsets.now (c.args.i + 1) 0 = omega arith in
+    let lo : get_or c.args.offsets.now c.args.i 0 ≤ c.loop-k.k = omega arith in
+    let up : c.loop-k.k < get_or c.args.offsets.now (c.args.i + 1) 0 = omega arith in
     let asks = law.passed_asks _ _ _ _ c.requires c.loop-k.k _ lo up c.at-e.ensures _ c.loop-k.auto.next c.loop-k.invariant.passed in
     let count = law.passed_count _ _ _ _ c.requires c.loop-k.k _ lo up c.at-e.ensures _ c.loop-k.auto.next c.loop-k.invariant.passed in
     let turn = law.passed_turn _ _ _ _ c.requires c.loop-k.k _ lo up c.at-e.ensures _ c.loop-k.auto.next c.loop-k.invariant.passed in
@@ -36,9 +36,9 @@ loop-k-preserved c =
 
 pub returns : goal.returns
 returns c =
-    let e : c.loop-k.k ≡ get_or c.args.self.now.offsets.now (c.args.i + 1) 0 = omega (arith, c.requires.at.part.rises) in
+    let e : c.loop-k.k ≡ get_or c.args.offsets.now (c.args.i + 1) 0 = omega (arith, c.requires.at.part.rises) in
     record {
-      counts = law.passed_all _ (c.loop-k.k - get_or c.args.self.now.offsets.now c.args.i 0) _ _ (omega (arith, row_long _ _ _ _ c.requires.at)) c.loop-k.invariant.passed;
+      counts = law.passed_all _ (c.loop-k.k - get_or c.args.offsets.now c.args.i 0) _ _ (omega (arith, row_long _ _ _ _ c.requires.at)) c.loop-k.invariant.passed;
       pairs = pairs.pairs_end _ _ _ _ c.requires.at c.loop-k.k _ (omega arith) c.loop-k.invariant.shares;
       few = omega (arith, c.loop-k.invariant.few);
     }
