@@ -99,7 +99,7 @@ impl<'a> Rows<'a> {
     }
 }
 
-// A matrix that got a yes at questions 1 to 5.
+// A matrix whose lists fit together, within the limits: what questions 1 to 5 leave known.
 #[derive(Clone, Copy)]
 pub struct Matrix<'a> {
     pub m: usize,
@@ -195,7 +195,7 @@ fn ask_lists(m: usize, n: usize, rows: &Rows<'_>, values: usize) -> Result<(), R
 }
 
 // Questions 1 to 5, in order, over any numbers and lists.
-// Part of each caller, so that the matrix is not handed through memory: docs/SPEED.md.
+// Part of each caller, so that the matrix does not come back through the memory of a `Result`: docs/SPEED.md.
 #[inline(always)]
 pub fn ask<'a>(m: usize, n: usize, rows: &Rows<'a>, values: usize) -> Result<Matrix<'a>, Refusal>
     ensures verdict { told_asked result ≡ first_no m n rows.now.offsets.now rows.now.columns.now values }

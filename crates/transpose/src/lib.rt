@@ -120,7 +120,7 @@ fn count_row(offsets: &[u32], columns: &Columns<'_>, i: usize, next: &mut [u32])
     s
 }
 
-// How many entries each column of m rows has, and S. How many columns there are is not asked: some number above all of them.
+// How many entries each column of m rows has, and S. The number of columns is not asked for: that they lie below some number is enough.
 pub fn count_rows(offsets: &[u32], columns: &Columns<'_>, m: usize, next: &mut [u32]) -> usize
     requires { Uncounted offsets.now (cols_of columns.now) m next.old }
     ensures { ((c : ℕ) → get_or next.new c 0 ≡ get_or next.old c 0 + length (seen offsets.now (cols_of columns.now) m c)) × (result ≡ count_s offsets.now (cols_of columns.now) m) × (result ≤ max_rows * max_places) }
