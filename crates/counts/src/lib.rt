@@ -125,7 +125,7 @@ impl<const ROWS: usize, const COLUMNS: usize> Notes<ROWS, COLUMNS> {
 }
 
 // E, S and D of a matrix that is accepted.
-// By its parts: a `Matrix` would go through memory, which a call of a small one would feel (docs/SPEED.md).
+// By its parts: a `Matrix` would go through memory.
 fn count_accepted(m: usize, n: usize, offsets: &[u32], columns: &[u32]) -> Tally
     requires { Accepted offsets.now columns.now m n }
     ensures { Counted offsets.now columns.now m result.stored result.shared result.products }
@@ -140,6 +140,7 @@ fn count_accepted(m: usize, n: usize, offsets: &[u32], columns: &[u32]) -> Tally
 
 // The sizes of the plan of a matrix that is accepted: one look at each entry of the matrix, one turn of a climb for each
 // entry of the factor below its diagonal.
+// Part of each caller, so that the matrix is handed on by its parts: docs/SPEED.md.
 #[inline(always)]
 pub fn plan_sizes(matrix: &Matrix<'_>, s: usize) -> Plan
     ensures { result ≡ plan_of matrix.now.m matrix.now.n s (length matrix.now.rows.columns.now) (count_e matrix.now.rows.offsets.now matrix.now.rows.columns.now matrix.now.m) (count_s matrix.now.rows.offsets.now matrix.now.rows.columns.now matrix.now.m) (count_d matrix.now.rows.offsets.now matrix.now.rows.columns.now matrix.now.m) }
